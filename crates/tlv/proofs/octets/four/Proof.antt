@@ -1,0 +1,45 @@
+use native.Mathlib.Omega.{arith}
+use Rattle.tlv.specs.OctetsLaws.{big-add}
+use borrow.Author.Needs.{needs}
+use Rattle.tlv.proofs.octets.four.Statement.{statement}
+use Rattle.tlv.proofs.octets.four.Tie as tie
+use Rattle.tlv.proofs.octets.four.Reads as reads
+use Rattle.tlv.proofs.octets.four.Lts as lts
+use Rattle.tlv.proofs.octets.two.Reads as two-reads
+
+two-requires : tie.Need-two-requires
+two-requires c κs = search needs
+
+cast-result : tie.Need-cast-result
+cast-result c = search needs
+
+mul-result : tie.Need-mul-result
+mul-result c = search needs
+
+add-two : tie.Need-add-two
+add-two c = search needs
+
+two-requires-2 : tie.Need-two-requires-2
+two-requires-2 c κs = search needs
+
+cast-result-2 : tie.Need-cast-result-2
+cast-result-2 c = search needs
+
+add-result : tie.Need-add-result
+add-result c = search needs
+
+returns : tie.Need-returns
+returns c = omega (arith, big-add 2 2 (c .before .before .before .args .s .now) (c .before .before .before .args .at))
+
+pub four-spec : {M : Type 1} → statement M
+four-spec =
+    tie.close
+    (tie.spec
+    two-requires
+    cast-result
+    mul-result
+    add-two
+    two-requires-2
+    cast-result-2
+    add-result
+    returns)

@@ -1,0 +1,46 @@
+use native.Mathlib.Omega.{arith}
+use Rattle.tlv.specs.OctetsLaws.{big-add}
+use borrow.Author.Needs.{needs}
+use Rattle.tlv.proofs.octets.six.Statement.{statement}
+use Rattle.tlv.proofs.octets.six.Tie as tie
+use Rattle.tlv.proofs.octets.six.Reads as reads
+use Rattle.tlv.proofs.octets.six.Lts as lts
+use Rattle.tlv.proofs.octets.four.Reads as four-reads
+use Rattle.tlv.proofs.octets.two.Reads as two-reads
+
+four-requires : tie.Need-four-requires
+four-requires c κs = search needs
+
+cast-result : tie.Need-cast-result
+cast-result c = search needs
+
+mul-result : tie.Need-mul-result
+mul-result c = search needs
+
+add-two : tie.Need-add-two
+add-two c = search needs
+
+two-requires : tie.Need-two-requires
+two-requires c κs = search needs
+
+cast-result-2 : tie.Need-cast-result-2
+cast-result-2 c = search needs
+
+add-result : tie.Need-add-result
+add-result c = search needs
+
+returns : tie.Need-returns
+returns c = omega (arith, big-add 4 2 (c .before .before .before .args .s .now) (c .before .before .before .args .at))
+
+pub six-spec : {M : Type 1} → statement M
+six-spec =
+    tie.close
+    (tie.spec
+    four-requires
+    cast-result
+    mul-result
+    add-two
+    two-requires
+    cast-result-2
+    add-result
+    returns)

@@ -1,0 +1,51 @@
+use native.Mathlib.Nat.{add-zero, zero-add}
+use native.Mathlib.Omega.{arith}
+use Rattle.tlv.specs.Octets.{big}
+use borrow.Author.Needs.{needs}
+use Rattle.tlv.proofs.octets.two.Statement.{statement}
+use Rattle.tlv.proofs.octets.two.Tie as tie
+use Rattle.tlv.proofs.octets.two.Reads as reads
+use Rattle.tlv.proofs.octets.two.Lts as lts
+use Rattle.tlv.proofs.octets.wide.Reads as wide-reads
+
+shared-slice-read-wide : tie.Need-shared-slice-read-wide
+shared-slice-read-wide c = search needs
+
+wide-requires : tie.Need-wide-requires
+wide-requires c κs = search needs
+
+mul-result : tie.Need-mul-result
+mul-result c = search needs
+
+add-wide : tie.Need-add-wide
+add-wide c = search needs
+
+shared-slice-read-wide-2 : tie.Need-shared-slice-read-wide-2
+shared-slice-read-wide-2 c = search needs
+
+wide-requires-2 : tie.Need-wide-requires-2
+wide-requires-2 c κs = search needs
+
+add-result : tie.Need-add-result
+add-result c = search needs
+
+cast-result : tie.Need-cast-result
+cast-result c = search needs
+
+returns : tie.Need-returns
+unfolding big
+returns c = simp (add-zero, zero-add) (omega arith)
+
+pub two-spec : {M : Type 1} → statement M
+two-spec =
+    tie.close
+    (tie.spec
+    shared-slice-read-wide
+    wide-requires
+    mul-result
+    add-wide
+    shared-slice-read-wide-2
+    wide-requires-2
+    add-result
+    cast-result
+    returns)

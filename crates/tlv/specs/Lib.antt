@@ -1,0 +1,4 @@
+pub mod Octets
+pub mod OctetsLaws
+pub mod Tlv
+pub mod TlvLaws

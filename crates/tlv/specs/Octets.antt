@@ -1,0 +1,19 @@
+-- Octets and the numbers that they make. Positions count from 0 here; octet n of the standards stands at position n - 1.
+use Prim.Native.Nat.{ℕ, zero, suc, _+_, _*_, _<_}
+use mathlib.Core.Path.{_≡_}
+use mathlib.Core.List.{List}
+use lib.ListN.{getD}
+
+-- the octet at a position
+abbrev pub octet : List ℕ → ℕ → ℕ
+octet s at = getD s at 0
+
+-- n octets from a position on as a number. Document 01, "Hello frames": numbers are big-endian.
+unfoldable pub big : ℕ → List ℕ → ℕ → ℕ
+big zero s at = 0
+big (suc n) s at = big n s at * 256 + octet s (at + n)
+
+-- r is the octet x
+pub record Octet (x r : ℕ) : Type 0 where
+  pub is : r ≡ x
+  pub below : r < 256

@@ -1,0 +1,28 @@
+-- Laws of big-endian numbers, over their width. Every proof about a number of octets cites these.
+use Prim.Native.Nat.{ℕ, zero, suc, _+_, _*_, _%_, _/_, _^_, _<_}
+use mathlib.Core.Path.{_≡_, refl, sym, _∙_}
+use mathlib.Core.List.{List}
+use native.Mathlib.Omega.{arith}
+use native.Mathlib.Nat.{add-zero, add-assoc, mul-assoc, mul-one, pow-zero, pow-suc, add-suc}
+use Rattle.tlv.specs.Octets.{octet, big}
+
+-- a number of m + n octets is the first m of them, and then n
+pub big-add : (m n : ℕ) (s : List ℕ) (at : ℕ) → big (m + n) s at ≡ big m s at * 256 ^ n + big n s (at + m)
+unfolding big
+big-add m zero s at = rw (add-zero, pow-zero, mul-one, add-zero)
+big-add m (suc n) s at = rw (add-suc, big-add m n s at, pow-suc, ← mul-assoc, ← add-assoc) (omega arith)
+
+-- the number of one octet
+pub big-one : (s : List ℕ) (at : ℕ) → big 1 s at ≡ octet s at
+unfolding big
+big-one s at = rw add-zero (omega arith)
+
+module _ (s : List ℕ) (at : ℕ) (h : (k : ℕ) → octet s k < 256) where
+  -- the last octet of a number, and the others
+  pub big-mod : (n : ℕ) → big (suc n) s at % 256 ≡ octet s (at + n)
+  unfolding big
+  big-mod n = omega (arith, h (at + n))
+
+  pub big-div : (n : ℕ) → big (suc n) s at / 256 ≡ big n s at
+  unfolding big
+  big-div n = omega (arith, h (at + n))
