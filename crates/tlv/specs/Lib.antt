@@ -1,4 +1,2 @@
 pub mod Octets
-pub mod OctetsLaws
 pub mod Tlv
-pub mod TlvLaws

@@ -1,7 +1,7 @@
 -- Octets and the numbers that they make. Positions count from 0 here; octet n of the standards stands at position n - 1.
-use Prim.Native.Nat.{ℕ, zero, suc, _+_, _*_, _<_}
+use Prim.Native.Nat.{ℕ, zero, suc, _+_, _*_, _/_, _%_, _<_}
 use mathlib.Core.Path.{_≡_}
-use mathlib.Core.List.{List}
+use mathlib.Core.List.{List, [], _∷_, _++_}
 use lib.ListN.{getD}
 
 -- the octet at a position
@@ -12,6 +12,11 @@ octet s at = getD s at 0
 unfoldable pub big : ℕ → List ℕ → ℕ → ℕ
 big zero s at = 0
 big (suc n) s at = big n s at * 256 + octet s (at + n)
+
+-- a number as n octets, the other way round: what does not fit is lost
+unfoldable pub octetsOf : ℕ → ℕ → List ℕ
+octetsOf zero x = []
+octetsOf (suc n) x = octetsOf n (x / 256) ++ x % 256 ∷ []
 
 -- r is the octet x
 pub record Octet (x r : ℕ) : Type 0 where

@@ -71,6 +71,20 @@ occursOf [] = Never
 occursOf (t ∷ []) = Once (t .at)
 occursOf (t ∷ u ∷ ts) = Again (t .at) (u .at)
 
+-- Of a type that may come at most once: the first TLV that breaks its rule, or else the second one. Rules are tests of a value.
+unfoldable pub loneFault : (List ℕ → Bool) → List Tlv → Found
+loneFault bad [] = Nothing
+loneFault bad (t ∷ ts) = cond (bad (t .value)) (At (t .at)) (firstAt ts)
+
+abbrev pub isFound : Found → Bool
+isFound Nothing = false
+isFound (At p) = true
+
+-- what is read where no rule is broken, or what is answered where one is
+abbrev pub unless : {A : Type 0} → Found → A → A → A
+unless Nothing x y = x
+unless (At p) x y = y
+
 -- What a search for type k from a position on finds. At p: none before p, one at p that ends by the end of the PDU, and
 -- then those after it.
 pub record FoundAt (s : List ℕ) (from k p : ℕ) : Type 0 where

@@ -1,5 +1,5 @@
 use native.Mathlib.Omega.{arith}
-use Rattle.tlv.specs.OctetsLaws.{big-add}
+use Rattle.tlv.proofs.OctetsLaws.{big-add}
 use borrow.Author.Needs.{needs}
 use Rattle.tlv.proofs.octets.four.Statement.{statement}
 use Rattle.tlv.proofs.octets.four.Tie as tie

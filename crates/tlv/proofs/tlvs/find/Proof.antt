@@ -1,4 +1,4 @@
-use Rattle.tlv.specs.TlvLaws.{none, none-cut, here, passed}
+use Rattle.tlv.proofs.TlvLaws.{none, none-cut, here, passed}
 use Rattle.tlv.specs.Tlv.{tlvs, ofType, nextAt}
 use lib.ListN.{length}
 use borrow.Author.Needs.{needs}

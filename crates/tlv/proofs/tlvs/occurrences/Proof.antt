@@ -1,4 +1,4 @@
-use Rattle.tlv.specs.TlvLaws.{found-never, found-once, found-again}
+use Rattle.tlv.proofs.TlvLaws.{found-never, found-once, found-again}
 use Rattle.tlv.specs.Tlv.{Finds, FoundAt}
 use native.Mathlib.Omega.{arith}
 use mathlib.Core.Path.{_≡_, ap, subst, sym, _∙_}

@@ -1,4 +1,4 @@
-use Rattle.tlv.specs.TlvLaws.{ended-end, ended-cut, ended-one}
+use Rattle.tlv.proofs.TlvLaws.{ended-end, ended-cut, ended-one}
 use Rattle.tlv.specs.Tlv.{tlvs, ended}
 use lib.ListN.{length}
 use borrow.Author.Needs.{needs}

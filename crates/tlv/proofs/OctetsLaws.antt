@@ -26,3 +26,9 @@ module _ (s : List ℕ) (at : ℕ) (h : (k : ℕ) → octet s k < 256) where
   pub big-div : (n : ℕ) → big (suc n) s at / 256 ≡ big n s at
   unfolding big
   big-div n = omega (arith, h (at + n))
+
+  -- a number of n octets is below 256 ^ n
+  pub big-lt : (n : ℕ) → big n s at < 256 ^ n
+  unfolding big
+  big-lt zero = rw pow-zero (omega arith)
+  big-lt (suc n) = rw pow-suc (omega (arith, h (at + n), big-lt n))

@@ -9,7 +9,9 @@ use lib.Seq.{length-take-le}
 use lib.Dec.{leb, ltb}
 use borrow.Author.Tests.{le-leb, lt-leb, lt-ltb, le-ltb, eq-eqb, ne-eqb}
 use Rattle.tlv.specs.Octets.{octet}
-use Rattle.tlv.specs.Tlv.{Tlvs, done, cut, one, tlvsUp, tlvs, nextAt, valueAt, ended, ofType, Tlv, firstValue, occursOf, FoundAt, Occurring}
+use Rattle.tlv.specs.Tlv.{Tlvs, done, cut, one, tlvsUp, tlvs, nextAt, valueAt, ended, ofType, Tlv, firstValue, occursOf, FoundAt, Occurring, loneFault, isFound}
+use Rattle.tlv.specs.declared.tlvs.Found.{Found}
+use Rattle.tlv.specs.declared.tlvs.Found.the-variants.{At, Nothing}
 use Rattle.tlv.specs.declared.tlvs.Walk.the-variants.{Whole, Cut}
 use Rattle.tlv.specs.declared.tlvs.Occurs.{Occurs}
 use Rattle.tlv.specs.declared.tlvs.Occurs.the-variants.{Never, Once, Again}
@@ -111,6 +113,26 @@ occurs-again (t ∷ []) p q e = let z : _≡_ {A = ℕ} 0 1 = cc in absurd (omeg
 occurs-again (t ∷ u ∷ ts) p q e =
     let i : t .at ≡ p = cc in
     record { second = u; others = ts; list = ap (λ (n : ℕ). record { at = n; value = t .value } ∷ u ∷ ts) i; place = cc }
+
+-- the rule of a type that may come at most once
+found-cond : (b : Bool) (p q : ℕ) → isFound (cond b (At p) (At q)) ≡ true
+found-cond true p q = refl
+found-cond false p q = refl
+
+module _ (bad : List ℕ → Bool) (ts : List Tlv) where
+  pub lone-never : occursOf ts ≡ Never → loneFault bad ts ≡ Nothing
+  unfolding loneFault
+  lone-never e = rw (occurs-never ts e)
+
+  pub lone-once : (p : ℕ) → occursOf ts ≡ Once p → loneFault bad ts ≡ cond (bad (firstValue ts)) (At p) Nothing
+  unfolding loneFault
+  lone-once p e = ap (loneFault bad) (occurs-once ts p e)
+
+  pub lone-again : (p q : ℕ) → occursOf ts ≡ Again p q → isFound (loneFault bad ts) ≡ true
+  unfolding loneFault
+  lone-again p q e =
+      let t = occurs-again ts p q e in
+      ap (λ (l : List Tlv). isFound (loneFault bad l)) (t .list) ∙ found-cond (bad (firstValue ts)) p (t .second .at)
 
 -- what two searches in a row tell: none, one or more
 module _ (s : List ℕ) (from k : ℕ) where

@@ -1,0 +1,56 @@
+-- The fixed header of a hello (ISO/IEC 10589, 9.5 to 9.7; document 01, "Hello frames"), and refusals 3 and 4. Octet n of the
+-- documents stands at position n - 1.
+use Prim.Native.Nat.{ℕ, _%_}
+use mathlib.Core.List.{List}
+use mathlib.Core.Bool.{Bool, true, false, not, cond, _||_}
+use lib.ListN.{length}
+use lib.Dec.{ltb, eqb}
+use Rattle.tlv.specs.Octets.{octet, big}
+use Rattle.hello.specs.declared.header.CircuitKind.{CircuitKind}
+use Rattle.hello.specs.declared.header.CircuitKind.the-variants.{Lan as LanCircuit, P2p as P2pCircuit}
+use Rattle.hello.specs.declared.header.Layout.{Layout}
+use Rattle.hello.specs.declared.header.Layout.the-variants.{Lan, P2p}
+use Rattle.hello.specs.declared.header.Selected.{Selected}
+use Rattle.hello.specs.declared.header.Selected.the-variants.{Fit, Unfit}
+
+-- a layout, where it fits the circuit's kind
+abbrev pub lanOn : CircuitKind → ℕ → Selected
+lanOn LanCircuit level = Fit (Lan level)
+lanOn P2pCircuit level = Unfit
+
+abbrev pub p2pOn : CircuitKind → Selected
+p2pOn LanCircuit = Unfit
+p2pOn P2pCircuit = Fit P2p
+
+-- Document 01, "Hello frames": the layout is chosen by PDU type (low five bits): 15 and 16 are LAN level 1 and 2, 17 is P2P
+unfoldable pub layoutOf : ℕ → CircuitKind → Selected
+layoutOf t kind = cond (eqb (t % 32) 15) (lanOn kind 1) (cond (eqb (t % 32) 16) (lanOn kind 2) (cond (eqb (t % 32) 17) (p2pOn kind) Unfit))
+
+-- octets in the fixed header
+abbrev pub headerOf : Layout → ℕ
+headerOf (Lan level) = 27
+headerOf P2p = 20
+
+abbrev pub idLengthOk : ℕ → Bool
+idLengthOk n = eqb n 0 || eqb n 6
+
+-- refusal 3, but for the PDU type: under 8 octets; octet 1 not 0x83; octet 3 or 6 not 1; ID length (octet 4) not 0 or 6
+unfoldable pub notHello : List ℕ → Bool
+notHello s =
+    ltb (length s) 8
+    || (not (eqb (octet s 0) 0x83)
+    || (not (eqb (octet s 2) 1)
+    || (not (eqb (octet s 5) 1)
+    || not (idLengthOk (octet s 3)))))
+
+-- octets 18 and 19
+abbrev pub pduLength : List ℕ → ℕ
+pduLength s = big 2 s 17
+
+-- refusal 4: under the fixed header; octet 2 not the header length; PDU Length below the header, above the lent octets or
+-- above 1,492
+unfoldable pub badLength : List ℕ → ℕ → Bool
+badLength s header =
+    ltb (length s) header
+    || (not (eqb (octet s 1) header)
+    || (ltb (pduLength s) header || (ltb (length s) (pduLength s) || ltb 1492 (pduLength s))))

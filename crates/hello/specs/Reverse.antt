@@ -1,0 +1,52 @@
+-- The Reverse Metric TLV, type 16 (RFC 8500, 2; document 01, "TLVs read").
+use Prim.Native.Nat.{ℕ, _-_}
+use mathlib.Core.List.{List, [], _∷_}
+use mathlib.Core.Bool.{Bool, true, false, not, cond, _||_}
+use lib.ListN.{length}
+use lib.Dec.{ltb, eqb}
+use Rattle.tlv.specs.Octets.{octet, big}
+use Rattle.tlv.specs.Tlv.{Tlv, tlvs, ofType, unless}
+use Rattle.tlv.specs.declared.tlvs.Found.{Found}
+use Rattle.tlv.specs.declared.tlvs.Found.the-variants.{At, Nothing}
+use Rattle.hello.specs.Flags.{hasFlag}
+use Rattle.hello.specs.declared.reverse.ReverseRead.{ReverseRead}
+use Rattle.hello.specs.declared.reverse.ReverseRead.the-variants.{Bad, Good}
+use Rattle.hello.specs.declared.reverse.ReverseMetric.{ReverseMetric}
+use Rattle.hello.specs.declared.reverse.ReverseMetric.the-variants.{Absent, Present}
+
+-- its flags: Whole LAN and Unreachable
+abbrev pub W : ℕ
+W = 1
+
+abbrev pub U : ℕ
+U = 2
+
+-- length at least 5, and the sub-TLV length is the length less 5
+unfoldable pub reverseBad : List ℕ → Bool
+reverseBad v = ltb (length v) 5 || not (eqb (octet v 4) (length v - 5))
+
+-- Two or more: all ignored, unchecked. One: the rule.
+abbrev pub reverseFault : List Tlv → Found
+reverseFault [] = Nothing
+reverseFault (t ∷ []) = cond (reverseBad (t .value)) (At (t .at)) Nothing
+reverseFault (t ∷ u ∷ ts) = Nothing
+
+-- there are two at least
+abbrev pub several : List Tlv → Bool
+several [] = false
+several (t ∷ []) = false
+several (t ∷ u ∷ ts) = true
+
+-- flags, metric (3), sub-TLV length, sub-TLVs. RFC 8500, 2: where sub-TLV 18 appears more than once, the entire TLV is ignored.
+unfoldable pub reverseOf : List ℕ → ReverseMetric
+reverseOf v =
+    cond (several (ofType 18 (tlvs v 5))) Absent (Present (big 3 v 1) (hasFlag (octet v 0) W) (hasFlag (octet v 0) U))
+
+-- the reverse metric if exactly one came
+abbrev pub reverseIn : List Tlv → ReverseMetric
+reverseIn [] = Absent
+reverseIn (t ∷ []) = reverseOf (t .value)
+reverseIn (t ∷ u ∷ ts) = Absent
+
+abbrev pub reverseRead : List Tlv → ReverseRead
+reverseRead ts = unless (reverseFault ts) (Good (reverseIn ts)) Bad

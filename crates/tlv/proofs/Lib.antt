@@ -1,0 +1,4 @@
+pub mod BoolLaws
+pub mod Chain
+pub mod OctetsLaws
+pub mod TlvLaws
