@@ -12,7 +12,7 @@ use Rattle.tlv.specs.declared.tlvs.Found.the-variants.{At, Nothing}
 use Rattle.tlv.specs.declared.tlvs.Walk.{Walk}
 use Rattle.tlv.specs.declared.tlvs.Walk.the-variants.{Whole, Cut}
 use Rattle.hello.specs.Header.{layoutOf, headerOf, notHello, badLength, pduLength}
-use Rattle.hello.specs.Restart.{restartFault, restartIn}
+use Rattle.restart_tlv.specs.Restart.{restartFault, restartIn}
 use Rattle.hello.specs.ThreeWay.{threeWayFault, threeWayIn}
 use Rattle.hello.specs.Reverse.{reverseFault, reverseIn}
 use Rattle.hello.specs.Listed.{neighboursFault, listed}
@@ -75,9 +75,11 @@ abbrev pub afterWalk : Walk → Read → Read
 afterWalk Whole r = r
 afterWalk (Cut p) r = Refused TlvPastEnd
 
+unfoldable pub tlvsRead : Layout → ℕ → List ℕ → Read
+tlvsRead l mac p = unless (ruleFault l p) (Accepted (helloOf l mac p)) (Refused BadTlv)
+
 unfoldable pub pduRead : Layout → ℕ → List ℕ → Read
-pduRead l mac p =
-    afterWalk (ended (tlvs p (headerOf l))) (unless (ruleFault l p) (Accepted (helloOf l mac p)) (Refused BadTlv))
+pduRead l mac p = afterWalk (ended (tlvs p (headerOf l))) (tlvsRead l mac p)
 
 -- refusal 3's last test, then refusal 4. Lent octets past the PDU Length are never read.
 unfoldable pub layoutRead : Selected → ℕ → List ℕ → Read

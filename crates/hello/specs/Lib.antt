@@ -1,7 +1,5 @@
 pub mod Refusal
 pub mod Header
-pub mod Flags
-pub mod Restart
 pub mod ThreeWay
 pub mod Reverse
 pub mod Listed

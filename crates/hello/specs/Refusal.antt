@@ -3,7 +3,18 @@
 use Prim.Native.Nat.{ℕ}
 use Rattle.hello.specs.declared.refusal.Refusal.{Refusal}
 use Rattle.hello.specs.declared.refusal.Refusal.the-variants.{
-  NoCircuit, ReplyRoom, NotHello, BadLength, TlvPastEnd, BadTlv, WrongSource, WrongNeighbor, NoRoom, ClockBack, NotRestarting, BadSetting,
+  NoCircuit,
+  ReplyRoom,
+  NotHello,
+  BadLength,
+  TlvPastEnd,
+  BadTlv,
+  WrongSource,
+  WrongNeighbor,
+  NoRoom,
+  ClockBack,
+  NotRestarting,
+  BadSetting,
 }
 
 abbrev pub refusalNo : Refusal → ℕ

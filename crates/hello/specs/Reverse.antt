@@ -4,11 +4,10 @@ use mathlib.Core.List.{List, [], _∷_}
 use mathlib.Core.Bool.{Bool, true, false, not, cond, _||_}
 use lib.ListN.{length}
 use lib.Dec.{ltb, eqb}
-use Rattle.tlv.specs.Octets.{octet, big}
+use Rattle.tlv.specs.Octets.{octet, big, hasBits}
 use Rattle.tlv.specs.Tlv.{Tlv, tlvs, ofType, unless}
 use Rattle.tlv.specs.declared.tlvs.Found.{Found}
 use Rattle.tlv.specs.declared.tlvs.Found.the-variants.{At, Nothing}
-use Rattle.hello.specs.Flags.{hasFlag}
 use Rattle.hello.specs.declared.reverse.ReverseRead.{ReverseRead}
 use Rattle.hello.specs.declared.reverse.ReverseRead.the-variants.{Bad, Good}
 use Rattle.hello.specs.declared.reverse.ReverseMetric.{ReverseMetric}
@@ -40,7 +39,7 @@ several (t ∷ u ∷ ts) = true
 -- flags, metric (3), sub-TLV length, sub-TLVs. RFC 8500, 2: where sub-TLV 18 appears more than once, the entire TLV is ignored.
 unfoldable pub reverseOf : List ℕ → ReverseMetric
 reverseOf v =
-    cond (several (ofType 18 (tlvs v 5))) Absent (Present (big 3 v 1) (hasFlag (octet v 0) W) (hasFlag (octet v 0) U))
+    cond (several (ofType 18 (tlvs v 5))) Absent (Present (big 3 v 1) (hasBits (octet v 0) W) (hasBits (octet v 0) U))
 
 -- the reverse metric if exactly one came
 abbrev pub reverseIn : List Tlv → ReverseMetric

@@ -5,16 +5,20 @@
 //   then, on a LAN, 20 priority and 21-27 LAN ID; on P2P, 20 local circuit ID. Octet n stands at position n - 1.
 use tlv::octets::two;
 use tlv::octets::wide;
-
 ghost use mathlib.Core.Path.{_≡_};
 ghost use Prim.Native.Nat.{_≤_};
 ghost use Rattle.hello.specs.Header.{layoutOf, lanOn, p2pOn, headerOf, idLengthOk, notHello, badLength};
 
 pub const PDU_TYPE: usize = 4;
+
 pub const CIRCUIT_TYPE: usize = 8;
+
 pub const SOURCE_ID: usize = 9;
+
 pub const HOLDING_TIME: usize = 15;
+
 pub const PDU_LENGTH: usize = 17;
+
 pub const PRIORITY: usize = 19;
 
 // The longest PDU that is taken (document 01, refusal 4).

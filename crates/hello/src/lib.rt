@@ -1,10 +1,7 @@
-// Hello frames of IS-IS: the frame reader (refusals 3 to 6, or the decoded hello), and the Restart TLV that answers one.
-// Documents: document 01, "Hello frames" and "TLVs read"; RFC 8706, 3.2; RFC 8500, 2; RFC 5303, 3.1. No state; callers:
-// adjacency, gateway.
+// The reader of hello frames: a refusal of 3 to 6, or the decoded hello (document 01, "Hello frames" and "TLVs read"; RFC 8500,
+// 2; RFC 5303, 3.1). No state; callers: adjacency, gateway.
 pub mod refusal; // refusal.rt: every refusal, and its number
 pub mod header; // header.rt: the fixed header; refusals 3 and 4
-pub mod flags; // flags.rt: the flags of the Restart TLV
-pub mod restart; // restart.rt: the Restart TLV, read and written
 pub mod three_way; // three_way.rt: the three-way adjacency TLV
 pub mod reverse; // reverse.rt: the Reverse Metric TLV
 pub mod listed; // listed.rt: the IS Neighbours TLVs

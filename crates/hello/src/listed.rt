@@ -2,7 +2,6 @@
 use tlv::tlvs::Found;
 use tlv::tlvs::find;
 use tlv::tlvs::value_at;
-
 ghost use mathlib.Core.Path.{_≡_};
 ghost use Rattle.tlv.specs.Tlv.{tlvs, ofType, isFound};
 ghost use Rattle.hello.specs.Listed.{neighboursFault, listed};

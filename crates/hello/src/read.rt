@@ -15,25 +15,24 @@ use crate::header::select_layout;
 use crate::listed::is_bad_list;
 use crate::listed::is_listed;
 use crate::refusal::Refusal;
-use crate::restart::RestartRead;
-use crate::restart::RestartTlv;
-use crate::restart::read_restart;
 use crate::reverse::ReverseMetric;
 use crate::reverse::ReverseRead;
 use crate::reverse::read_reverse;
 use crate::three_way::ThreeWay;
 use crate::three_way::ThreeWayRead;
 use crate::three_way::read_three_way;
+use restart_tlv::reader::RestartRead;
+use restart_tlv::reader::RestartTlv;
+use restart_tlv::reader::read_restart;
 use tlv::octets::six;
 use tlv::octets::two;
 use tlv::tlvs::Walk;
 use tlv::tlvs::walked;
-
 ghost use mathlib.Core.Path.{_≡_};
 ghost use Prim.Native.Nat.{_≤_};
 ghost use lib.ListN.{length};
 ghost use Rattle.hello.specs.Header.{headerOf};
-ghost use Rattle.hello.specs.Hello.{linkRead, pduRead, layoutRead, helloRead};
+ghost use Rattle.hello.specs.Hello.{linkRead, tlvsRead, pduRead, layoutRead, helloRead};
 ghost use Rattle.hello.specs.declared.header.Selected.the-variants.{Fit};
 
 // What depends on the circuit's kind. Of a LAN: the level, the sender's priority, and whether our MAC is listed.
@@ -87,4 +86,76 @@ fn read_p2p(pdu: &[u8], mac: u64) -> LinkRead
         return LinkRead::Bad;
     };
     LinkRead::Good(Link::P2p(three_way))
+}
+
+fn read_link(pdu: &[u8], layout: Layout, mac: u64) -> LinkRead
+    requires { ⌜ headerOf layout ≤ length (now pdu) ⌝ }
+    ensures { λ r. ⌜ r ≡ linkRead layout mac (now (pdu .entry)) ⌝ }
+{
+    match layout {
+        Layout::Lan(level) => read_lan(pdu, level, mac),
+        Layout::P2p => read_p2p(pdu, mac),
+    }
+}
+
+// The TLVs, once they are known to end by the end of the PDU: refusal 6, or the hello.
+fn read_tlvs(pdu: &[u8], layout: Layout, from: usize, mac: u64) -> Read
+    requires { ⌜ (from ≡ headerOf layout) × (20 ≤ from) × (from ≤ length (now pdu)) ⌝ }
+    ensures { λ r. ⌜ r ≡ tlvsRead layout mac (now (pdu .entry)) ⌝ }
+{
+    if pdu[CIRCUIT_TYPE] % 4 == 0 {
+        return Read::Refused(Refusal::BadTlv);
+    }
+    let RestartRead::Good(restart) = read_restart(pdu, from) else {
+        return Read::Refused(Refusal::BadTlv);
+    };
+    let ReverseRead::Good(reverse) = read_reverse(pdu, from) else {
+        return Read::Refused(Refusal::BadTlv);
+    };
+    let LinkRead::Good(link) = read_link(pdu, layout, mac) else {
+        return Read::Refused(Refusal::BadTlv);
+    };
+    Read::Accepted(Hello {
+        system: six(pdu, SOURCE_ID),
+        hold: two(pdu, HOLDING_TIME),
+        restart,
+        reverse,
+        link,
+    })
+}
+
+// Refusal 5, and what follows it.
+fn read_pdu(pdu: &[u8], layout: Layout, from: usize, mac: u64) -> Read
+    requires { ⌜ (from ≡ headerOf layout) × (20 ≤ from) × (from ≤ length (now pdu)) ⌝ }
+    ensures { λ r. ⌜ r ≡ pduRead layout mac (now (pdu .entry)) ⌝ }
+{
+    let Walk::Whole = walked(pdu, from) else {
+        return Read::Refused(Refusal::TlvPastEnd);
+    };
+    read_tlvs(pdu, layout, from, mac)
+}
+
+// Refusal 4, and what follows it.
+fn read_as(frame: &[u8], layout: Layout, mac: u64) -> Read
+    ensures { λ r. ⌜ r ≡ layoutRead (Fit layout) mac (now (frame .entry)) ⌝ }
+{
+    let from = header_len(layout);
+    if is_bad_length(frame, from) {
+        return Read::Refused(Refusal::BadLength);
+    }
+    let end = two(frame, PDU_LENGTH) as usize;
+    read_pdu(&frame[..end], layout, from, mac)
+}
+
+// A frame on a circuit of a kind, with our own MAC there.
+pub fn read_hello(frame: &[u8], kind: CircuitKind, mac: u64) -> Read
+    ensures { λ r. ⌜ r ≡ helloRead kind mac (now (frame .entry)) ⌝ }
+{
+    if is_not_hello(frame) {
+        return Read::Refused(Refusal::NotHello);
+    }
+    let Selected::Fit(layout) = select_layout(frame[PDU_TYPE], kind) else {
+        return Read::Refused(Refusal::NotHello);
+    };
+    read_as(frame, layout, mac)
 }

@@ -2,13 +2,12 @@
 //
 //   octet  1      2-4     5               6-
 //          flags  metric  sub-TLV length  sub-TLVs
-use crate::flags::has_bits;
+use tlv::octets::has_bits;
 use tlv::octets::three;
 use tlv::octets::wide;
 use tlv::tlvs::Occurs;
 use tlv::tlvs::occurrences;
 use tlv::tlvs::value_of;
-
 ghost use mathlib.Core.Path.{_≡_};
 ghost use mathlib.Core.Bool.{false, cond};
 ghost use Prim.Native.Nat.{_≤_};
@@ -18,10 +17,12 @@ ghost use Rattle.hello.specs.Reverse.{reverseBad, several, reverseOf, re
 ghost use Rattle.hello.specs.declared.reverse.ReverseRead.the-variants.{Good, Bad};
 
 const REVERSE_METRIC: u8 = 16;
+
 const TE_METRIC: u8 = 18;
 
 // Its flags: Whole LAN and Unreachable.
 const W: u8 = 1;
+
 const U: u8 = 2;
 
 // The reverse metric of a frame: the offset, and its flags.

@@ -8,7 +8,6 @@ use tlv::octets::wide;
 use tlv::tlvs::Occurs;
 use tlv::tlvs::occurrences;
 use tlv::tlvs::value_of;
-
 ghost use mathlib.Core.Path.{_≡_};
 ghost use mathlib.Core.Bool.{false, cond};
 ghost use Prim.Native.Nat.{_≤_};

@@ -2,14 +2,14 @@
 use Prim.Native.Nat.{ℕ, zero, suc, _+_, _-_, _≤_, _<_}
 use mathlib.Core.Path.{_≡_, refl, ap, sym, _∙_}
 use mathlib.Core.List.{List, [], _∷_}
-use mathlib.Core.Bool.{Bool, true, false, cond}
+use mathlib.Core.Bool.{Bool, true, false, cond, true≢false}
 use native.Mathlib.Omega.{arith}
 use lib.ListN.{length, drop, length-drop}
 use lib.Seq.{length-take-le}
 use lib.Dec.{leb, ltb}
 use borrow.Author.Tests.{le-leb, lt-leb, lt-ltb, le-ltb, eq-eqb, ne-eqb}
 use Rattle.tlv.specs.Octets.{octet}
-use Rattle.tlv.specs.Tlv.{Tlvs, done, cut, one, tlvsUp, tlvs, nextAt, valueAt, ended, ofType, Tlv, firstValue, occursOf, FoundAt, Occurring, loneFault, isFound}
+use Rattle.tlv.specs.Tlv.{Tlvs, done, cut, one, tlvsUp, tlvs, nextAt, valueAt, ended, ofType, Tlv, firstValue, occursOf, FoundAt, Occurring, loneFault, isFound, unless}
 use Rattle.tlv.specs.declared.tlvs.Found.{Found}
 use Rattle.tlv.specs.declared.tlvs.Found.the-variants.{At, Nothing}
 use Rattle.tlv.specs.declared.tlvs.Walk.the-variants.{Whole, Cut}
@@ -114,25 +114,35 @@ occurs-again (t ∷ u ∷ ts) p q e =
     let i : t .at ≡ p = cc in
     record { second = u; others = ts; list = ap (λ (n : ℕ). record { at = n; value = t .value } ∷ u ∷ ts) i; place = cc }
 
--- the rule of a type that may come at most once
+-- what is answered where a rule is broken
+pub unless-found : {A : Type 0} (f : Found) (x y : A) → isFound f ≡ true → unless f x y ≡ y
+unless-found Nothing x y e = absurd (true≢false (sym e))
+unless-found (At p) x y e = refl
+
+unless-cond : {A : Type 0} (b : Bool) (p : ℕ) (x y : A) → unless (cond b (At p) Nothing) x y ≡ cond b y x
+unless-cond true p x y = refl
+unless-cond false p x y = refl
+
 found-cond : (b : Bool) (p q : ℕ) → isFound (cond b (At p) (At q)) ≡ true
 found-cond true p q = refl
 found-cond false p q = refl
 
-module _ (bad : List ℕ → Bool) (ts : List Tlv) where
-  pub lone-never : occursOf ts ≡ Never → loneFault bad ts ≡ Nothing
+-- the rule of a type that may come at most once, by how often it occurs
+module _ {A : Type 0} (bad : List ℕ → Bool) (ts : List Tlv) (x y : A) where
+  pub lone-never : occursOf ts ≡ Never → unless (loneFault bad ts) x y ≡ x
   unfolding loneFault
   lone-never e = rw (occurs-never ts e)
 
-  pub lone-once : (p : ℕ) → occursOf ts ≡ Once p → loneFault bad ts ≡ cond (bad (firstValue ts)) (At p) Nothing
+  pub lone-once : (p : ℕ) → occursOf ts ≡ Once p → unless (loneFault bad ts) x y ≡ cond (bad (firstValue ts)) y x
   unfolding loneFault
-  lone-once p e = ap (loneFault bad) (occurs-once ts p e)
+  lone-once p e = ap (λ (l : List Tlv). unless (loneFault bad l) x y) (occurs-once ts p e) ∙ unless-cond (bad (firstValue ts)) p x y
 
-  pub lone-again : (p q : ℕ) → occursOf ts ≡ Again p q → isFound (loneFault bad ts) ≡ true
+  pub lone-again : (p q : ℕ) → occursOf ts ≡ Again p q → unless (loneFault bad ts) x y ≡ y
   unfolding loneFault
   lone-again p q e =
       let t = occurs-again ts p q e in
-      ap (λ (l : List Tlv). isFound (loneFault bad l)) (t .list) ∙ found-cond (bad (firstValue ts)) p (t .second .at)
+      unless-found (loneFault bad ts) x y
+      (ap (λ (l : List Tlv). isFound (loneFault bad l)) (t .list) ∙ found-cond (bad (firstValue ts)) p (t .second .at))
 
 -- what two searches in a row tell: none, one or more
 module _ (s : List ℕ) (from k : ℕ) where

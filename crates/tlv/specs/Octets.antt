@@ -2,7 +2,10 @@
 use Prim.Native.Nat.{ℕ, zero, suc, _+_, _*_, _/_, _%_, _<_}
 use mathlib.Core.Path.{_≡_}
 use mathlib.Core.List.{List, [], _∷_, _++_}
+use mathlib.Core.Bool.{Bool}
 use lib.ListN.{getD}
+use lib.Dec.{eqb}
+use lib.Bits.{bitAnd}
 
 -- the octet at a position
 abbrev pub octet : List ℕ → ℕ → ℕ
@@ -17,6 +20,10 @@ big (suc n) s at = big n s at * 256 + octet s (at + n)
 unfoldable pub octetsOf : ℕ → ℕ → List ℕ
 octetsOf zero x = []
 octetsOf (suc n) x = octetsOf n (x / 256) ++ x % 256 ∷ []
+
+-- each bit of the mask m is set in the octet x
+unfoldable pub hasBits : ℕ → ℕ → Bool
+hasBits x m = eqb (bitAnd x m) m
 
 -- r is the octet x
 pub record Octet (x r : ℕ) : Type 0 where

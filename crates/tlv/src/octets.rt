@@ -2,13 +2,20 @@
 ghost use mathlib.Core.Path.{_≡_};
 ghost use Prim.Native.Nat.{_+_, _<_};
 ghost use lib.ListN.{length};
-ghost use Rattle.tlv.specs.Octets.{big, Octet};
+ghost use Rattle.tlv.specs.Octets.{big, hasBits, Octet};
 
 // An octet as a length or an index.
 pub fn wide(x: u8) -> usize
     ensures { λ r. ⌜ Octet x r ⌝ }
 {
     x as usize
+}
+
+// Whether each bit of a mask is set.
+pub fn has_bits(x: u8, mask: u8) -> bool
+    ensures { λ r. ⌜ r ≡ hasBits x mask ⌝ }
+{
+    x & mask == mask
 }
 
 pub fn two(s: &[u8], at: usize) -> u16

@@ -42,7 +42,7 @@ shared-slice-read-if3 : tie.Need-shared-slice-read-if3 Inv-loop μ-loop
 shared-slice-read-if3 c = omega arith
 
 returns-3 : tie.Need-returns-3 Inv-loop μ-loop
-returns-3 c = 
+returns-3 c =
     record {
       same = c .before .before .before .before .before .before .before .loop .inv;
       here = here _ _ (c .before .before .before .before .before .before .loop-test .taken) (omega arith) _ (c .if3 .taken);

@@ -35,7 +35,7 @@ part-result-end : tie.Need-part-result-end
 part-result-end c = search needs
 
 returns : tie.Need-returns
-returns c = 
+returns c =
     let a = c .before .before .before .before .args in
     let e : (a .at + 2 + c .before .wide .result) - (a .at + 2) ≡ octet (a .pdu .now) (a .at + 1) = omega arith in
     ap (λ (n : ℕ). take n (drop (a .at + 2) (a .pdu .now))) e

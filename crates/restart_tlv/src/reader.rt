@@ -1,4 +1,4 @@
-// The Restart TLV, type 211 (RFC 8706, 3.2): read from a PDU, and written as an answer.
+// The Restart TLV, type 211 (RFC 8706, 3.2; document 01, "TLVs read"), read from a PDU.
 //
 //   octet  1      2-3             4-9
 //          flags  Remaining Time  Restarting Neighbor System ID
@@ -8,17 +8,15 @@ use tlv::octets::two;
 use tlv::tlvs::Occurs;
 use tlv::tlvs::occurrences;
 use tlv::tlvs::value_of;
-
 ghost use mathlib.Core.Path.{_≡_};
-ghost use mathlib.Core.List.{_++_};
 ghost use Prim.Native.Nat.{_≤_};
-ghost use lib.ListN.{length, drop};
+ghost use lib.ListN.{length};
 ghost use mathlib.Core.Bool.{false, cond};
 ghost use Rattle.tlv.specs.Tlv.{tlvs, ofType};
-ghost use Rattle.hello.specs.Restart.{leastLength, restartBad, restartOf, timeOf, neighborOf, restartRead, ackFlag, restartOctets};
-ghost use Rattle.hello.specs.declared.restart.RestartRead.the-variants.{Good, Bad};
+ghost use Rattle.restart_tlv.specs.Restart.{leastLength, restartBad, restartOf, timeOf, neighborOf, restartRead};
+ghost use Rattle.restart_tlv.specs.declared.reader.RestartRead.the-variants.{Good, Bad};
 
-const RESTART: u8 = 211;
+pub const RESTART: u8 = 211;
 
 // Whom the TLV names.
 pub enum Neighbor {
@@ -41,12 +39,6 @@ pub enum RestartTlv {
 pub enum RestartRead {
     Bad,
     Good(RestartTlv),
-}
-
-// What a reply acknowledges: a restart (RA) or a planned restart (PA).
-pub enum Ack {
-    Restart,
-    Planned,
 }
 
 fn least_length(flags: Flags) -> usize
@@ -130,37 +122,4 @@ pub fn read_restart(pdu: &[u8], from: usize) -> RestartRead
         Occurs::Once(at) => check_restart(value_of(pdu, at, RESTART)),
         Occurs::Again(_, _) => RestartRead::Bad,
     }
-}
-
-fn flags_of(ack: Ack) -> Flags
-    ensures { λ r. ⌜ r .bits ≡ ackFlag ack ⌝ }
-{
-    match ack {
-        Ack::Restart => Flags::RA,
-        Ack::Planned => Flags::PA,
-    }
-}
-
-// Writes the answer to `system` into the first 11 octets of a buffer.
-pub fn write_restart(out: &mut [u8], ack: Ack, time: u16, system: u64)
-    requires { ⌜ 11 ≤ length (now out) ⌝ }
-    ensures { λ r. ⌜ now (out .exit) ≡ restartOctets (ackFlag ack) time system ++ drop 11 (now (out .entry)) ⌝ }
-{
-    let flags = flags_of(ack);
-    let b = system / 256;
-    let c = b / 256;
-    let d = c / 256;
-    let e = d / 256;
-    let f = e / 256;
-    out[0] = RESTART;
-    out[1] = 9;
-    out[2] = flags.bits;
-    out[3] = (time / 256 % 256) as u8;
-    out[4] = (time % 256) as u8;
-    out[5] = (f % 256) as u8;
-    out[6] = (e % 256) as u8;
-    out[7] = (d % 256) as u8;
-    out[8] = (c % 256) as u8;
-    out[9] = (b % 256) as u8;
-    out[10] = (system % 256) as u8;
 }

@@ -4,23 +4,23 @@ use mathlib.Core.List.{List, [], _∷_, _++_}
 use mathlib.Core.Bool.{Bool, cond, _||_}
 use lib.ListN.{length}
 use lib.Dec.{ltb}
-use Rattle.tlv.specs.Octets.{octet, big, octetsOf}
+use Rattle.tlv.specs.Octets.{octet, big, hasBits, octetsOf}
 use Rattle.tlv.specs.Tlv.{Tlv, loneFault, unless}
 use Rattle.tlv.specs.declared.tlvs.Found.{Found}
-use Rattle.hello.specs.Flags.{RA, PA, PR, hasFlag, counted, invalid, needsNeighbor, needsTime}
-use Rattle.hello.specs.declared.flags.Flags.{Flags}
-use Rattle.hello.specs.declared.restart.Ack.{Ack}
-use Rattle.hello.specs.declared.restart.Ack.the-variants.{Restart, Planned}
-use Rattle.hello.specs.declared.restart.Neighbor.{Neighbor}
-use Rattle.hello.specs.declared.restart.Neighbor.the-variants.{Unnamed, Named}
-use Rattle.hello.specs.declared.restart.RestartRead.{RestartRead}
-use Rattle.hello.specs.declared.restart.RestartRead.the-variants.{Bad, Good}
-use Rattle.hello.specs.declared.restart.RestartTlv.{RestartTlv}
-use Rattle.hello.specs.declared.restart.RestartTlv.the-variants.{Absent, Ignored, Present}
+use Rattle.restart_tlv.specs.Flags.{RA, PA, PR, counted, invalid, needsNeighbor, needsTime}
+use Rattle.restart_tlv.specs.declared.flags.Flags.{Flags}
+use Rattle.restart_tlv.specs.declared.writer.Ack.{Ack}
+use Rattle.restart_tlv.specs.declared.writer.Ack.the-variants.{Restart, Planned}
+use Rattle.restart_tlv.specs.declared.reader.Neighbor.{Neighbor}
+use Rattle.restart_tlv.specs.declared.reader.Neighbor.the-variants.{Unnamed, Named}
+use Rattle.restart_tlv.specs.declared.reader.RestartRead.{RestartRead}
+use Rattle.restart_tlv.specs.declared.reader.RestartRead.the-variants.{Bad, Good}
+use Rattle.restart_tlv.specs.declared.reader.RestartTlv.{RestartTlv}
+use Rattle.restart_tlv.specs.declared.reader.RestartTlv.the-variants.{Absent, Ignored, Present}
 
 -- House (document 01, "TLVs read"), over RFC 8706, 3.2: length 1 to 9; at least 3 with PR; 9 with RA or PA
 unfoldable pub leastLength : ℕ → ℕ
-leastLength f = cond (needsNeighbor f) 9 (cond (hasFlag f PR) 3 1)
+leastLength f = cond (needsNeighbor f) 9 (cond (hasBits f PR) 3 1)
 
 unfoldable pub restartBad : List ℕ → Bool
 restartBad v = ltb (length v) 1 || (ltb 9 (length v) || ltb (length v) (leastLength (octet v 0)))

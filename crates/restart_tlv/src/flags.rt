@@ -1,17 +1,12 @@
 // The flags of the Restart TLV (RFC 8706, 3.2; document 01, "TLVs read"): a set, built and tested here alone.
+use tlv::octets::has_bits;
 ghost use mathlib.Core.Path.{_≡_};
-ghost use Rattle.hello.specs.Flags.{hasFlag, without, counted, invalid, needsNeighbor, needsTime};
+ghost use Rattle.tlv.specs.Octets.{hasBits};
+ghost use Rattle.restart_tlv.specs.Flags.{without, counted, invalid, needsNeighbor, needsTime};
 ghost use lib.Bits.{bitOr};
 
 pub struct Flags {
     pub bits: u8,
-}
-
-// Whether each bit of a mask is set.
-pub fn has_bits(bits: u8, mask: u8) -> bool
-    ensures { λ r. ⌜ r ≡ hasFlag bits mask ⌝ }
-{
-    bits & mask == mask
 }
 
 impl Flags {
@@ -34,7 +29,7 @@ impl Flags {
 
     // Whether each flag of `other` is set.
     pub fn has(self, other: Flags) -> bool
-        ensures { λ r. ⌜ r ≡ hasFlag (self .bits) (other .bits) ⌝ }
+        ensures { λ r. ⌜ r ≡ hasBits (self .bits) (other .bits) ⌝ }
     {
         has_bits(self.bits, other.bits)
     }

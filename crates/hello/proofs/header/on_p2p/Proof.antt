@@ -1,0 +1,20 @@
+use borrow.Author.Needs.{needs}
+use Rattle.hello.proofs.header.on_p2p.Statement.{statement}
+use Rattle.hello.proofs.header.on_p2p.Tie as tie
+use Rattle.hello.proofs.header.on_p2p.Reads as reads
+use Rattle.hello.proofs.header.on_p2p.Lts as lts
+
+enum-told : tie.Need-enum-told
+enum-told c = search needs
+
+enum-told-2 : tie.Need-enum-told-2
+enum-told-2 c = search needs
+
+returns : tie.Need-returns
+returns c = search needs
+
+returns-2 : tie.Need-returns-2
+returns-2 c = ?
+
+pub on-p2p-spec : {M : Type 1} → statement M
+on-p2p-spec = tie.close (tie.spec enum-told enum-told-2 returns returns-2)

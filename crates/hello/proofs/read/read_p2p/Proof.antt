@@ -1,0 +1,25 @@
+use borrow.Author.Needs.{needs}
+use Rattle.hello.proofs.read.read_p2p.Statement.{statement}
+use Rattle.hello.proofs.read.read_p2p.Tie as tie
+use Rattle.hello.proofs.read.read_p2p.Reads as reads
+use Rattle.hello.proofs.read.read_p2p.Lts as lts
+use Rattle.hello.proofs.three_way.read_three_way.Reads as read-three-way-reads
+
+read-three-way-requires : tie.Need-read-three-way-requires
+read-three-way-requires c κs = search needs
+
+enum-known-three-way : tie.Need-enum-known-three-way
+enum-known-three-way c = search needs
+
+enum-told : tie.Need-enum-told
+enum-told c = search needs
+
+returns : tie.Need-returns
+returns c = ?
+
+returns-2 : tie.Need-returns-2
+returns-2 c = ?
+
+pub read-p2p-spec : {M : Type 1} → statement M
+read-p2p-spec =
+    tie.close (tie.spec read-three-way-requires enum-known-three-way enum-told returns returns-2)

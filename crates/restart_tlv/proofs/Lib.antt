@@ -1,0 +1,2 @@
+pub mod RestartLaws
+pub mod RoundTrip

@@ -1,0 +1,25 @@
+use Rattle.restart_tlv.specs.Flags.{needsNeighbor}
+use Rattle.tlv.proofs.Chain.{calls}
+use borrow.Author.Needs.{needs}
+use Rattle.restart_tlv.proofs.flags.Flags.needs_neighbor.Statement.{statement}
+use Rattle.restart_tlv.proofs.flags.Flags.needs_neighbor.Tie as tie
+use Rattle.restart_tlv.proofs.flags.Flags.needs_neighbor.Reads as reads
+use Rattle.restart_tlv.proofs.flags.Flags.needs_neighbor.Lts as lts
+use Rattle.restart_tlv.proofs.flags.Flags.has.Reads as has-reads
+
+has-requires : tie.Need-has-requires
+has-requires c κs = search needs
+
+returns : tie.Need-returns
+unfolding needsNeighbor
+returns c = search calls
+
+has-requires-2 : tie.Need-has-requires-2
+has-requires-2 c κs = search needs
+
+returns-2 : tie.Need-returns-2
+unfolding needsNeighbor
+returns-2 c = search calls
+
+pub needs-neighbor-spec : {M : Type 1} → statement M
+needs-neighbor-spec = tie.close (tie.spec has-requires returns has-requires-2 returns-2)

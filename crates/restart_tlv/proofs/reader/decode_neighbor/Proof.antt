@@ -1,0 +1,28 @@
+use Rattle.restart_tlv.proofs.RestartLaws.{neighbor-length}
+use Rattle.restart_tlv.specs.Restart.{neighborOf}
+use native.Mathlib.Omega.{arith}
+use mathlib.Core.Path.{_≡_, sym, ap, _∙_}
+use borrow.Author.Needs.{needs}
+use Rattle.restart_tlv.proofs.reader.decode_neighbor.Statement.{statement}
+use Rattle.restart_tlv.proofs.reader.decode_neighbor.Tie as tie
+use Rattle.restart_tlv.proofs.reader.decode_neighbor.Reads as reads
+use Rattle.restart_tlv.proofs.reader.decode_neighbor.Lts as lts
+use Rattle.restart_tlv.proofs.flags.Flags.needs_neighbor.Reads as needs-neighbor-reads
+use Rattle.tlv.proofs.octets.six.Reads as six-reads
+
+needs-neighbor-requires : tie.Need-needs-neighbor-requires
+needs-neighbor-requires c κs = search needs
+
+six-requires : tie.Need-six-requires
+six-requires c κs = omega (arith, neighbor-length _ (sym (c .before .needs-neighbor .ensures) ∙ c .if1 .taken))
+
+returns : tie.Need-returns
+unfolding neighborOf
+returns c = rw (sym (c .before .before .needs-neighbor .ensures) ∙ c .before .if1 .taken, c .six .ensures)
+
+returns-2 : tie.Need-returns-2
+unfolding neighborOf
+returns-2 c = rw (sym (c .before .needs-neighbor .ensures) ∙ c .if1 .left)
+
+pub decode-neighbor-spec : {M : Type 1} → statement M
+decode-neighbor-spec = tie.close (tie.spec needs-neighbor-requires six-requires returns returns-2)

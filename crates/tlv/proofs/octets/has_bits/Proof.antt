@@ -1,0 +1,13 @@
+use mathlib.Core.Path.{refl}
+use Rattle.tlv.specs.Octets.{hasBits}
+use Rattle.tlv.proofs.octets.has_bits.Statement.{statement}
+use Rattle.tlv.proofs.octets.has_bits.Tie as tie
+use Rattle.tlv.proofs.octets.has_bits.Reads as reads
+use Rattle.tlv.proofs.octets.has_bits.Lts as lts
+
+returns : tie.Need-returns
+unfolding hasBits
+returns c = refl
+
+pub has-bits-spec : {M : Type 1} → statement M
+has-bits-spec = tie.close (tie.spec returns)
