@@ -2,7 +2,7 @@
 -- "Hello frames" and "TLVs read").
 use Prim.Native.Nat.{ℕ, min, _%_}
 use mathlib.Core.List.{List}
-use mathlib.Core.Bool.{Bool, cond}
+use mathlib.Core.Bool.{cond}
 use lib.ListN.{length, take}
 use lib.Dec.{eqb}
 use Rattle.tlv.specs.Octets.{octet, big}
@@ -35,7 +35,7 @@ abbrev pub ofKind : ℕ → Layout → List ℕ → List Tlv
 ofKind k l p = ofType k (tlvs p (headerOf l))
 
 -- Refusal 6. The rules of the types that this layout reads: 240 is stepped over on a LAN, 6 on P2P.
-abbrev pub linkFault : Layout → List ℕ → Found
+unfoldable pub linkFault : Layout → List ℕ → Found
 linkFault (LanLayout level) p = neighboursFault (ofKind 6 (LanLayout level) p)
 linkFault P2pLayout p = threeWayFault (length p) (ofKind 240 P2pLayout p)
 
@@ -56,7 +56,7 @@ abbrev pub linkOf : Layout → ℕ → List ℕ → Link
 linkOf (LanLayout level) mac p = Lan level (octet p 19 % 128) (listed mac (ofKind 6 (LanLayout level) p))
 linkOf P2pLayout mac p = P2p (threeWayIn (ofKind 240 P2pLayout p))
 
-abbrev pub linkRead : Layout → ℕ → List ℕ → LinkRead
+unfoldable pub linkRead : Layout → ℕ → List ℕ → LinkRead
 linkRead l mac p = unless (linkFault l p) (Good (linkOf l mac p)) Bad
 
 -- source System ID (octets 10 to 15), Holding Time (16 and 17), and what the TLVs say

@@ -2,20 +2,7 @@
 -- The one table of these numbers; the code's `number_of` is proved against it.
 use Prim.Native.Nat.{ℕ}
 use Rattle.hello.specs.declared.refusal.Refusal.{Refusal}
-use Rattle.hello.specs.declared.refusal.Refusal.the-variants.{
-  NoCircuit,
-  ReplyRoom,
-  NotHello,
-  BadLength,
-  TlvPastEnd,
-  BadTlv,
-  WrongSource,
-  WrongNeighbor,
-  NoRoom,
-  ClockBack,
-  NotRestarting,
-  BadSetting,
-}
+use Rattle.hello.specs.declared.refusal.Refusal.the-variants.{NoCircuit, ReplyRoom, NotHello, BadLength, TlvPastEnd, BadTlv, WrongSource, WrongNeighbor, NoRoom, ClockBack, NotRestarting, BadSetting}
 
 abbrev pub refusalNo : Refusal → ℕ
 refusalNo NoCircuit = 1

@@ -47,5 +47,5 @@ reverseIn [] = Absent
 reverseIn (t ∷ []) = reverseOf (t .value)
 reverseIn (t ∷ u ∷ ts) = Absent
 
-abbrev pub reverseRead : List Tlv → ReverseRead
+unfoldable pub reverseRead : List Tlv → ReverseRead
 reverseRead ts = unless (reverseFault ts) (Good (reverseIn ts)) Bad

@@ -45,5 +45,5 @@ threeWayOf v = record { state = stateOf (octet v 0); ids = identifiersOf v }
 abbrev pub threeWayIn : List Tlv → ThreeWay
 threeWayIn ts = threeWayOf (firstValue ts)
 
-abbrev pub threeWayRead : ℕ → List Tlv → ThreeWayRead
+unfoldable pub threeWayRead : ℕ → List Tlv → ThreeWayRead
 threeWayRead end ts = unless (threeWayFault end ts) (Good (threeWayIn ts)) Bad

@@ -9,11 +9,11 @@ use tlv::tlvs::Occurs;
 use tlv::tlvs::occurrences;
 use tlv::tlvs::value_of;
 ghost use mathlib.Core.Path.{_≡_};
-ghost use mathlib.Core.Bool.{false, cond};
+ghost use mathlib.Core.Bool.{cond};
 ghost use Prim.Native.Nat.{_≤_};
 ghost use lib.ListN.{length};
 ghost use Rattle.tlv.specs.Tlv.{tlvs, ofType};
-ghost use Rattle.hello.specs.Reverse.{reverseBad, several, reverseOf, reverseRead};
+ghost use Rattle.hello.specs.Reverse.{reverseBad, reverseOf, reverseRead};
 ghost use Rattle.hello.specs.declared.reverse.ReverseRead.the-variants.{Good, Bad};
 
 const REVERSE_METRIC: u8 = 16;

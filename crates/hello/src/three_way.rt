@@ -4,13 +4,11 @@
 //          state  own extended circuit ID  Neighbor System ID  Neighbor Extended Circuit ID
 use tlv::octets::four;
 use tlv::octets::six;
-use tlv::octets::wide;
 use tlv::tlvs::Occurs;
 use tlv::tlvs::occurrences;
 use tlv::tlvs::value_of;
 ghost use mathlib.Core.Path.{_≡_};
-ghost use mathlib.Core.Bool.{false, cond};
-ghost use Prim.Native.Nat.{_≤_};
+ghost use mathlib.Core.Bool.{cond};
 ghost use lib.ListN.{length};
 ghost use Rattle.tlv.specs.Tlv.{tlvs, ofType};
 ghost use Rattle.hello.specs.ThreeWay.{threeWayLength, threeWayBad, stateOf, identifiersOf, threeWayOf, threeWayRead};

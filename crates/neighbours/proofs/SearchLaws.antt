@@ -1,10 +1,10 @@
 -- Laws of the search for a MAC, for the proofs of this crate: it may go by one MAC or by four, and octets that differ from
 -- the MAC's rule it out.
 use Prim.Native.Nat.{ℕ, zero, suc, _+_, _*_, _/_, _<_, _≤_}
-use mathlib.Core.Path.{_≡_, refl, sym, ap, _∙_}
+use mathlib.Core.Path.{_≡_, sym, ap, _∙_}
 use mathlib.Core.Logic.{⊎-elim}
 use mathlib.Core.List.{List}
-use mathlib.Core.Bool.{Bool, true, false, _||_, or-assoc}
+use mathlib.Core.Bool.{true, false, _||_, or-assoc}
 use native.Mathlib.Omega.{arith}
 use native.Mathlib.Nat.{add-assoc, le-of-suc-le-suc, eq-or-lt-of-le}
 use lib.Arith.{le-zero}

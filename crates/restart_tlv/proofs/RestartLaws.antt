@@ -1,22 +1,20 @@
 -- What the rules of the Restart TLV give: the lengths that its flags ask for, and the reading by how often it occurs.
-use Prim.Native.Nat.{ℕ, zero, suc, _≤_, _<_}
-use mathlib.Core.Path.{_≡_, refl, sym, ap, _∙_}
-use mathlib.Core.Logic.{⊎-elim}
-use mathlib.Core.List.{List}
-use mathlib.Core.Bool.{Bool, true, false, cond, _||_, _&&_}
+use Prim.Native.Nat.{ℕ, _≤_, _<_}
+use mathlib.Core.Path.{_≡_, refl}
+use mathlib.Core.List.{List, [], _∷_}
+use mathlib.Core.Bool.{true, false, cond}
 use native.Mathlib.Omega.{arith}
-use native.Mathlib.Nat.{not-suc-le-zero, le-of-suc-le-suc, eq-or-lt-of-le}
 use lib.ListN.{length}
 use lib.Dec.{ltb, leb}
 use borrow.Author.Tests.{ltb-false, leb-true}
 use Rattle.tlv.specs.Octets.{octet, hasBits}
-use Rattle.tlv.specs.Tlv.{Tlv, occursOf, firstValue, unless}
-use Rattle.tlv.specs.declared.tlvs.Occurs.the-variants.{Never, Once, Again}
+use Rattle.tlv.specs.Tlv.{Tlv, occursOf, firstValue, isFound}
 use Rattle.tlv.proofs.BoolLaws.{neither, by-test, all-below}
-use Rattle.tlv.proofs.TlvLaws.{occurs-never, occurs-once, lone-never, lone-once, lone-again}
+use Rattle.tlv.proofs.TlvLaws.{byOccurs, lone-read, unless-is-bad, unless-is-good}
 use Rattle.restart_tlv.specs.Flags.{PR, counted, without, needsNeighbor, needsTime}
 use Rattle.restart_tlv.specs.Restart.{leastLength, restartBad, restartFault, restartIn, restartOf, restartRead}
 use Rattle.restart_tlv.specs.declared.reader.RestartRead.the-variants.{Bad, Good}
+use Rattle.restart_tlv.specs.declared.reader.RestartTlv.{RestartTlv}
 use Rattle.restart_tlv.specs.declared.reader.RestartTlv.the-variants.{Absent}
 
 -- a value that breaks no rule has its flags, and the length that they ask for
@@ -48,14 +46,25 @@ module _ (f : ℕ) where
       (λ n. let p : hasBits f PR ≡ true = rw n at h in rw (n, p) (omega arith))
 
 -- the reading, by how often the type occurs
+pub restart-read : (ts : List Tlv)
+    → restartRead ts ≡ byOccurs (occursOf ts) (Good Absent) (cond (restartBad (firstValue ts)) Bad (Good (restartOf (firstValue ts)))) Bad
+unfolding restartRead
+restart-read [] = lone-read _ _ restartBad []
+restart-read (t ∷ []) = lone-read _ _ restartBad (t ∷ [])
+restart-read (t ∷ u ∷ ts) = lone-read _ _ restartBad (t ∷ u ∷ ts)
+
+differ : (r : RestartTlv) → Good r ≡ Bad → ⊥
+differ r e = let z : _≡_ {A = ℕ} 0 1 = cc in omega arith
+
+same : (a b : RestartTlv) → Good a ≡ Good b → a ≡ b
+same a b e = cc
+
+-- the reading taken apart
 module _ (ts : List Tlv) where
-  pub restart-never : occursOf ts ≡ Never → restartRead ts ≡ Good Absent
-  restart-never e = lone-never restartBad ts (Good (restartIn ts)) Bad e ∙ ap (λ (l : List Tlv). Good (restartIn l)) (occurs-never ts e)
+  pub restart-is-bad : restartRead ts ≡ Bad → isFound (restartFault ts) ≡ true
+  unfolding restartRead
+  restart-is-bad = unless-is-bad Good Bad differ same (restartFault ts) (restartIn ts)
 
-  pub restart-once : (p : ℕ) → occursOf ts ≡ Once p → restartRead ts ≡ cond (restartBad (firstValue ts)) Bad (Good (restartOf (firstValue ts)))
-  restart-once p e =
-      lone-once restartBad ts (Good (restartIn ts)) Bad p e
-      ∙ ap (λ (l : List Tlv). cond (restartBad (firstValue ts)) Bad (Good (restartIn l))) (occurs-once ts p e)
-
-  pub restart-again : (p q : ℕ) → occursOf ts ≡ Again p q → restartRead ts ≡ Bad
-  restart-again p q e = lone-again restartBad ts (Good (restartIn ts)) Bad p q e
+  pub restart-is-good : (r : RestartTlv) → restartRead ts ≡ Good r → (isFound (restartFault ts) ≡ false) × (r ≡ restartIn ts)
+  unfolding restartRead
+  restart-is-good r = unless-is-good Good Bad differ same (restartFault ts) (restartIn ts) r

@@ -1,10 +1,10 @@
 -- What was written is read back: the flag, the time and the System ID.
 use Prim.Native.Nat.{ℕ, _^_, _<_}
 use mathlib.Core.Path.{_≡_}
-use mathlib.Core.List.{List, [], _∷_, _++_}
+use mathlib.Core.List.{[], _∷_, _++_}
 use lib.Count.{ones, onesIn}
 use Rattle.tlv.specs.Octets.{big, octetsOf, hasBits}
-use Rattle.tlv.specs.Tlv.{tlvs, tlvsUp, ofType, loneFault}
+use Rattle.tlv.specs.Tlv.{tlvs, tlvsUp, ofType, loneFault, unless}
 use Rattle.tlv.proofs.OctetsLaws.{big-octetsOf}
 use Rattle.restart_tlv.specs.Flags.{RA, PA, counted, without, invalid, needsNeighbor, needsTime}
 use Rattle.restart_tlv.specs.Restart.{ackFlag, restartOctets, restartRead, restartBad, leastLength, restartWith, timeOf, neighborOf}
@@ -24,6 +24,6 @@ module _ (f time system : ℕ) (p : time < 2 ^ 16) (q : system < 2 ^ 48) where
 
 pub round-trip : (ack : Ack) (time system : ℕ) → time < 2 ^ 16 → system < 2 ^ 48
     → restartRead (ofType 211 (tlvs (restartOctets (ackFlag ack) time system) 0)) ≡ Good (Present (record { bits = ackFlag ack }) time (Named system))
-unfolding restartOctets octetsOf tlvs tlvsUp ofType loneFault restartBad leastLength restartWith timeOf neighborOf counted without invalid needsNeighbor needsTime hasBits ones onesIn
+unfolding restartOctets octetsOf tlvs tlvsUp ofType loneFault unless restartRead restartBad leastLength restartWith timeOf neighborOf counted without invalid needsNeighbor needsTime hasBits ones onesIn
 round-trip Restart time system p q = rw (time-back RA time system p q, system-back RA time system p q)
 round-trip Planned time system p q = rw (time-back PA time system p q, system-back PA time system p q)

@@ -8,7 +8,6 @@ use Rattle.tlv.specs.Octets.{octet, big, hasBits, octetsOf}
 use Rattle.tlv.specs.Tlv.{Tlv, loneFault, unless}
 use Rattle.tlv.specs.declared.tlvs.Found.{Found}
 use Rattle.restart_tlv.specs.Flags.{RA, PA, PR, counted, invalid, needsNeighbor, needsTime}
-use Rattle.restart_tlv.specs.declared.flags.Flags.{Flags}
 use Rattle.restart_tlv.specs.declared.writer.Ack.{Ack}
 use Rattle.restart_tlv.specs.declared.writer.Ack.the-variants.{Restart, Planned}
 use Rattle.restart_tlv.specs.declared.reader.Neighbor.{Neighbor}
@@ -48,7 +47,7 @@ abbrev pub restartIn : List Tlv → RestartTlv
 restartIn [] = Absent
 restartIn (t ∷ ts) = restartOf (t .value)
 
-abbrev pub restartRead : List Tlv → RestartRead
+unfoldable pub restartRead : List Tlv → RestartRead
 restartRead ts = unless (restartFault ts) (Good (restartIn ts)) Bad
 
 -- Document 01, "Marks and holding time": the reply is 11 octets: 211, 9, RA or PA alone, Remaining Time, System ID

@@ -1,9 +1,9 @@
 -- A chain of tests, the first that holds decides: `search chain` proves a return of a function that tests in the chain's
 -- order, for each test's outcome, and what a callee found, stand in the record of what is known there.
-use Prim.Native.Nat.{ℕ, _<_, _≤_}
+use Prim.Native.Nat.{ℕ}
 use mathlib.Core.Bool.{Bool, true, false, not, cond, _||_}
 use mathlib.Core.Path.{_≡_}
-use lib.Dec.{ltb, eqb}
+use lib.Dec.{eqb}
 use borrow.Author.Tests.{lt-ltb, le-ltb, eq-eqb, ne-eqb}
 
 pub or-here : (a b : Bool) → a ≡ true → true ≡ (a || b)

@@ -1,20 +1,24 @@
 -- What stands at a position: the cases by which every loop over TLVs goes. No other proof unfolds `tlvs`.
 use Prim.Native.Nat.{ℕ, zero, suc, _+_, _-_, _≤_, _<_}
-use mathlib.Core.Path.{_≡_, refl, ap, sym, _∙_}
+use mathlib.Core.Path.{_≡_, refl, ap, sym, subst, _∙_}
 use mathlib.Core.List.{List, [], _∷_}
 use mathlib.Core.Bool.{Bool, true, false, cond, true≢false}
+use mathlib.Core.Logic.{⊎-elim}
 use native.Mathlib.Omega.{arith}
 use lib.ListN.{length, drop, length-drop}
 use lib.Seq.{length-take-le}
 use lib.Dec.{leb, ltb}
+use types.Run.{OneOf}
+use denote.Enum.Declared.{tagOf}
 use borrow.Author.Tests.{le-leb, lt-leb, lt-ltb, le-ltb, eq-eqb, ne-eqb}
 use Rattle.tlv.specs.Octets.{octet}
-use Rattle.tlv.specs.Tlv.{Tlvs, done, cut, one, tlvsUp, tlvs, nextAt, valueAt, ended, ofType, Tlv, firstValue, occursOf, FoundAt, Occurring, loneFault, isFound, unless}
+use Rattle.tlv.specs.Tlv.{Tlvs, done, cut, one, tlvsUp, tlvs, nextAt, valueAt, ended, ofType, Tlv, firstValue, occursOf, FoundAt, StartsAt, Occurring, loneFault, isFound, unless}
 use Rattle.tlv.specs.declared.tlvs.Found.{Found}
 use Rattle.tlv.specs.declared.tlvs.Found.the-variants.{At, Nothing}
 use Rattle.tlv.specs.declared.tlvs.Walk.the-variants.{Whole, Cut}
 use Rattle.tlv.specs.declared.tlvs.Occurs.{Occurs}
 use Rattle.tlv.specs.declared.tlvs.Occurs.the-variants.{Never, Once, Again}
+use Rattle.tlv.proofs.tlvs.Occurs.{the-type}
 
 -- two choices are equal where they are so when the test passes
 same-then : (b : Bool) (x y z : Tlvs) → (b ≡ true → x ≡ y) → cond b x z ≡ cond b y z
@@ -89,60 +93,16 @@ module _ (s : List ℕ) (at : ℕ) (l : at < length s) where
 pub value-length : (s : List ℕ) (at : ℕ) → nextAt s at ≤ length s → length (valueAt s at) ≡ octet s (at + 1)
 value-length s at h = length-take-le (octet s (at + 1)) (drop (at + 2) s) (rw length-drop (omega arith))
 
--- the list, where it is known how often its type occurs
-pub occurs-never : (ts : List Tlv) → occursOf ts ≡ Never → ts ≡ []
-occurs-never [] e = refl
-occurs-never (t ∷ []) e = let z : _≡_ {A = ℕ} 0 1 = cc in absurd (omega arith)
-occurs-never (t ∷ u ∷ ts) e = let z : _≡_ {A = ℕ} 0 1 = cc in absurd (omega arith)
+-- a turn of a loop over all TLVs of a type: the one found, whose value is in hand, and those past that value
+module _ {s : List ℕ} {from k p : ℕ} {v : List ℕ} (f : FoundAt s from k p) (e : v ≡ valueAt s p) where
+  value-ends : p + 2 + length v ≡ nextAt s p
+  value-ends = rw (e, value-length s p (f .within))
 
-pub occurs-once : (ts : List Tlv) (p : ℕ) → occursOf ts ≡ Once p → ts ≡ record { at = p; value = firstValue ts } ∷ []
-occurs-once [] p e = let z : _≡_ {A = ℕ} 0 1 = cc in absurd (omega arith)
-occurs-once (t ∷ []) p e = let q : t .at ≡ p = cc in ap (λ (n : ℕ). record { at = n; value = t .value } ∷ []) q
-occurs-once (t ∷ u ∷ ts) p e = let z : _≡_ {A = ℕ} 0 1 = cc in absurd (omega arith)
+  pub turn-within : p + 2 + length v ≤ length s
+  turn-within = rw value-ends (f .within)
 
--- two at least
-pub record Twice (ts : List Tlv) (p q : ℕ) : Type 0 where
-  pub second : Tlv
-  pub others : List Tlv
-  pub list : ts ≡ record { at = p; value = firstValue ts } ∷ second ∷ others
-  pub place : second .at ≡ q
-
-pub occurs-again : (ts : List Tlv) (p q : ℕ) → occursOf ts ≡ Again p q → Twice ts p q
-occurs-again [] p q e = let z : _≡_ {A = ℕ} 0 1 = cc in absurd (omega arith)
-occurs-again (t ∷ []) p q e = let z : _≡_ {A = ℕ} 0 1 = cc in absurd (omega arith)
-occurs-again (t ∷ u ∷ ts) p q e =
-    let i : t .at ≡ p = cc in
-    record { second = u; others = ts; list = ap (λ (n : ℕ). record { at = n; value = t .value } ∷ u ∷ ts) i; place = cc }
-
--- what is answered where a rule is broken
-pub unless-found : {A : Type 0} (f : Found) (x y : A) → isFound f ≡ true → unless f x y ≡ y
-unless-found Nothing x y e = absurd (true≢false (sym e))
-unless-found (At p) x y e = refl
-
-unless-cond : {A : Type 0} (b : Bool) (p : ℕ) (x y : A) → unless (cond b (At p) Nothing) x y ≡ cond b y x
-unless-cond true p x y = refl
-unless-cond false p x y = refl
-
-found-cond : (b : Bool) (p q : ℕ) → isFound (cond b (At p) (At q)) ≡ true
-found-cond true p q = refl
-found-cond false p q = refl
-
--- the rule of a type that may come at most once, by how often it occurs
-module _ {A : Type 0} (bad : List ℕ → Bool) (ts : List Tlv) (x y : A) where
-  pub lone-never : occursOf ts ≡ Never → unless (loneFault bad ts) x y ≡ x
-  unfolding loneFault
-  lone-never e = rw (occurs-never ts e)
-
-  pub lone-once : (p : ℕ) → occursOf ts ≡ Once p → unless (loneFault bad ts) x y ≡ cond (bad (firstValue ts)) y x
-  unfolding loneFault
-  lone-once p e = ap (λ (l : List Tlv). unless (loneFault bad l) x y) (occurs-once ts p e) ∙ unless-cond (bad (firstValue ts)) p x y
-
-  pub lone-again : (p q : ℕ) → occursOf ts ≡ Again p q → unless (loneFault bad ts) x y ≡ y
-  unfolding loneFault
-  lone-again p q e =
-      let t = occurs-again ts p q e in
-      unless-found (loneFault bad ts) x y
-      (ap (λ (l : List Tlv). isFound (loneFault bad l)) (t .list) ∙ found-cond (bad (firstValue ts)) p (t .second .at))
+  pub turn-list : ofType k (tlvs s from) ≡ record { at = p; value = v } ∷ ofType k (tlvs s (p + 2 + length v))
+  turn-list = rw (f .same, f .here, value-ends, e)
 
 -- what two searches in a row tell: none, one or more
 module _ (s : List ℕ) (from k : ℕ) where
@@ -154,3 +114,63 @@ module _ (s : List ℕ) (from k : ℕ) where
 
   pub found-again : (p q : ℕ) → FoundAt s from k p → FoundAt s (nextAt s p) k q → Occurring s from k (Again p q)
   found-again p q f g = record { is = rw (f .same, f .here, g .same, g .here); start = f .same }
+
+-- a value asked for at the place of the only one is the value of the first from the start
+pub only-value : {s : List ℕ} {from k p : ℕ} {r : Occurs} {v : List ℕ} → Occurring s from k r → r ≡ Once p
+    → v ≡ firstValue (ofType k (tlvs s p)) → v ≡ firstValue (ofType k (tlvs s from))
+only-value {s} {from} {k} o e q = q ∙ sym (ap firstValue (subst (StartsAt s from k) e (o .start)))
+
+-- what is read of a type goes by how often it occurs
+abbrev pub byOccurs : {A : Type 0} → Occurs → A → A → A → A
+byOccurs Never x y z = x
+byOccurs (Once p) x y z = y
+byOccurs (Again p q) x y z = z
+
+-- it does not occur again, in the words of a match's arm for the other variants
+pub not-again : {A : Type 0} (x y : A) (r : Occurs) → OneOf (0 ∷ 1 ∷ []) (tagOf the-type r) → byOccurs r x x y ≡ x
+not-again x y Never h = refl
+not-again x y (Once p) h = refl
+not-again x y (Again p q) h = absurd (⊎-elim (λ e. omega arith) (λ e. omega arith) h)
+
+module _ {A : Type 0} (good bad : A) where
+  -- the rule of a TLV that came alone
+  pub unless-bad : (b : Bool) (p : ℕ) → unless (cond b (At p) Nothing) good bad ≡ cond b bad good
+  unfolding unless
+  unless-bad true p = refl
+  unless-bad false p = refl
+
+  unless-either : (b : Bool) (p q : ℕ) → unless (cond b (At p) (At q)) good bad ≡ bad
+  unfolding unless
+  unless-either true p q = refl
+  unless-either false p q = refl
+
+  -- of a type that may come at most once
+  pub lone-read : (rule : List ℕ → Bool) (ts : List Tlv)
+      → unless (loneFault rule ts) good bad ≡ byOccurs (occursOf ts) good (cond (rule (firstValue ts)) bad good) bad
+  unfolding loneFault unless
+  lone-read rule [] = refl
+  lone-read rule (t ∷ []) = unless-bad (rule (t .value)) (t .at)
+  lone-read rule (t ∷ u ∷ ts) = unless-either (rule (t .value)) (t .at) (u .at)
+
+-- where it is known whether a rule is broken
+pub unless-found : {A : Type 0} (f : Found) (x y : A) → isFound f ≡ true → unless f x y ≡ y
+unfolding unless isFound
+unless-found Nothing x y e = absurd (true≢false (sym e))
+unless-found (At p) x y e = refl
+
+pub unless-none : {A : Type 0} (f : Found) (x y : A) → isFound f ≡ false → unless f x y ≡ x
+unfolding unless isFound
+unless-none Nothing x y e = refl
+unless-none (At p) x y e = absurd (true≢false e)
+
+-- a reading taken apart, whatever its type: it is bad where a rule is broken, and otherwise it holds what was read
+module _ {A B : Type 0} (good : B → A) (bad : A) (differ : (b : B) → good b ≡ bad → ⊥) (same : (a b : B) → good a ≡ good b → a ≡ b) where
+  pub unless-is-bad : (f : Found) (a : B) → unless f (good a) bad ≡ bad → isFound f ≡ true
+  unfolding unless isFound
+  unless-is-bad Nothing a e = absurd (differ a e)
+  unless-is-bad (At p) a e = refl
+
+  pub unless-is-good : (f : Found) (a b : B) → unless f (good a) bad ≡ good b → (isFound f ≡ false) × (b ≡ a)
+  unfolding unless isFound
+  unless-is-good Nothing a b e = (refl, sym (same a b e))
+  unless-is-good (At p) a b e = absurd (differ b (sym e))

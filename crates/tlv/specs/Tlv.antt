@@ -76,12 +76,12 @@ unfoldable pub loneFault : (List ℕ → Bool) → List Tlv → Found
 loneFault bad [] = Nothing
 loneFault bad (t ∷ ts) = cond (bad (t .value)) (At (t .at)) (firstAt ts)
 
-abbrev pub isFound : Found → Bool
+unfoldable pub isFound : Found → Bool
 isFound Nothing = false
 isFound (At p) = true
 
 -- what is read where no rule is broken, or what is answered where one is
-abbrev pub unless : {A : Type 0} → Found → A → A → A
+unfoldable pub unless : {A : Type 0} → Found → A → A → A
 unless Nothing x y = x
 unless (At p) x y = y
 

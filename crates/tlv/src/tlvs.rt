@@ -35,11 +35,11 @@ pub fn walked(pdu: &[u8], from: usize) -> Walk
         if left < 2 {
             return Walk::Cut(at);
         }
-        let len = wide(pdu[at + 1]);
-        if left - 2 < len {
+        let value = wide(pdu[at + 1]);
+        if left - 2 < value {
             return Walk::Cut(at);
         }
-        at = at + 2 + len;
+        at = at + 2 + value;
     }
     Walk::Whole
 }

@@ -1,30 +1,34 @@
+-- The ruleset `tests` takes `notHello` one test at a time.
 use borrow.Author.Needs.{needs}
+use Rattle.tlv.proofs.Chain.{tests}
+use Rattle.hello.specs.Header.{notHello}
 use Rattle.hello.proofs.header.is_not_hello.Statement.{statement}
 use Rattle.hello.proofs.header.is_not_hello.Tie as tie
-use Rattle.hello.proofs.header.is_not_hello.Reads as reads
-use Rattle.hello.proofs.header.is_not_hello.Lts as lts
-use Rattle.hello.proofs.header.is_id_length.Reads as is-id-length-reads
 
 returns : tie.Need-returns
-returns c = ?
+unfolding notHello
+returns c = search tests
 
 shared-slice-read-if2 : tie.Need-shared-slice-read-if2
 shared-slice-read-if2 c = search needs
 
 returns-2 : tie.Need-returns-2
-returns-2 c = ?
+unfolding notHello
+returns-2 c = search tests
 
 shared-slice-read-if3 : tie.Need-shared-slice-read-if3
 shared-slice-read-if3 c = search needs
 
 returns-3 : tie.Need-returns-3
-returns-3 c = ?
+unfolding notHello
+returns-3 c = search tests
 
 shared-slice-read-if4 : tie.Need-shared-slice-read-if4
 shared-slice-read-if4 c = search needs
 
 returns-4 : tie.Need-returns-4
-returns-4 c = ?
+unfolding notHello
+returns-4 c = search tests
 
 shared-slice-read-is-id-length : tie.Need-shared-slice-read-is-id-length
 shared-slice-read-is-id-length c = search needs
@@ -33,7 +37,8 @@ is-id-length-requires : tie.Need-is-id-length-requires
 is-id-length-requires c κs = search needs
 
 returns-5 : tie.Need-returns-5
-returns-5 c = ?
+unfolding notHello
+returns-5 c = rw (← c .is-id-length .ensures) (search tests)
 
 pub is-not-hello-spec : {M : Type 1} → statement M
 is-not-hello-spec =

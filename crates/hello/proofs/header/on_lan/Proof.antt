@@ -1,8 +1,7 @@
+-- The variant that was matched decides `lanOn`.
 use borrow.Author.Needs.{needs}
 use Rattle.hello.proofs.header.on_lan.Statement.{statement}
 use Rattle.hello.proofs.header.on_lan.Tie as tie
-use Rattle.hello.proofs.header.on_lan.Reads as reads
-use Rattle.hello.proofs.header.on_lan.Lts as lts
 
 enum-told : tie.Need-enum-told
 enum-told c = search needs
@@ -11,7 +10,7 @@ enum-told-2 : tie.Need-enum-told-2
 enum-told-2 c = search needs
 
 returns : tie.Need-returns
-returns c = ?
+returns c = rw (c .enum-told .given .1)
 
 returns-2 : tie.Need-returns-2
 returns-2 c = search needs

@@ -1,48 +1,65 @@
+-- The invariant: what is left from `at` on has a fault just where the whole has one. `find` gives the next one and the rest.
+use mathlib.Core.Path.{_≡_, refl, subst}
+use native.Mathlib.Omega.{arith}
+use lib.ListN.{length}
+use borrow.Author.Needs.{needs}
+use borrow.Author.Tests.{eq-eqb, ne-eqb}
+use Rattle.tlv.specs.Tlv.{tlvs, ofType, isFound, Finds, FoundAt}
+use Rattle.tlv.proofs.TlvLaws.{turn-within, turn-list}
+use Rattle.hello.specs.Listed.{neighboursFault}
 use Rattle.hello.proofs.listed.is_bad_list.Statement.{statement}
 use Rattle.hello.proofs.listed.is_bad_list.Tie as tie
-use Rattle.hello.proofs.listed.is_bad_list.Reads as reads
-use Rattle.hello.proofs.listed.is_bad_list.Lts as lts
-use Rattle.tlv.proofs.tlvs.find.Reads as find-reads
-use Rattle.tlv.proofs.tlvs.value_at.Reads as value-at-reads
 
 abbrev Inv-loop : tie.InvT-loop
-Inv-loop pdu from at₀ at = ?
+Inv-loop pdu from at₀ at = isFound (neighboursFault (ofType 6 (tlvs pdu from))) ≡ isFound (neighboursFault (ofType 6 (tlvs pdu at)))
 
 abbrev μ-loop : tie.MeasureT-loop
-μ-loop pdu from at₀ at = ?
+μ-loop pdu from at₀ at = length (ofType 6 (tlvs pdu at))
 
 loop-holds : tie.Need-loop-holds Inv-loop μ-loop
-loop-holds c = ?
+loop-holds c = refl
 
 find-requires : tie.Need-find-requires Inv-loop μ-loop
-find-requires c κs = ?
+find-requires c κs = search needs
 
 enum-known-found : tie.Need-enum-known-found Inv-loop μ-loop
-enum-known-found c = ?
+enum-known-found c = search needs
 
 enum-told : tie.Need-enum-told Inv-loop μ-loop
-enum-told c = ?
+enum-told c = search needs
 
 returns : tie.Need-returns Inv-loop μ-loop
-returns c = ?
+unfolding neighboursFault isFound
+returns c = rw (c .before .before .before .loop .inv, subst (Finds _ _ _) (c .enum-told .given .1) (c .before .before .find .ensures))
+
+-- the TLV found, and those after it
+got : (f : tie.After-found Inv-loop μ-loop)
+    → FoundAt (f .before .before .before .before .before .args .pdu .now) (f .before .before .before .loop .at) 6 (f .found .given .0 .0)
+got f = subst (Finds _ _ _) (f .found .given .1) (f .before .before .find .ensures)
 
 value-at-requires : tie.Need-value-at-requires Inv-loop μ-loop
-value-at-requires c κs = ?
+value-at-requires c κs = got (c .before) .within
 
 returns-2 : tie.Need-returns-2 Inv-loop μ-loop
-returns-2 c = ?
+unfolding neighboursFault isFound
+returns-2 c =
+    let f = c .before .before .before in
+    rw (f .before .before .before .loop .inv, turn-list (got f) (c .before .value-at .ensures), ne-eqb _ _ (c .if1 .taken))
 
 add-at : tie.Need-add-at Inv-loop μ-loop
-add-at c = ?
+add-at c = omega (arith, turn-within (got (c .before .before .before)) (c .before .value-at .ensures))
 
 add-at-2 : tie.Need-add-at-2 Inv-loop μ-loop
-add-at-2 c = ?
+add-at-2 c = omega (arith, turn-within (got (c .before .before .before)) (c .before .value-at .ensures))
 
 loop-less : tie.Need-loop-less Inv-loop μ-loop
-loop-less c = ?
+loop-less c = rw (turn-list (got (c .before .before .before)) (c .before .value-at .ensures)) (omega arith)
 
 loop-again : tie.Need-loop-again Inv-loop μ-loop
-loop-again c = ?
+unfolding neighboursFault isFound
+loop-again c =
+    let f = c .before .before .before in
+    rw (f .before .before .before .loop .inv, turn-list (got f) (c .before .value-at .ensures), eq-eqb _ _ (c .if1 .left))
 
 pub is-bad-list-spec : {M : Type 1} → statement M
 is-bad-list-spec =

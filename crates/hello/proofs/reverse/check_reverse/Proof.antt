@@ -1,22 +1,25 @@
+-- The rule's outcome decides; a value that keeps it has the five octets that are decoded.
+use mathlib.Core.Path.{sym, _∙_}
+use borrow.Author.Tests.{ltb-false}
 use borrow.Author.Needs.{needs}
+use Rattle.tlv.proofs.BoolLaws.{neither}
+use Rattle.tlv.proofs.Chain.{calls}
+use Rattle.hello.specs.Reverse.{reverseBad}
 use Rattle.hello.proofs.reverse.check_reverse.Statement.{statement}
 use Rattle.hello.proofs.reverse.check_reverse.Tie as tie
-use Rattle.hello.proofs.reverse.check_reverse.Reads as reads
-use Rattle.hello.proofs.reverse.check_reverse.Lts as lts
-use Rattle.hello.proofs.reverse.decode_reverse.Reads as decode-reverse-reads
-use Rattle.hello.proofs.reverse.is_bad_reverse.Reads as is-bad-reverse-reads
 
 is-bad-reverse-requires : tie.Need-is-bad-reverse-requires
 is-bad-reverse-requires c κs = search needs
 
 returns : tie.Need-returns
-returns c = ?
+returns c = search calls
 
 decode-reverse-requires : tie.Need-decode-reverse-requires
-decode-reverse-requires c κs = ?
+unfolding reverseBad
+decode-reverse-requires c κs = ltb-false _ _ (neither _ _ (sym (c .before .is-bad-reverse .ensures) ∙ c .if1 .left) .0)
 
 returns-2 : tie.Need-returns-2
-returns-2 c = ?
+returns-2 c = rw (c .decode-reverse .ensures) (search calls)
 
 pub check-reverse-spec : {M : Type 1} → statement M
 check-reverse-spec =

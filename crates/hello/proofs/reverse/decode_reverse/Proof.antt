@@ -1,11 +1,10 @@
+-- The laws `several-read` and `not-again` turn what `occurrences` tells into the definition's test.
 use borrow.Author.Needs.{needs}
+use Rattle.tlv.proofs.TlvLaws.{not-again}
+use Rattle.hello.specs.Reverse.{reverseOf}
+use Rattle.hello.proofs.ReadLaws.{several-read}
 use Rattle.hello.proofs.reverse.decode_reverse.Statement.{statement}
 use Rattle.hello.proofs.reverse.decode_reverse.Tie as tie
-use Rattle.hello.proofs.reverse.decode_reverse.Reads as reads
-use Rattle.hello.proofs.reverse.decode_reverse.Lts as lts
-use Rattle.tlv.proofs.octets.has_bits.Reads as has-bits-reads
-use Rattle.tlv.proofs.octets.three.Reads as three-reads
-use Rattle.tlv.proofs.tlvs.occurrences.Reads as occurrences-reads
 
 occurrences-requires : tie.Need-occurrences-requires
 occurrences-requires c κs = search needs
@@ -14,7 +13,8 @@ enum-told : tie.Need-enum-told
 enum-told c = search needs
 
 returns : tie.Need-returns
-returns c = ?
+unfolding reverseOf
+returns c = rw (several-read, ← c .before .before .occurrences .ensures .is, c .enum-told .given .1)
 
 three-requires : tie.Need-three-requires
 three-requires c κs = search needs
@@ -32,7 +32,11 @@ has-bits-requires-2 : tie.Need-has-bits-requires-2
 has-bits-requires-2 c κs = search needs
 
 returns-2 : tie.Need-returns-2
-returns-2 c = ?
+unfolding reverseOf
+returns-2 c =
+    let o = c .before .before .before .before .before .before .occurrences in
+    rw (several-read, ← o .ensures .is, not-again _ _ (o .result) (c .before .before .before .before .before .match .keys2))
+    (rw (c .before .before .before .before .three .ensures, c .before .before .has-bits .ensures, c .has-bits2 .ensures))
 
 pub decode-reverse-spec : {M : Type 1} → statement M
 decode-reverse-spec =

@@ -1,12 +1,13 @@
+-- The ruleset `tests` takes `reverseBad` one test at a time.
 use borrow.Author.Needs.{needs}
+use Rattle.tlv.proofs.Chain.{tests}
+use Rattle.hello.specs.Reverse.{reverseBad}
 use Rattle.hello.proofs.reverse.is_bad_reverse.Statement.{statement}
 use Rattle.hello.proofs.reverse.is_bad_reverse.Tie as tie
-use Rattle.hello.proofs.reverse.is_bad_reverse.Reads as reads
-use Rattle.hello.proofs.reverse.is_bad_reverse.Lts as lts
-use Rattle.tlv.proofs.octets.wide.Reads as wide-reads
 
 returns : tie.Need-returns
-returns c = ?
+unfolding reverseBad
+returns c = search tests
 
 shared-slice-read-wide : tie.Need-shared-slice-read-wide
 shared-slice-read-wide c = search needs
@@ -18,7 +19,8 @@ sub-result : tie.Need-sub-result
 sub-result c = search needs
 
 returns-2 : tie.Need-returns-2
-returns-2 c = ?
+unfolding reverseBad
+returns-2 c = rw (← c .wide .ensures .is) (search tests)
 
 pub is-bad-reverse-spec : {M : Type 1} → statement M
 is-bad-reverse-spec =

@@ -1,20 +1,19 @@
+-- The rule's outcome decides; by the law `has-state` a value that breaks none has its first octet.
+use mathlib.Core.Path.{sym, _∙_}
 use borrow.Author.Needs.{needs}
+use Rattle.tlv.proofs.Chain.{calls}
+use Rattle.hello.proofs.ReadLaws.{has-state}
 use Rattle.hello.proofs.three_way.check_three_way.Statement.{statement}
 use Rattle.hello.proofs.three_way.check_three_way.Tie as tie
-use Rattle.hello.proofs.three_way.check_three_way.Reads as reads
-use Rattle.hello.proofs.three_way.check_three_way.Lts as lts
-use Rattle.hello.proofs.three_way.decode_identifiers.Reads as decode-identifiers-reads
-use Rattle.hello.proofs.three_way.decode_state.Reads as decode-state-reads
-use Rattle.hello.proofs.three_way.is_bad_three_way.Reads as is-bad-three-way-reads
 
 is-bad-three-way-requires : tie.Need-is-bad-three-way-requires
 is-bad-three-way-requires c κs = search needs
 
 returns : tie.Need-returns
-returns c = ?
+returns c = search calls
 
 shared-slice-read-decode-state : tie.Need-shared-slice-read-decode-state
-shared-slice-read-decode-state c = ?
+shared-slice-read-decode-state c = has-state _ (sym (c .before .before .is-bad-three-way .ensures) ∙ c .before .if1 .left)
 
 decode-state-requires : tie.Need-decode-state-requires
 decode-state-requires c κs = search needs
@@ -23,7 +22,7 @@ decode-identifiers-requires : tie.Need-decode-identifiers-requires
 decode-identifiers-requires c κs = search needs
 
 returns-2 : tie.Need-returns-2
-returns-2 c = ?
+returns-2 c = rw (c .before .decode-state .ensures, c .decode-identifiers .ensures) (search calls)
 
 pub check-three-way-spec : {M : Type 1} → statement M
 check-three-way-spec =

@@ -1,31 +1,34 @@
+-- The ruleset `tests` takes `identifiersOf` one length at a time.
 use borrow.Author.Needs.{needs}
+use Rattle.tlv.proofs.Chain.{tests}
+use Rattle.hello.specs.ThreeWay.{identifiersOf}
 use Rattle.hello.proofs.three_way.decode_identifiers.Statement.{statement}
 use Rattle.hello.proofs.three_way.decode_identifiers.Tie as tie
-use Rattle.hello.proofs.three_way.decode_identifiers.Reads as reads
-use Rattle.hello.proofs.three_way.decode_identifiers.Lts as lts
-use Rattle.tlv.proofs.octets.four.Reads as four-reads
-use Rattle.tlv.proofs.octets.six.Reads as six-reads
 
 returns : tie.Need-returns
-returns c = ?
+unfolding identifiersOf
+returns c = search tests
 
 four-requires : tie.Need-four-requires
 four-requires c κs = search needs
 
 returns-2 : tie.Need-returns-2
-returns-2 c = ?
+unfolding identifiersOf
+returns-2 c = rw (c .before .four .ensures) (search tests)
 
 six-requires : tie.Need-six-requires
 six-requires c κs = search needs
 
 returns-3 : tie.Need-returns-3
-returns-3 c = ?
+unfolding identifiersOf
+returns-3 c = rw (c .before .before .before .four .ensures, c .before .six .ensures) (search tests)
 
 four-requires-2 : tie.Need-four-requires-2
 four-requires-2 c κs = search needs
 
 returns-4 : tie.Need-returns-4
-returns-4 c = ?
+unfolding identifiersOf
+returns-4 c = rw (c .before .before .before .before .four .ensures, c .before .before .six .ensures, c .four2 .ensures) (search tests)
 
 pub decode-identifiers-spec : {M : Type 1} → statement M
 decode-identifiers-spec =

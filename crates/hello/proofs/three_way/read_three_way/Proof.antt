@@ -1,11 +1,9 @@
+-- The law `three-way-read`, by what `occurrences` tells, and `only-value` for the value that is checked.
 use borrow.Author.Needs.{needs}
+use Rattle.tlv.proofs.TlvLaws.{only-value}
+use Rattle.hello.proofs.ReadLaws.{three-way-read}
 use Rattle.hello.proofs.three_way.read_three_way.Statement.{statement}
 use Rattle.hello.proofs.three_way.read_three_way.Tie as tie
-use Rattle.hello.proofs.three_way.read_three_way.Reads as reads
-use Rattle.hello.proofs.three_way.read_three_way.Lts as lts
-use Rattle.hello.proofs.three_way.check_three_way.Reads as check-three-way-reads
-use Rattle.tlv.proofs.tlvs.occurrences.Reads as occurrences-reads
-use Rattle.tlv.proofs.tlvs.value_of.Reads as value-of-reads
 
 occurrences-requires : tie.Need-occurrences-requires
 occurrences-requires c κs = search needs
@@ -26,13 +24,17 @@ enum-told-2 : tie.Need-enum-told-2
 enum-told-2 c = search needs
 
 returns : tie.Need-returns
-returns c = ?
+returns c = rw (three-way-read, ← c .before .before .occurrences .ensures .is, c .enum-told .given .1)
 
 returns-2 : tie.Need-returns-2
-returns-2 c = ?
+returns-2 c =
+    let s = c .before .before .before in
+    let o = s .before .before .occurrences .ensures in
+    let e = s .seen .given .1 in
+    rw (c .check-three-way .ensures, only-value o e (c .before .value-of .ensures), three-way-read, ← o .is, e)
 
 returns-3 : tie.Need-returns-3
-returns-3 c = ?
+returns-3 c = rw (three-way-read, ← c .before .before .occurrences .ensures .is, c .enum-told2 .given .1)
 
 pub read-three-way-spec : {M : Type 1} → statement M
 read-three-way-spec =

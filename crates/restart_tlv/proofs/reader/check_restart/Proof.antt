@@ -1,11 +1,8 @@
-use mathlib.Core.Path.{_≡_, sym, ap, _∙_}
+-- The rule decides which of the two it is.
+use mathlib.Core.Path.{sym, _∙_}
 use borrow.Author.Needs.{needs}
 use Rattle.restart_tlv.proofs.reader.check_restart.Statement.{statement}
 use Rattle.restart_tlv.proofs.reader.check_restart.Tie as tie
-use Rattle.restart_tlv.proofs.reader.check_restart.Reads as reads
-use Rattle.restart_tlv.proofs.reader.check_restart.Lts as lts
-use Rattle.restart_tlv.proofs.reader.decode_restart.Reads as decode-restart-reads
-use Rattle.restart_tlv.proofs.reader.is_bad_restart.Reads as is-bad-restart-reads
 
 is-bad-restart-requires : tie.Need-is-bad-restart-requires
 is-bad-restart-requires c κs = search needs

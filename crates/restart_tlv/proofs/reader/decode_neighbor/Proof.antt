@@ -1,14 +1,11 @@
+-- Flags that ask for the System ID ask for the length that holds it.
 use Rattle.restart_tlv.proofs.RestartLaws.{neighbor-length}
 use Rattle.restart_tlv.specs.Restart.{neighborOf}
 use native.Mathlib.Omega.{arith}
-use mathlib.Core.Path.{_≡_, sym, ap, _∙_}
+use mathlib.Core.Path.{sym, _∙_}
 use borrow.Author.Needs.{needs}
 use Rattle.restart_tlv.proofs.reader.decode_neighbor.Statement.{statement}
 use Rattle.restart_tlv.proofs.reader.decode_neighbor.Tie as tie
-use Rattle.restart_tlv.proofs.reader.decode_neighbor.Reads as reads
-use Rattle.restart_tlv.proofs.reader.decode_neighbor.Lts as lts
-use Rattle.restart_tlv.proofs.flags.Flags.needs_neighbor.Reads as needs-neighbor-reads
-use Rattle.tlv.proofs.octets.six.Reads as six-reads
 
 needs-neighbor-requires : tie.Need-needs-neighbor-requires
 needs-neighbor-requires c κs = search needs

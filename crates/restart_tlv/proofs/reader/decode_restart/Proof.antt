@@ -1,16 +1,11 @@
+-- The flags that count ask for no more than the octet that came.
 use Rattle.restart_tlv.proofs.RestartLaws.{has-flags, least-le, least-counted}
 use Rattle.restart_tlv.specs.Restart.{restartWith}
 use native.Mathlib.Omega.{arith}
-use mathlib.Core.Path.{_≡_, sym, ap, _∙_}
+use mathlib.Core.Path.{sym, _∙_}
 use borrow.Author.Needs.{needs}
 use Rattle.restart_tlv.proofs.reader.decode_restart.Statement.{statement}
 use Rattle.restart_tlv.proofs.reader.decode_restart.Tie as tie
-use Rattle.restart_tlv.proofs.reader.decode_restart.Reads as reads
-use Rattle.restart_tlv.proofs.reader.decode_restart.Lts as lts
-use Rattle.restart_tlv.proofs.flags.Flags.counted_of.Reads as counted-of-reads
-use Rattle.restart_tlv.proofs.flags.Flags.is_invalid.Reads as is-invalid-reads
-use Rattle.restart_tlv.proofs.reader.decode_neighbor.Reads as decode-neighbor-reads
-use Rattle.restart_tlv.proofs.reader.decode_time.Reads as decode-time-reads
 
 shared-slice-read-counted-of : tie.Need-shared-slice-read-counted-of
 shared-slice-read-counted-of c = has-flags _ (c .before .before .pre)

@@ -1,15 +1,11 @@
-use Rattle.tlv.proofs.Chain.{calls}
+-- Flags that ask for the time ask for the length that holds it.
 use Rattle.restart_tlv.proofs.RestartLaws.{time-length}
 use Rattle.restart_tlv.specs.Restart.{timeOf}
 use native.Mathlib.Omega.{arith}
-use mathlib.Core.Path.{_≡_, sym, _∙_}
+use mathlib.Core.Path.{sym, _∙_}
 use borrow.Author.Needs.{needs}
 use Rattle.restart_tlv.proofs.reader.decode_time.Statement.{statement}
 use Rattle.restart_tlv.proofs.reader.decode_time.Tie as tie
-use Rattle.restart_tlv.proofs.reader.decode_time.Reads as reads
-use Rattle.restart_tlv.proofs.reader.decode_time.Lts as lts
-use Rattle.restart_tlv.proofs.flags.Flags.needs_time.Reads as needs-time-reads
-use Rattle.tlv.proofs.octets.two.Reads as two-reads
 
 needs-time-requires : tie.Need-needs-time-requires
 needs-time-requires c κs = search needs

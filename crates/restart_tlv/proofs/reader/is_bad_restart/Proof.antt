@@ -1,11 +1,9 @@
+-- Each return is one test of `restartBad`.
 use Rattle.restart_tlv.specs.Restart.{restartBad}
 use Rattle.tlv.proofs.Chain.{tests}
 use borrow.Author.Needs.{needs}
 use Rattle.restart_tlv.proofs.reader.is_bad_restart.Statement.{statement}
 use Rattle.restart_tlv.proofs.reader.is_bad_restart.Tie as tie
-use Rattle.restart_tlv.proofs.reader.is_bad_restart.Reads as reads
-use Rattle.restart_tlv.proofs.reader.is_bad_restart.Lts as lts
-use Rattle.restart_tlv.proofs.reader.least_length.Reads as least-length-reads
 
 returns : tie.Need-returns
 unfolding restartBad

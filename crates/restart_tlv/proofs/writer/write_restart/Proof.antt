@@ -1,15 +1,12 @@
+-- Eleven stores in a row are the eleven octets, then what was there.
 use Rattle.tlv.specs.Octets.{octetsOf}
 use Rattle.restart_tlv.specs.Restart.{restartOctets}
 use lib.Seq.{sets-eq}
 use lib.ListN.{length-set}
 use native.Mathlib.Omega.{arith}
-use mathlib.Core.Path.{_≡_, sym, ap, _∙_}
 use borrow.Author.Needs.{needs}
 use Rattle.restart_tlv.proofs.writer.write_restart.Statement.{statement}
 use Rattle.restart_tlv.proofs.writer.write_restart.Tie as tie
-use Rattle.restart_tlv.proofs.writer.write_restart.Reads as reads
-use Rattle.restart_tlv.proofs.writer.write_restart.Lts as lts
-use Rattle.restart_tlv.proofs.writer.flags_of.Reads as flags-of-reads
 
 flags-of-requires : tie.Need-flags-of-requires
 flags-of-requires c κs = search needs

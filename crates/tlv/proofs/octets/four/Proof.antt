@@ -1,11 +1,9 @@
+-- Four octets are two and two: `big-add`.
 use native.Mathlib.Omega.{arith}
 use Rattle.tlv.proofs.OctetsLaws.{big-add}
 use borrow.Author.Needs.{needs}
 use Rattle.tlv.proofs.octets.four.Statement.{statement}
 use Rattle.tlv.proofs.octets.four.Tie as tie
-use Rattle.tlv.proofs.octets.four.Reads as reads
-use Rattle.tlv.proofs.octets.four.Lts as lts
-use Rattle.tlv.proofs.octets.two.Reads as two-reads
 
 two-requires : tie.Need-two-requires
 two-requires c κs = search needs

@@ -1,9 +1,8 @@
+-- The definition itself.
 use mathlib.Core.Path.{refl}
 use Rattle.tlv.specs.Octets.{hasBits}
 use Rattle.tlv.proofs.octets.has_bits.Statement.{statement}
 use Rattle.tlv.proofs.octets.has_bits.Tie as tie
-use Rattle.tlv.proofs.octets.has_bits.Reads as reads
-use Rattle.tlv.proofs.octets.has_bits.Lts as lts
 
 returns : tie.Need-returns
 unfolding hasBits

@@ -1,12 +1,9 @@
+-- Six octets are four and two: `big-add`.
 use native.Mathlib.Omega.{arith}
 use Rattle.tlv.proofs.OctetsLaws.{big-add}
 use borrow.Author.Needs.{needs}
 use Rattle.tlv.proofs.octets.six.Statement.{statement}
 use Rattle.tlv.proofs.octets.six.Tie as tie
-use Rattle.tlv.proofs.octets.six.Reads as reads
-use Rattle.tlv.proofs.octets.six.Lts as lts
-use Rattle.tlv.proofs.octets.four.Reads as four-reads
-use Rattle.tlv.proofs.octets.two.Reads as two-reads
 
 four-requires : tie.Need-four-requires
 four-requires c κs = search needs

@@ -1,11 +1,8 @@
+-- The definition at three octets.
 use Rattle.tlv.specs.Octets.{big}
 use borrow.Author.Needs.{needs}
 use Rattle.tlv.proofs.octets.three.Statement.{statement}
 use Rattle.tlv.proofs.octets.three.Tie as tie
-use Rattle.tlv.proofs.octets.three.Reads as reads
-use Rattle.tlv.proofs.octets.three.Lts as lts
-use Rattle.tlv.proofs.octets.two.Reads as two-reads
-use Rattle.tlv.proofs.octets.wide.Reads as wide-reads
 
 two-requires : tie.Need-two-requires
 two-requires c κs = search needs

@@ -1,12 +1,10 @@
+-- The definition at two octets.
 use native.Mathlib.Nat.{add-zero, zero-add}
 use native.Mathlib.Omega.{arith}
 use Rattle.tlv.specs.Octets.{big}
 use borrow.Author.Needs.{needs}
 use Rattle.tlv.proofs.octets.two.Statement.{statement}
 use Rattle.tlv.proofs.octets.two.Tie as tie
-use Rattle.tlv.proofs.octets.two.Reads as reads
-use Rattle.tlv.proofs.octets.two.Lts as lts
-use Rattle.tlv.proofs.octets.wide.Reads as wide-reads
 
 shared-slice-read-wide : tie.Need-shared-slice-read-wide
 shared-slice-read-wide c = search needs

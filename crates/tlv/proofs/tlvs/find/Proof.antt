@@ -1,15 +1,13 @@
+-- The invariant: no TLV of the type was passed.
 use Rattle.tlv.proofs.TlvLaws.{none, none-cut, here, passed}
-use Rattle.tlv.specs.Tlv.{tlvs, ofType, nextAt}
+use Rattle.tlv.specs.Tlv.{tlvs, ofType}
 use lib.ListN.{length}
 use borrow.Author.Needs.{needs}
 use native.Mathlib.Omega.{arith}
-use mathlib.Core.Path.{_≡_, refl, sym, _∙_}
-use Prim.Native.Nat.{_+_, _-_, _≤_}
+use mathlib.Core.Path.{_≡_, refl, _∙_}
+use Prim.Native.Nat.{_-_}
 use Rattle.tlv.proofs.tlvs.find.Statement.{statement}
 use Rattle.tlv.proofs.tlvs.find.Tie as tie
-use Rattle.tlv.proofs.tlvs.find.Reads as reads
-use Rattle.tlv.proofs.tlvs.find.Lts as lts
-use Rattle.tlv.proofs.octets.wide.Reads as wide-reads
 
 abbrev Inv-loop : tie.InvT-loop
 Inv-loop pdu from kind at₀ at = ofType kind (tlvs pdu from) ≡ ofType kind (tlvs pdu at)

@@ -1,14 +1,11 @@
+-- Two searches in a row, by the laws `found-never`, `found-once` and `found-again`.
 use Rattle.tlv.proofs.TlvLaws.{found-never, found-once, found-again}
 use Rattle.tlv.specs.Tlv.{Finds, FoundAt}
 use native.Mathlib.Omega.{arith}
-use mathlib.Core.Path.{_≡_, ap, subst, sym, _∙_}
+use mathlib.Core.Path.{subst}
 use borrow.Author.Needs.{needs}
 use Rattle.tlv.proofs.tlvs.occurrences.Statement.{statement}
 use Rattle.tlv.proofs.tlvs.occurrences.Tie as tie
-use Rattle.tlv.proofs.tlvs.occurrences.Reads as reads
-use Rattle.tlv.proofs.tlvs.occurrences.Lts as lts
-use Rattle.tlv.proofs.octets.wide.Reads as wide-reads
-use Rattle.tlv.proofs.tlvs.find.Reads as find-reads
 
 find-requires : tie.Need-find-requires
 find-requires c κs = search needs

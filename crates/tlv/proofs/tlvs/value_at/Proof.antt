@@ -1,3 +1,4 @@
+-- The part has the length that its length octet says.
 use Rattle.tlv.specs.Octets.{octet}
 use lib.ListN.{take, drop}
 use native.Mathlib.Omega.{arith}
@@ -6,9 +7,6 @@ use Prim.Native.Nat.{ℕ, _+_, _-_}
 use borrow.Author.Needs.{needs}
 use Rattle.tlv.proofs.tlvs.value_at.Statement.{statement}
 use Rattle.tlv.proofs.tlvs.value_at.Tie as tie
-use Rattle.tlv.proofs.tlvs.value_at.Reads as reads
-use Rattle.tlv.proofs.tlvs.value_at.Lts as lts
-use Rattle.tlv.proofs.octets.wide.Reads as wide-reads
 
 add-from : tie.Need-add-from
 add-from c = search needs

@@ -1,13 +1,9 @@
-use Rattle.tlv.specs.declared.tlvs.Found.the-variants.{At}
+-- What `find` found is the first of the type.
 use Rattle.tlv.specs.Tlv.{Finds, FoundAt, firstValue}
-use mathlib.Core.Path.{_≡_, ap, subst, sym, _∙_}
+use mathlib.Core.Path.{ap, subst, sym, _∙_}
 use borrow.Author.Needs.{needs}
 use Rattle.tlv.proofs.tlvs.value_of.Statement.{statement}
 use Rattle.tlv.proofs.tlvs.value_of.Tie as tie
-use Rattle.tlv.proofs.tlvs.value_of.Reads as reads
-use Rattle.tlv.proofs.tlvs.value_of.Lts as lts
-use Rattle.tlv.proofs.tlvs.find.Reads as find-reads
-use Rattle.tlv.proofs.tlvs.value_at.Reads as value-at-reads
 
 find-requires : tie.Need-find-requires
 find-requires c κs = search needs

@@ -1,15 +1,13 @@
+-- The invariant: what is left to walk ends as the whole does.
 use Rattle.tlv.proofs.TlvLaws.{ended-end, ended-cut, ended-one}
 use Rattle.tlv.specs.Tlv.{tlvs, ended}
 use lib.ListN.{length}
 use borrow.Author.Needs.{needs}
 use native.Mathlib.Omega.{arith}
 use mathlib.Core.Path.{_≡_, refl, sym, _∙_}
-use Prim.Native.Nat.{_+_, _-_, _≤_}
+use Prim.Native.Nat.{_-_}
 use Rattle.tlv.proofs.tlvs.walked.Statement.{statement}
 use Rattle.tlv.proofs.tlvs.walked.Tie as tie
-use Rattle.tlv.proofs.tlvs.walked.Reads as reads
-use Rattle.tlv.proofs.tlvs.walked.Lts as lts
-use Rattle.tlv.proofs.octets.wide.Reads as wide-reads
 
 abbrev Inv-loop : tie.InvT-loop
 Inv-loop pdu from at₀ at = ended (tlvs pdu at) ≡ ended (tlvs pdu from)

@@ -1,12 +1,9 @@
+-- Each return is one case of `counted`.
 use Rattle.restart_tlv.specs.Flags.{counted}
-use mathlib.Core.Path.{_≡_, sym, _∙_}
+use mathlib.Core.Path.{sym, _∙_}
 use borrow.Author.Needs.{needs}
 use Rattle.restart_tlv.proofs.flags.Flags.counted_of.Statement.{statement}
 use Rattle.restart_tlv.proofs.flags.Flags.counted_of.Tie as tie
-use Rattle.restart_tlv.proofs.flags.Flags.counted_of.Reads as reads
-use Rattle.restart_tlv.proofs.flags.Flags.counted_of.Lts as lts
-use Rattle.restart_tlv.proofs.flags.Flags.minus.Reads as minus-reads
-use Rattle.tlv.proofs.octets.has_bits.Reads as has-bits-reads
 
 has-bits-requires : tie.Need-has-bits-requires
 has-bits-requires c κs = search needs

@@ -1,14 +1,11 @@
+-- Each return is one case of `invalid`.
 use Rattle.restart_tlv.specs.Flags.{invalid}
 use borrow.Author.Tests.{le-ltb, lt-ltb}
 use lib.Count.{ones}
 use native.Mathlib.Omega.{arith}
-use mathlib.Core.Path.{_≡_}
 use borrow.Author.Needs.{needs}
 use Rattle.restart_tlv.proofs.flags.Flags.is_invalid.Statement.{statement}
 use Rattle.restart_tlv.proofs.flags.Flags.is_invalid.Tie as tie
-use Rattle.restart_tlv.proofs.flags.Flags.is_invalid.Reads as reads
-use Rattle.restart_tlv.proofs.flags.Flags.is_invalid.Lts as lts
-use Rattle.restart_tlv.proofs.flags.Flags.with.Reads as with-reads
 
 returns : tie.Need-returns
 unfolding invalid

@@ -1,11 +1,9 @@
+-- Each return is one test of `needsNeighbor`.
 use Rattle.restart_tlv.specs.Flags.{needsNeighbor}
 use Rattle.tlv.proofs.Chain.{calls}
 use borrow.Author.Needs.{needs}
 use Rattle.restart_tlv.proofs.flags.Flags.needs_neighbor.Statement.{statement}
 use Rattle.restart_tlv.proofs.flags.Flags.needs_neighbor.Tie as tie
-use Rattle.restart_tlv.proofs.flags.Flags.needs_neighbor.Reads as reads
-use Rattle.restart_tlv.proofs.flags.Flags.needs_neighbor.Lts as lts
-use Rattle.restart_tlv.proofs.flags.Flags.has.Reads as has-reads
 
 has-requires : tie.Need-has-requires
 has-requires c κs = search needs

@@ -1,12 +1,9 @@
+-- Each return is one test of `needsTime`.
 use Rattle.restart_tlv.specs.Flags.{needsTime}
 use Rattle.tlv.proofs.Chain.{calls}
 use borrow.Author.Needs.{needs}
 use Rattle.restart_tlv.proofs.flags.Flags.needs_time.Statement.{statement}
 use Rattle.restart_tlv.proofs.flags.Flags.needs_time.Tie as tie
-use Rattle.restart_tlv.proofs.flags.Flags.needs_time.Reads as reads
-use Rattle.restart_tlv.proofs.flags.Flags.needs_time.Lts as lts
-use Rattle.restart_tlv.proofs.flags.Flags.has.Reads as has-reads
-use Rattle.restart_tlv.proofs.flags.Flags.needs_neighbor.Reads as needs-neighbor-reads
 
 needs-neighbor-requires : tie.Need-needs-neighbor-requires
 needs-neighbor-requires c κs = search needs

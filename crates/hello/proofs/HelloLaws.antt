@@ -1,0 +1,182 @@
+-- The stages of reading a frame: what each finds, and what the next one gets. Each return of `read` cites one of these.
+use Prim.Native.Nat.{ℕ, _≤_, _%_}
+use mathlib.Core.Path.{_≡_, refl, _∙_}
+use mathlib.Core.List.{List}
+use mathlib.Core.Bool.{Bool, true, false, cond, not, _||_}
+use native.Mathlib.Omega.{arith}
+use lib.ListN.{length}
+use lib.Dec.{ltb, eqb, lit≤}
+use borrow.Author.Tests.{ltb-false}
+use Rattle.tlv.specs.Octets.{octet}
+use Rattle.tlv.specs.Tlv.{Tlv, tlvs, ended, ofType, isFound}
+use Rattle.tlv.specs.declared.tlvs.Found.{Found}
+use Rattle.tlv.specs.declared.tlvs.Found.the-variants.{At, Nothing}
+use Rattle.tlv.specs.declared.tlvs.Walk.the-variants.{Whole, Cut}
+use Rattle.tlv.proofs.BoolLaws.{neither, or-true}
+use Rattle.tlv.proofs.TlvLaws.{unless-found, unless-none, unless-is-bad, unless-is-good}
+use Rattle.restart_tlv.specs.Restart.{restartFault}
+use Rattle.hello.specs.Header.{headerOf, notHello, badLength, pduLength}
+use Rattle.hello.specs.Reverse.{reverseFault, reverseIn, reverseRead}
+use Rattle.hello.specs.ThreeWay.{threeWayFault, threeWayIn, threeWayRead}
+use Rattle.hello.specs.Hello.{ofKind, earlier, linkFault, linkOf, linkRead, ruleFault, helloOf, tlvsRead, pduRead}
+use Rattle.hello.specs.declared.reverse.ReverseMetric.{ReverseMetric}
+use Rattle.hello.specs.declared.reverse.ReverseRead.the-variants.{Bad as BadReverse, Good as GoodReverse}
+use Rattle.hello.specs.declared.three_way.ThreeWay.{ThreeWay}
+use Rattle.hello.specs.declared.three_way.ThreeWayRead.the-variants.{Bad as BadThreeWay, Good as GoodThreeWay}
+use Rattle.hello.specs.declared.header.Layout.{Layout}
+use Rattle.hello.specs.declared.header.Layout.the-variants.{Lan, P2p}
+use Rattle.hello.specs.Listed.{neighboursFault}
+use Rattle.hello.specs.declared.read.Link.{Link}
+use Rattle.hello.specs.declared.read.Link.the-variants.{P2p as P2pLink}
+use Rattle.hello.specs.declared.read.LinkRead.the-variants.{Bad, Good}
+use Rattle.hello.specs.declared.read.Read.the-variants.{Refused, Accepted}
+use Rattle.hello.specs.declared.refusal.Refusal.the-variants.{BadTlv, TlvPastEnd}
+
+found-earlier : (a b : Found) → isFound (earlier a b) ≡ (isFound a || isFound b)
+unfolding earlier isFound
+found-earlier Nothing b = refl
+found-earlier (At p) Nothing = refl
+found-earlier (At p) (At q) = refl
+
+found-cond : (b : Bool) (p : ℕ) (f : Found) → isFound (cond b (At p) f) ≡ (b || isFound f)
+unfolding isFound
+found-cond true p f = refl
+found-cond false p f = refl
+
+differ-link : (k : Link) → Good k ≡ Bad → ⊥
+differ-link k e = let z : _≡_ {A = ℕ} 0 1 = cc in omega arith
+
+same-link : (a b : Link) → Good a ≡ Good b → a ≡ b
+same-link a b e = cc
+
+-- refusal 6, by its parts in the order of the code
+module _ (l : Layout) (mac : ℕ) (p : List ℕ) where
+  found-rule : isFound (ruleFault l p) ≡ (eqb (octet p 8 % 4) 0 || (isFound (restartFault (ofKind 211 l p)) || (isFound (reverseFault (ofKind 16 l p)) || isFound (linkFault l p))))
+  unfolding ruleFault
+  found-rule =
+      let r = restartFault (ofKind 211 l p) in
+      let m = reverseFault (ofKind 16 l p) in
+      let k = linkFault l p in
+      found-cond (eqb (octet p 8 % 4) 0) 8 (earlier r (earlier m k)) ∙ rw (found-earlier r (earlier m k), found-earlier m k)
+
+  refused : isFound (ruleFault l p) ≡ true → tlvsRead l mac p ≡ Refused BadTlv
+  unfolding tlvsRead
+  refused e = unless-found (ruleFault l p) _ _ e
+
+  pub by-circuit : eqb (octet p 8 % 4) 0 ≡ true → tlvsRead l mac p ≡ Refused BadTlv
+  by-circuit e = refused (found-rule ∙ rw e)
+
+  pub by-restart : isFound (restartFault (ofKind 211 l p)) ≡ true → tlvsRead l mac p ≡ Refused BadTlv
+  by-restart e = refused (found-rule ∙ rw e (or-true (eqb (octet p 8 % 4) 0)))
+
+  pub by-reverse : isFound (reverseFault (ofKind 16 l p)) ≡ true → tlvsRead l mac p ≡ Refused BadTlv
+  by-reverse e = refused (found-rule ∙ rw (e, or-true (isFound (restartFault (ofKind 211 l p))), or-true (eqb (octet p 8 % 4) 0)))
+
+  pub by-link : isFound (linkFault l p) ≡ true → tlvsRead l mac p ≡ Refused BadTlv
+  by-link e =
+      refused
+      (found-rule
+      ∙ rw (e, or-true (isFound (reverseFault (ofKind 16 l p))), or-true (isFound (restartFault (ofKind 211 l p))), or-true (eqb (octet p 8 % 4) 0)))
+
+  pub accepted : eqb (octet p 8 % 4) 0 ≡ false → isFound (restartFault (ofKind 211 l p)) ≡ false → isFound (reverseFault (ofKind 16 l p)) ≡ false
+      → isFound (linkFault l p) ≡ false → tlvsRead l mac p ≡ Accepted (helloOf l mac p)
+  unfolding tlvsRead
+  accepted c r m k = unless-none (ruleFault l p) _ _ (found-rule ∙ rw (c, r, m, k))
+
+  pub link-is-bad : linkRead l mac p ≡ Bad → isFound (linkFault l p) ≡ true
+  unfolding linkRead
+  link-is-bad = unless-is-bad Good Bad differ-link same-link (linkFault l p) (linkOf l mac p)
+
+  pub link-is-good : (k : Link) → linkRead l mac p ≡ Good k → (isFound (linkFault l p) ≡ false) × (k ≡ linkOf l mac p)
+  unfolding linkRead
+  link-is-good k = unless-is-good Good Bad differ-link same-link (linkFault l p) (linkOf l mac p) k
+
+  -- refusal 5, and what follows it
+  pub at-cut : (q : ℕ) → ended (tlvs p (headerOf l)) ≡ Cut q → pduRead l mac p ≡ Refused TlvPastEnd
+  unfolding pduRead
+  at-cut q e = rw e
+
+  pub at-whole : ended (tlvs p (headerOf l)) ≡ Whole → pduRead l mac p ≡ tlvsRead l mac p
+  unfolding pduRead
+  at-whole e = rw e
+
+-- what a header that passed gives
+pub header-least : (l : Layout) → 20 ≤ headerOf l
+header-least (Lan level) = lit≤ tt
+header-least P2p = lit≤ tt
+
+module _ (s : List ℕ) where
+  pub eight : notHello s ≡ false → 8 ≤ length s
+  unfolding notHello
+  eight e = ltb-false (length s) 8 (neither (ltb (length s) 8) _ e .0)
+
+  -- the header lies within the lent octets and the PDU, and the PDU within the lent octets
+  pub record Lengths (h : ℕ) : Type 0 where
+    pub header : h ≤ length s
+    pub low : h ≤ pduLength s
+    pub lent : pduLength s ≤ length s
+
+  pub lengths : (h : ℕ) → badLength s h ≡ false → Lengths h
+  unfolding badLength
+  lengths h e =
+      let e₁ = neither (ltb (length s) h) _ e in
+      let e₂ = neither (not (eqb (octet s 1) h)) _ (e₁ .1) in
+      let e₃ = neither (ltb (pduLength s) h) _ (e₂ .1) in
+      let e₄ = neither (ltb (length s) (pduLength s)) _ (e₃ .1) in
+      record {
+        header = ltb-false (length s) h (e₁ .0);
+        low = ltb-false (pduLength s) h (e₃ .0);
+        lent = ltb-false (length s) (pduLength s) (e₄ .0);
+      }
+
+-- the readings of the Reverse Metric and the three-way TLV taken apart
+differ-reverse : (r : ReverseMetric) → GoodReverse r ≡ BadReverse → ⊥
+differ-reverse r e = let z : _≡_ {A = ℕ} 0 1 = cc in omega arith
+
+same-reverse : (a b : ReverseMetric) → GoodReverse a ≡ GoodReverse b → a ≡ b
+same-reverse a b e = cc
+
+module _ (ts : List Tlv) where
+  pub reverse-is-bad : reverseRead ts ≡ BadReverse → isFound (reverseFault ts) ≡ true
+  unfolding reverseRead
+  reverse-is-bad = unless-is-bad GoodReverse BadReverse differ-reverse same-reverse (reverseFault ts) (reverseIn ts)
+
+  pub reverse-is-good : (r : ReverseMetric) → reverseRead ts ≡ GoodReverse r → (isFound (reverseFault ts) ≡ false) × (r ≡ reverseIn ts)
+  unfolding reverseRead
+  reverse-is-good r = unless-is-good GoodReverse BadReverse differ-reverse same-reverse (reverseFault ts) (reverseIn ts) r
+
+differ-three-way : (r : ThreeWay) → GoodThreeWay r ≡ BadThreeWay → ⊥
+differ-three-way r e = let z : _≡_ {A = ℕ} 0 1 = cc in omega arith
+
+same-three-way : (a b : ThreeWay) → GoodThreeWay a ≡ GoodThreeWay b → a ≡ b
+same-three-way a b e = cc
+
+module _ (end : ℕ) (ts : List Tlv) where
+  three-way-is-bad : threeWayRead end ts ≡ BadThreeWay → isFound (threeWayFault end ts) ≡ true
+  unfolding threeWayRead
+  three-way-is-bad = unless-is-bad GoodThreeWay BadThreeWay differ-three-way same-three-way (threeWayFault end ts) (threeWayIn ts)
+
+  three-way-is-good : (r : ThreeWay) → threeWayRead end ts ≡ GoodThreeWay r → (isFound (threeWayFault end ts) ≡ false) × (r ≡ threeWayIn ts)
+  unfolding threeWayRead
+  three-way-is-good r = unless-is-good GoodThreeWay BadThreeWay differ-three-way same-three-way (threeWayFault end ts) (threeWayIn ts) r
+
+-- what depends on the circuit's kind
+module _ (level mac : ℕ) (p : List ℕ) where
+  pub lan-bad : isFound (neighboursFault (ofType 6 (tlvs p 27))) ≡ true → linkRead (Lan level) mac p ≡ Bad
+  unfolding linkRead linkFault
+  lan-bad e = unless-found _ _ _ e
+
+  pub lan-good : isFound (neighboursFault (ofType 6 (tlvs p 27))) ≡ false → linkRead (Lan level) mac p ≡ Good (linkOf (Lan level) mac p)
+  unfolding linkRead linkFault
+  lan-good e = unless-none _ _ _ e
+
+module _ (mac : ℕ) (p : List ℕ) where
+  pub p2p-bad : threeWayRead (length p) (ofType 240 (tlvs p 20)) ≡ BadThreeWay → linkRead P2p mac p ≡ Bad
+  unfolding linkRead linkFault
+  p2p-bad e = unless-found _ _ _ (three-way-is-bad _ _ e)
+
+  pub p2p-good : (r : ThreeWay) → threeWayRead (length p) (ofType 240 (tlvs p 20)) ≡ GoodThreeWay r → linkRead P2p mac p ≡ Good (P2pLink r)
+  unfolding linkRead linkFault
+  p2p-good r e =
+      let g = three-way-is-good _ _ r e in
+      unless-none _ _ _ (g .0) ∙ rw (g .1)
