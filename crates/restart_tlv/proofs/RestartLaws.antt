@@ -3,7 +3,11 @@ use Prim.Native.Nat.{ℕ, _≤_, _<_}
 use mathlib.Core.Path.{_≡_, refl}
 use mathlib.Core.List.{List, [], _∷_}
 use mathlib.Core.Bool.{true, false, cond}
+use mathlib.Core.Logic.{_⊎_, inl, inr, ⊎-elim}
 use native.Mathlib.Omega.{arith}
+use types.Run.{OneOf}
+use denote.Enum.Declared.{tagOf}
+use Rattle.restart_tlv.proofs.reader.RestartTlv.{the-type}
 use lib.ListN.{length}
 use lib.Dec.{ltb, leb}
 use borrow.Author.Tests.{ltb-false, leb-true}
@@ -15,7 +19,7 @@ use Rattle.restart_tlv.specs.Flags.{PR, counted, without, needsNeighbor,
 use Rattle.restart_tlv.specs.Restart.{leastLength, restartBad, restartFault, restartIn, restartOf, restartRead}
 use Rattle.restart_tlv.specs.declared.reader.RestartRead.the-variants.{Bad, Good}
 use Rattle.restart_tlv.specs.declared.reader.RestartTlv.{RestartTlv}
-use Rattle.restart_tlv.specs.declared.reader.RestartTlv.the-variants.{Absent}
+use Rattle.restart_tlv.specs.declared.reader.RestartTlv.the-variants.{Absent, Ignored, Present}
 
 -- a value that breaks no rule has its flags, and the length that they ask for
 module _ (v : List ℕ) (e : restartBad v ≡ false) where
@@ -52,6 +56,12 @@ unfolding restartRead
 restart-read [] = lone-read _ _ restartBad []
 restart-read (t ∷ []) = lone-read _ _ restartBad (t ∷ [])
 restart-read (t ∷ u ∷ ts) = lone-read _ _ restartBad (t ∷ u ∷ ts)
+
+-- what a `let .. else` that takes a Present out knows in its else
+pub not-present : (r : RestartTlv) → OneOf (0 ∷ 1 ∷ []) (tagOf the-type r) → (r ≡ Absent) ⊎ (r ≡ Ignored)
+not-present Absent h = inl refl
+not-present Ignored h = inr refl
+not-present (Present f time n) h = absurd (⊎-elim (λ e. omega arith) (λ e. omega arith) h)
 
 differ : (r : RestartTlv) → Good r ≡ Bad → ⊥
 differ r e = let z : _≡_ {A = ℕ} 0 1 = cc in omega arith

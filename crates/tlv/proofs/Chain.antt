@@ -1,7 +1,7 @@
 -- A chain of tests, the first that holds decides: `search chain` proves a return of a function that tests in the chain's
 -- order, for each test's outcome, and what a callee found, stand in the record of what is known there.
 use Prim.Native.Nat.{ℕ}
-use mathlib.Core.Bool.{Bool, true, false, not, cond, _||_}
+use mathlib.Core.Bool.{Bool, true, false, not, cond, _||_, _&&_}
 use mathlib.Core.Path.{_≡_}
 use lib.Dec.{eqb}
 use borrow.Author.Tests.{lt-ltb, le-ltb, eq-eqb, ne-eqb}
@@ -11,6 +11,12 @@ or-here a b h = rw h
 
 pub or-skip : (a b r : Bool) → a ≡ false → r ≡ b → r ≡ (a || b)
 or-skip a b r h k = rw (h, k)
+
+pub and-here : (a b r : Bool) → a ≡ true → r ≡ b → r ≡ (a && b)
+and-here a b r h k = rw (h, k)
+
+pub and-skip : (a b : Bool) → a ≡ false → false ≡ (a && b)
+and-skip a b h = rw h
 
 pub not-here : (a : Bool) → a ≡ false → not a ≡ true
 not-here a h = rw h
@@ -41,7 +47,7 @@ module _ (r x k : ℕ) (p : r ≡ x) where
   eqb-both = rw p
 
 -- tests of the function's own
-pub ruleset tests = (cond-here, cond-skip, or-here, or-skip, not-here, not-skip, lt-ltb, le-ltb, eq-eqb, ne-eqb)
+pub ruleset tests = (cond-here, cond-skip, or-here, or-skip, and-here, and-skip, not-here, not-skip, lt-ltb, le-ltb, eq-eqb, ne-eqb)
 
 -- tests of what callees found
 pub ruleset chain = (or-here, or-skip, via, eqb-yes, eqb-no, eqb-both)

@@ -1,0 +1,5 @@
+pub mod Record
+pub mod Step
+pub mod Marks
+pub mod React
+pub mod Duty

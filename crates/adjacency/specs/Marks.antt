@@ -1,0 +1,90 @@
+-- Marks, expiry and reply of an accepted frame (document 01, "Marks and holding time"; RFC 8706, 3.2.1 to 3.2.3).
+use Prim.Native.Nat.{ℕ, _+_, _-_, min}
+use mathlib.Core.Bool.{Bool, cond, _&&_}
+use Rattle.tlv.specs.Octets.{hasBits}
+use Rattle.restart_tlv.specs.Flags.{RR, SA, PR}
+use Rattle.restart_tlv.specs.declared.flags.Flags.{Flags}
+use Rattle.restart_tlv.specs.declared.reader.RestartTlv.{RestartTlv}
+use Rattle.restart_tlv.specs.declared.reader.RestartTlv.the-variants.{Absent, Ignored, Present}
+use Rattle.restart_tlv.specs.declared.writer.Ack.the-variants.{Restart as RestartAck, Planned as PlannedAck}
+use Rattle.adjacency.specs.Record.{isUp}
+use Rattle.adjacency.specs.declared.record.Mark.{Mark}
+use Rattle.adjacency.specs.declared.record.Mark.the-variants.{Clear, Restart, Planned}
+use Rattle.adjacency.specs.declared.record.Phase.{Phase}
+use Rattle.adjacency.specs.declared.marks.Line.{Line}
+use Rattle.adjacency.specs.declared.marks.Line.the-variants.{Ordinary, One, Two, Three, Four, Five}
+use Rattle.adjacency.specs.declared.marks.Times.{Times}
+use Rattle.adjacency.specs.declared.marks.Acknowledgement.{Acknowledgement}
+use Rattle.adjacency.specs.declared.marks.Acknowledgement.the-variants.{Nothing, Send}
+
+-- the first line that fits, of a mark and of the record's phase before and after: 4 where Planned is marked, else 5
+abbrev pub lastLine : Mark → Line
+lastLine Clear = Five
+lastLine Restart = Five
+lastLine Planned = Four
+
+unfoldable pub planned : Flags → Phase → Phase → Bool
+planned f before after = hasBits (f .bits) PR && (isUp before && isUp after)
+
+-- 1: RR, record UP before. 2: RR, otherwise. 3: PR, record UP before and after (house). A frame with no Restart TLV takes the ordinary
+-- road at once, and so does one whose TLV is ignored (RFC 8706, 3.2).
+unfoldable pub lineOf : RestartTlv → Mark → Phase → Phase → Line
+lineOf Absent mark before after = Ordinary
+lineOf Ignored mark before after = Ordinary
+lineOf (Present f time n) mark before after =
+    cond (hasBits (f .bits) RR) (cond (isUp before) One Two)
+    (cond (planned f before after) Three (lastLine mark))
+
+-- "Holding" means expiry = clock + Holding Time
+abbrev pub holding : Times → ℕ
+holding t = t .clock + t .hold
+
+-- line 1: Planned marked: expiry = clock + configured time. Else Restart not marked: Holding. Else expiry stays.
+abbrev pub firstExpiry : Times → Mark → ℕ
+firstExpiry t Clear = holding t
+firstExpiry t Restart = t .expiry
+firstExpiry t Planned = t .clock + t .configured
+
+-- line 3: Planned not marked: expiry = clock + Remaining Time. Else expiry stays.
+abbrev pub thirdExpiry : Times → Mark → ℕ
+thirdExpiry t Clear = t .clock + t .remaining
+thirdExpiry t Restart = t .clock + t .remaining
+thirdExpiry t Planned = t .expiry
+
+-- line 4: expiry = clock + configured time. Lines 2 and 5 and the ordinary road: Holding.
+abbrev pub expiryBy : Line → Times → Mark → ℕ
+expiryBy Ordinary t mark = holding t
+expiryBy One t mark = firstExpiry t mark
+expiryBy Two t mark = holding t
+expiryBy Three t mark = thirdExpiry t mark
+expiryBy Four t mark = t .clock + t .configured
+expiryBy Five t mark = holding t
+
+-- Line 1 clears Planned and marks Restart; line 3 clears Restart and marks Planned; lines 4 and 5 clear; the ordinary road leaves the
+-- marks as they are (house), and line 2 marks nothing.
+abbrev pub markBy : Line → Mark → Mark
+markBy Ordinary mark = mark
+markBy One mark = Restart
+markBy Two mark = mark
+markBy Three mark = Planned
+markBy Four mark = Clear
+markBy Five mark = Clear
+
+-- SA set marks Suppressed, SA clear unmarks it, on a record of either state; without the TLV it stays as it is (house)
+abbrev pub suppressedBy : RestartTlv → Bool → Bool
+suppressedBy Absent was = was
+suppressedBy Ignored was = was
+suppressedBy (Present f time n) was = hasBits (f .bits) SA
+
+-- Remaining Time = expiry less clock, as far as its two octets go
+abbrev pub remainingOf : ℕ → ℕ → ℕ
+remainingOf expiry clock = min (expiry - clock) 65535
+
+-- lines 1 and 2 reply RA, line 3 replies PA, with this Remaining Time
+abbrev pub replyBy : Line → ℕ → Acknowledgement
+replyBy Ordinary time = Nothing
+replyBy One time = Send RestartAck time
+replyBy Two time = Send RestartAck time
+replyBy Three time = Send PlannedAck time
+replyBy Four time = Nothing
+replyBy Five time = Nothing

@@ -1,0 +1,174 @@
+// Marks, expiry and reply of an accepted frame (document 01, "Marks and holding time").
+use crate::record::Mark;
+use crate::record::Phase;
+use crate::step::is_up;
+use restart_tlv::flags::Flags;
+use restart_tlv::reader::RestartTlv;
+use restart_tlv::writer::Ack;
+ghost use mathlib.Core.Path.{_≡_};
+ghost use Prim.Native.Nat.{_+_};
+ghost use Rattle.adjacency.specs.Marks.{planned, lastLine, lineOf, firstExpiry, thirdExpiry, expiryBy, markBy, suppressedBy, remainingOf, replyBy};
+
+// The line of document 01 that fits a frame; Ordinary is the road of a frame with no Restart TLV.
+pub enum Line {
+    Ordinary,
+    One,
+    Two,
+    Three,
+    Four,
+    Five,
+}
+
+// What an expiry is made of: the clock, the frame's Holding Time, the configured time, the frame's Remaining Time, and the expiry before.
+pub struct Times {
+    pub clock: u32,
+    pub hold: u16,
+    pub configured: u16,
+    pub remaining: u16,
+    pub expiry: u64,
+}
+
+// The reply: none, or RA or PA with a Remaining Time.
+pub enum Acknowledgement {
+    Nothing,
+    Send(Ack, u16),
+}
+
+fn last_line(mark: Mark) -> Line
+    ensures { λ r. ⌜ r ≡ lastLine mark ⌝ }
+{
+    match mark {
+        Mark::Clear => Line::Five,
+        Mark::Restart => Line::Five,
+        Mark::Planned => Line::Four,
+    }
+}
+
+// PR, and the record UP before and after.
+fn is_planned(flags: Flags, phase: Phase, after: Phase) -> bool
+    ensures { λ r. ⌜ r ≡ planned flags phase after ⌝ }
+{
+    if flags.has(Flags::PR) {
+        if is_up(phase) {
+            return is_up(after);
+        }
+        return false;
+    }
+    false
+}
+
+// A frame with no Restart TLV leaves at once.
+pub fn line_of(tlv: RestartTlv, mark: Mark, phase: Phase, after: Phase) -> Line
+    ensures { λ r. ⌜ r ≡ lineOf tlv mark phase after ⌝ }
+{
+    let RestartTlv::Present {
+        flags,
+        time: _,
+        neighbor: _,
+    } = tlv
+    else {
+        return Line::Ordinary;
+    };
+    if flags.has(Flags::RR) {
+        if is_up(phase) {
+            return Line::One;
+        }
+        return Line::Two;
+    }
+    if is_planned(flags, phase, after) {
+        return Line::Three;
+    }
+    last_line(mark)
+}
+
+fn from_clock(clock: u32, time: u16) -> u64
+    ensures { λ r. ⌜ r ≡ clock + time ⌝ }
+{
+    clock as u64 + time as u64
+}
+
+fn first_expiry(times: Times, mark: Mark) -> u64
+    ensures { λ r. ⌜ r ≡ firstExpiry times mark ⌝ }
+{
+    match mark {
+        Mark::Clear => from_clock(times.clock, times.hold),
+        Mark::Restart => times.expiry,
+        Mark::Planned => from_clock(times.clock, times.configured),
+    }
+}
+
+fn third_expiry(times: Times, mark: Mark) -> u64
+    ensures { λ r. ⌜ r ≡ thirdExpiry times mark ⌝ }
+{
+    match mark {
+        Mark::Clear => from_clock(times.clock, times.remaining),
+        Mark::Restart => from_clock(times.clock, times.remaining),
+        Mark::Planned => times.expiry,
+    }
+}
+
+pub fn expiry_by(line: Line, times: Times, mark: Mark) -> u64
+    ensures { λ r. ⌜ r ≡ expiryBy line times mark ⌝ }
+{
+    match line {
+        Line::Ordinary => from_clock(times.clock, times.hold),
+        Line::One => first_expiry(times, mark),
+        Line::Two => from_clock(times.clock, times.hold),
+        Line::Three => third_expiry(times, mark),
+        Line::Four => from_clock(times.clock, times.configured),
+        Line::Five => from_clock(times.clock, times.hold),
+    }
+}
+
+pub fn mark_by(line: Line, mark: Mark) -> Mark
+    ensures { λ r. ⌜ r ≡ markBy line mark ⌝ }
+{
+    match line {
+        Line::Ordinary => mark,
+        Line::One => Mark::Restart,
+        Line::Two => mark,
+        Line::Three => Mark::Planned,
+        Line::Four => Mark::Clear,
+        Line::Five => Mark::Clear,
+    }
+}
+
+pub fn suppressed_by(tlv: RestartTlv, was: bool) -> bool
+    ensures { λ r. ⌜ r ≡ suppressedBy tlv was ⌝ }
+{
+    let RestartTlv::Present {
+        flags,
+        time: _,
+        neighbor: _,
+    } = tlv
+    else {
+        return was;
+    };
+    flags.has(Flags::SA)
+}
+
+pub fn remaining_of(expiry: u64, clock: u32) -> u16
+    ensures { λ r. ⌜ r ≡ remainingOf expiry clock ⌝ }
+{
+    let now = clock as u64;
+    if expiry <= now {
+        return 0;
+    }
+    if 65535 < expiry - now {
+        return 65535;
+    }
+    (expiry - now) as u16
+}
+
+pub fn reply_by(line: Line, time: u16) -> Acknowledgement
+    ensures { λ r. ⌜ r ≡ replyBy line time ⌝ }
+{
+    match line {
+        Line::Ordinary => Acknowledgement::Nothing,
+        Line::One => Acknowledgement::Send(Ack::Restart, time),
+        Line::Two => Acknowledgement::Send(Ack::Restart, time),
+        Line::Three => Acknowledgement::Send(Ack::Planned, time),
+        Line::Four => Acknowledgement::Nothing,
+        Line::Five => Acknowledgement::Nothing,
+    }
+}

@@ -1,0 +1,170 @@
+// One frame's whole effect on the one record with its key.
+use crate::marks::Acknowledgement;
+use crate::marks::Line;
+use crate::marks::Times;
+use crate::marks::expiry_by;
+use crate::marks::line_of;
+use crate::marks::mark_by;
+use crate::marks::remaining_of;
+use crate::marks::reply_by;
+use crate::marks::suppressed_by;
+use crate::record::Adjacency;
+use crate::record::Data;
+use crate::record::Last;
+use crate::record::Mark;
+use crate::record::Phase;
+use crate::record::State;
+use crate::record::is_suppressed;
+use crate::record::mark_of;
+use crate::record::phase_of;
+use crate::record::state_expiry;
+use crate::step::Here;
+use crate::step::is_wrong_neighbor;
+use crate::step::step_of;
+use hello::read::Hello;
+use hello::read::Link;
+use hello::refusal::Refusal;
+use restart_tlv::reader::RestartTlv;
+ghost use mathlib.Core.Path.{_≡_};
+ghost use Rattle.adjacency.specs.React.{priorityOf, hasTlv, timeIn, lastOf, expiryIn, timesOf, stateAs, dataBy, remainingIn, acceptedBy, reactOf};
+
+// Refused (8), or the record afterwards, the reply, and the line that fitted.
+pub enum Reaction {
+    Refused(Refusal),
+    Accepted(Adjacency, Acknowledgement, Line),
+}
+
+fn priority_of(link: Link) -> u8
+    ensures { λ r. ⌜ r ≡ priorityOf link ⌝ }
+{
+    match link {
+        Link::Lan {
+            level: _,
+            priority,
+            listed: _,
+        } => priority,
+        Link::P2p(_) => 0,
+    }
+}
+
+fn has_tlv(tlv: RestartTlv) -> bool
+    ensures { λ r. ⌜ r ≡ hasTlv tlv ⌝ }
+{
+    match tlv {
+        RestartTlv::Absent => false,
+        RestartTlv::Ignored => true,
+        RestartTlv::Present {
+            flags: _,
+            time: _,
+            neighbor: _,
+        } => true,
+    }
+}
+
+fn time_in(tlv: RestartTlv) -> u16
+    ensures { λ r. ⌜ r ≡ timeIn tlv ⌝ }
+{
+    let RestartTlv::Present {
+        flags: _,
+        time,
+        neighbor: _,
+    } = tlv
+    else {
+        return 0;
+    };
+    time
+}
+
+fn last_of(frame: Hello) -> Last
+    ensures { λ r. ⌜ r ≡ lastOf frame ⌝ }
+{
+    let link = frame.link;
+    let tlv = frame.restart;
+    let reverse = frame.reverse;
+    Last {
+        priority: priority_of(link),
+        tlv: has_tlv(tlv),
+        reverse,
+    }
+}
+
+fn expiry_in(adjacency: Adjacency) -> u64
+    ensures { λ r. ⌜ r ≡ expiryIn adjacency ⌝ }
+{
+    let Adjacency::Present(state) = adjacency else {
+        return 0;
+    };
+    state_expiry(state)
+}
+
+fn times_of(here: Here, frame: Hello, adjacency: Adjacency) -> Times
+    ensures { λ r. ⌜ r ≡ timesOf here frame adjacency ⌝ }
+{
+    let tlv = frame.restart;
+    Times {
+        clock: here.clock,
+        hold: frame.hold,
+        configured: here.hold,
+        remaining: time_in(tlv),
+        expiry: expiry_in(adjacency),
+    }
+}
+
+fn state_as(after: Phase, kept: Data, mark: Mark) -> Adjacency
+    ensures { λ r. ⌜ r ≡ stateAs after kept mark ⌝ }
+{
+    match after {
+        Phase::Gone => Adjacency::Absent,
+        Phase::Init => Adjacency::Present(State::Init(kept)),
+        Phase::Up => Adjacency::Present(State::Up(kept, mark)),
+    }
+}
+
+fn data_by(line: Line, here: Here, frame: Hello, adjacency: Adjacency) -> Data
+    ensures { λ r. ⌜ r ≡ dataBy line here frame adjacency ⌝ }
+{
+    let tlv = frame.restart;
+    let times = times_of(here, frame, adjacency);
+    let expiry = expiry_by(line, times, mark_of(adjacency));
+    let suppressed = suppressed_by(tlv, is_suppressed(adjacency));
+    let last = last_of(frame);
+    Data {
+        expiry,
+        suppressed,
+        last,
+    }
+}
+
+fn remaining_in(after: Phase, expiry: u64, clock: u32) -> u16
+    ensures { λ r. ⌜ r ≡ remainingIn after expiry clock ⌝ }
+{
+    match after {
+        Phase::Gone => 0,
+        Phase::Init => remaining_of(expiry, clock),
+        Phase::Up => remaining_of(expiry, clock),
+    }
+}
+
+fn accept(line: Line, after: Phase, here: Here, frame: Hello, adjacency: Adjacency) -> Reaction
+    ensures { λ r. ⌜ r ≡ acceptedBy line after here frame adjacency ⌝ }
+{
+    let data = data_by(line, here, frame, adjacency);
+    let expiry = data.expiry;
+    let state = state_as(after, data, mark_by(line, mark_of(adjacency)));
+    let reply = reply_by(line, remaining_in(after, expiry, here.clock));
+    Reaction::Accepted(state, reply, line)
+}
+
+pub fn react_to(here: Here, frame: Hello, adjacency: Adjacency) -> Reaction
+    ensures { λ r. ⌜ r ≡ reactOf here frame adjacency ⌝ }
+{
+    let link = frame.link;
+    let tlv = frame.restart;
+    let phase = phase_of(adjacency);
+    if is_wrong_neighbor(here, phase, frame, link) {
+        return Reaction::Refused(Refusal::WrongNeighbor);
+    }
+    let after = step_of(here, phase, frame);
+    let line = line_of(tlv, mark_of(adjacency), phase, after);
+    accept(line, after, here, frame, adjacency)
+}

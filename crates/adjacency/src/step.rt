@@ -1,0 +1,224 @@
+// Refusals 7 and 8, and the state step (document 01, "Refusals by number" and "The state step").
+use crate::record::Phase;
+use hello::levels::Levels;
+use hello::read::Hello;
+use hello::read::Link;
+use hello::three_way::Identifiers;
+use hello::three_way::State;
+use hello::three_way::ThreeWay;
+use restart_tlv::flags::Flags;
+use restart_tlv::reader::RestartTlv;
+ghost use mathlib.Core.Path.{_≡_};
+ghost use Rattle.adjacency.specs.Record.{isUp};
+ghost use Rattle.adjacency.specs.Step.{wrongId, keptUp, hasLevel, levelOff, wrongSource, requests, wrongSystem, wrongCircuit, excused, wrongNeighbor, lanStep, p2pStep, asInit, linkStep, stepOf};
+
+// What is known where a frame comes: the clock, whether the mode is Restarting, our System ID, and the circuit's own extended circuit
+// ID and configured holding time.
+pub struct Here {
+    pub clock: u32,
+    pub restarting: bool,
+    pub own: u64,
+    pub circuit: u32,
+    pub hold: u16,
+}
+
+fn has_level(levels: Levels, level: u8) -> bool
+    ensures { λ r. ⌜ r ≡ hasLevel levels level ⌝ }
+{
+    if level == 1 {
+        return levels.one;
+    }
+    if level == 2 {
+        return levels.two;
+    }
+    false
+}
+
+fn is_level_off(levels: Levels, link: Link) -> bool
+    ensures { λ r. ⌜ r ≡ levelOff levels link ⌝ }
+{
+    match link {
+        Link::Lan {
+            level,
+            priority: _,
+            listed: _,
+        } => !has_level(levels, level),
+        Link::P2p(_) => false,
+    }
+}
+
+// Refusal 7.
+pub fn is_wrong_source(levels: Levels, own: u64, frame: Hello) -> bool
+    ensures { λ r. ⌜ r ≡ wrongSource levels own frame ⌝ }
+{
+    let link = frame.link;
+    let system = frame.system;
+    if is_level_off(levels, link) {
+        return true;
+    }
+    system == own
+}
+
+pub fn is_up(phase: Phase) -> bool
+    ensures { λ r. ⌜ r ≡ isUp phase ⌝ }
+{
+    match phase {
+        Phase::Gone => false,
+        Phase::Init => false,
+        Phase::Up => true,
+    }
+}
+
+fn is_request(tlv: RestartTlv) -> bool
+    ensures { λ r. ⌜ r ≡ requests tlv ⌝ }
+{
+    let RestartTlv::Present {
+        flags,
+        time: _,
+        neighbor: _,
+    } = tlv
+    else {
+        return false;
+    };
+    flags.has(Flags::RR)
+}
+
+fn is_wrong_system(own: u64, ids: Identifiers) -> bool
+    ensures { λ r. ⌜ r ≡ wrongSystem own ids ⌝ }
+{
+    match ids {
+        Identifiers::Absent => false,
+        Identifiers::Own(_) => false,
+        Identifiers::Neighbor(_, system) => system != own,
+        Identifiers::Whole(_, system, _) => system != own,
+    }
+}
+
+fn is_wrong_circuit(own: u32, ids: Identifiers) -> bool
+    ensures { λ r. ⌜ r ≡ wrongCircuit own ids ⌝ }
+{
+    match ids {
+        Identifiers::Absent => false,
+        Identifiers::Own(_) => false,
+        Identifiers::Neighbor(_, _) => false,
+        Identifiers::Whole(_, _, circuit) => circuit != own,
+    }
+}
+
+fn is_wrong_id(here: Here, ids: Identifiers) -> bool
+    ensures { λ r. ⌜ r ≡ wrongId here ids ⌝ }
+{
+    if is_wrong_system(here.own, ids) {
+        return true;
+    }
+    is_wrong_circuit(here.circuit, ids)
+}
+
+fn is_excused(request: bool, up: bool, system: bool, restarting: bool) -> bool
+    ensures { λ r. ⌜ r ≡ excused request up system restarting ⌝ }
+{
+    if up {
+        return request;
+    }
+    if system {
+        return false;
+    }
+    restarting
+}
+
+// Refusal 8.
+pub fn is_wrong_neighbor(here: Here, phase: Phase, frame: Hello, link: Link) -> bool
+    ensures { λ r. ⌜ r ≡ wrongNeighbor here phase frame link ⌝ }
+{
+    let Link::P2p(three_way) = link else {
+        return false;
+    };
+    let tlv = frame.restart;
+    let ids = three_way.ids;
+    if is_wrong_id(here, ids) {
+        let system = is_wrong_system(here.own, ids);
+        return !is_excused(is_request(tlv), is_up(phase), system, here.restarting);
+    }
+    false
+}
+
+fn step_lan(listed: bool) -> Phase
+    ensures { λ r. ⌜ r ≡ lanStep listed ⌝ }
+{
+    if listed {
+        return Phase::Up;
+    }
+    Phase::Init
+}
+
+fn step_p2p(phase: Phase, state: State) -> Phase
+    ensures { λ r. ⌜ r ≡ p2pStep phase state ⌝ }
+{
+    match state {
+        State::Down => Phase::Init,
+        State::Initializing => Phase::Up,
+        State::Up => match phase {
+            Phase::Gone => Phase::Gone,
+            Phase::Init => Phase::Up,
+            Phase::Up => Phase::Up,
+        },
+    }
+}
+
+fn as_init(phase: Phase) -> Phase
+    ensures { λ r. ⌜ r ≡ asInit phase ⌝ }
+{
+    match phase {
+        Phase::Gone => Phase::Init,
+        Phase::Init => Phase::Init,
+        Phase::Up => Phase::Up,
+    }
+}
+
+fn step_link(here: Here, phase: Phase, link: Link) -> Phase
+    ensures { λ r. ⌜ r ≡ linkStep here phase link ⌝ }
+{
+    match link {
+        Link::Lan {
+            level: _,
+            priority: _,
+            listed,
+        } => step_lan(listed),
+        Link::P2p(three_way) => step_three_way(here, phase, three_way),
+    }
+}
+
+fn step_three_way(here: Here, phase: Phase, tlv: ThreeWay) -> Phase
+    ensures { λ r. ⌜ r ≡ linkStep here phase (Link.P2p tlv) ⌝ }
+{
+    let state = tlv.state;
+    let ids = tlv.ids;
+    if here.restarting {
+        if is_wrong_circuit(here.circuit, ids) {
+            return Phase::Init;
+        }
+        return step_p2p(as_init(phase), state);
+    }
+    step_p2p(phase, state)
+}
+
+fn is_kept_up(tlv: RestartTlv, phase: Phase) -> bool
+    ensures { λ r. ⌜ r ≡ keptUp tlv phase ⌝ }
+{
+    if is_request(tlv) {
+        return is_up(phase);
+    }
+    false
+}
+
+// The record's phase after an accepted frame.
+pub fn step_of(here: Here, phase: Phase, frame: Hello) -> Phase
+    ensures { λ r. ⌜ r ≡ stepOf here phase frame ⌝ }
+{
+    let tlv = frame.restart;
+    let link = frame.link;
+    if is_kept_up(tlv, phase) {
+        return Phase::Up;
+    }
+    step_link(here, phase, link)
+}
