@@ -1,3 +1,4 @@
+-- The line that was matched decides `csnpsOf`.
 use Rattle.adjacency.specs.Duty.{csnpsOf}
 use borrow.Author.Needs.{needs}
 use Rattle.adjacency.proofs.duty.csnps_of.Statement.{statement}

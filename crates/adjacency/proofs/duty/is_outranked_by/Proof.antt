@@ -1,3 +1,4 @@
+-- The level decides, then `rival`.
 use Rattle.adjacency.specs.Duty.{outranks}
 use borrow.Author.Tests.{eq-eqb, ne-eqb}
 use borrow.Author.Needs.{needs}

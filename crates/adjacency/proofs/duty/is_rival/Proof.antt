@@ -1,3 +1,4 @@
+-- Each return is one test of `rival` on an UP state.
 use mathlib.Core.Path.{sym, _∙_}
 use borrow.Author.Needs.{needs}
 use Rattle.adjacency.proofs.duty.is_rival.Statement.{statement}

@@ -1,3 +1,4 @@
+-- The link that was matched decides `linkCsnps`.
 use borrow.Author.Needs.{needs}
 use Rattle.adjacency.proofs.duty.link_csnps.Statement.{statement}
 use Rattle.adjacency.proofs.duty.link_csnps.Tie as tie

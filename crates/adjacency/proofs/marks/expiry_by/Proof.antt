@@ -1,3 +1,4 @@
+-- The line that was matched decides `expiryBy`.
 use borrow.Author.Needs.{needs}
 use Rattle.adjacency.proofs.marks.expiry_by.Statement.{statement}
 use Rattle.adjacency.proofs.marks.expiry_by.Tie as tie

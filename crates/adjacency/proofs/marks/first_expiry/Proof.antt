@@ -1,3 +1,4 @@
+-- The mark that was matched decides `firstExpiry`.
 use borrow.Author.Needs.{needs}
 use Rattle.adjacency.proofs.marks.first_expiry.Statement.{statement}
 use Rattle.adjacency.proofs.marks.first_expiry.Tie as tie

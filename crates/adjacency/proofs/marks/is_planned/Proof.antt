@@ -1,3 +1,4 @@
+-- Each return is one test of `planned`.
 use Rattle.adjacency.specs.Marks.{planned}
 use mathlib.Core.Path.{sym, _∙_}
 use borrow.Author.Needs.{needs}

@@ -1,3 +1,4 @@
+-- Each return is one test of `lineOf`; `not-present` covers the ordinary road.
 use Rattle.restart_tlv.proofs.RestartLaws.{not-present}
 use Rattle.adjacency.specs.Marks.{lineOf}
 use mathlib.Core.Logic.{⊎-elim}

@@ -1,3 +1,4 @@
+-- The line that was matched decides `replyBy`.
 use borrow.Author.Needs.{needs}
 use Rattle.adjacency.proofs.marks.reply_by.Statement.{statement}
 use Rattle.adjacency.proofs.marks.reply_by.Tie as tie

@@ -1,3 +1,4 @@
+-- The mark that was matched decides `thirdExpiry`.
 use borrow.Author.Needs.{needs}
 use Rattle.adjacency.proofs.marks.third_expiry.Statement.{statement}
 use Rattle.adjacency.proofs.marks.third_expiry.Tie as tie

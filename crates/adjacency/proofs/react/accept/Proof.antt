@@ -1,3 +1,4 @@
+-- The callees in the order of `acceptedBy`.
 use Rattle.adjacency.specs.React.{acceptedBy}
 use borrow.Author.Needs.{needs}
 use Rattle.adjacency.proofs.react.accept.Statement.{statement}

@@ -1,3 +1,4 @@
+-- The callees in the order of `dataBy`.
 use Rattle.adjacency.specs.React.{dataBy}
 use borrow.Author.Needs.{needs}
 use Rattle.adjacency.proofs.react.data_by.Statement.{statement}

@@ -1,3 +1,4 @@
+-- The callees in the order of `lastOf`.
 use borrow.Author.Needs.{needs}
 use Rattle.adjacency.proofs.react.last_of.Statement.{statement}
 use Rattle.adjacency.proofs.react.last_of.Tie as tie

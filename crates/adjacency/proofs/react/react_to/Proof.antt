@@ -1,3 +1,4 @@
+-- Refusal 8, or the stages of `reactOf`.
 use Rattle.adjacency.specs.React.{reactOf, lineIn}
 use mathlib.Core.Path.{sym, _∙_}
 use borrow.Author.Needs.{needs}

@@ -1,3 +1,4 @@
+-- The phase that was matched decides `remainingIn`.
 use borrow.Author.Needs.{needs}
 use Rattle.adjacency.proofs.react.remaining_in.Statement.{statement}
 use Rattle.adjacency.proofs.react.remaining_in.Tie as tie

@@ -1,3 +1,4 @@
+-- The phase that was matched decides `stateAs`.
 use borrow.Author.Needs.{needs}
 use Rattle.adjacency.proofs.react.state_as.Statement.{statement}
 use Rattle.adjacency.proofs.react.state_as.Tie as tie

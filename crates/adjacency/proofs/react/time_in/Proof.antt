@@ -1,3 +1,4 @@
+-- A TLV that counts has its time; `not-present` covers the rest.
 use Rattle.restart_tlv.proofs.RestartLaws.{not-present}
 use mathlib.Core.Logic.{⊎-elim}
 use borrow.Author.Needs.{needs}

@@ -1,3 +1,4 @@
+-- The callees in the order of `timesOf`.
 use borrow.Author.Needs.{needs}
 use Rattle.adjacency.proofs.react.times_of.Statement.{statement}
 use Rattle.adjacency.proofs.react.times_of.Tie as tie

@@ -1,3 +1,4 @@
+-- Each return is one test of `hasLevel`.
 use Rattle.tlv.proofs.Chain.{tests}
 use Rattle.adjacency.proofs.step.has_level.Statement.{statement}
 use Rattle.adjacency.proofs.step.has_level.Tie as tie

@@ -1,3 +1,4 @@
+-- Each return is one law of `excused`.
 use Rattle.adjacency.proofs.StepLaws.{excused-up, excused-named, excused-circuit}
 use Rattle.adjacency.proofs.step.is_excused.Statement.{statement}
 use Rattle.adjacency.proofs.step.is_excused.Tie as tie

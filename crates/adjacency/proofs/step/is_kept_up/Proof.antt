@@ -1,3 +1,4 @@
+-- Each return is one test of `keptUp`.
 use Rattle.adjacency.specs.Step.{keptUp}
 use mathlib.Core.Path.{sym, _∙_}
 use borrow.Author.Needs.{needs}

@@ -1,3 +1,4 @@
+-- The link that was matched decides `levelOff`.
 use borrow.Author.Needs.{needs}
 use Rattle.adjacency.proofs.step.is_level_off.Statement.{statement}
 use Rattle.adjacency.proofs.step.is_level_off.Tie as tie

@@ -1,3 +1,4 @@
+-- The identifiers that were matched decide `wrongCircuit`.
 use borrow.Author.Needs.{needs}
 use Rattle.adjacency.proofs.step.is_wrong_circuit.Statement.{statement}
 use Rattle.adjacency.proofs.step.is_wrong_circuit.Tie as tie

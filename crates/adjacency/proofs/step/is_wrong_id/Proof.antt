@@ -1,3 +1,4 @@
+-- Each return is one test of `wrongId`.
 use Rattle.adjacency.specs.Step.{wrongId}
 use Rattle.tlv.proofs.Chain.{calls}
 use borrow.Author.Needs.{needs}

@@ -1,3 +1,4 @@
+-- On P2P each return is one test of `wrongNeighbor`.
 use Rattle.adjacency.specs.Step.{wrongNeighbor}
 use mathlib.Core.Path.{sym, _∙_}
 use borrow.Author.Needs.{needs}

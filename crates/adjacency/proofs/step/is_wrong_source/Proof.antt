@@ -1,3 +1,4 @@
+-- Each return is one test of `wrongSource`.
 use Rattle.adjacency.specs.Step.{wrongSource}
 use Rattle.tlv.proofs.Chain.{calls}
 use borrow.Author.Needs.{needs}

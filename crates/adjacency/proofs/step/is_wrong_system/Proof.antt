@@ -1,3 +1,4 @@
+-- The identifiers that were matched decide `wrongSystem`.
 use borrow.Author.Needs.{needs}
 use Rattle.adjacency.proofs.step.is_wrong_system.Statement.{statement}
 use Rattle.adjacency.proofs.step.is_wrong_system.Tie as tie

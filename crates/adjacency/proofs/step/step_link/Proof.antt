@@ -1,3 +1,4 @@
+-- The link that was matched decides `linkStep`.
 use Rattle.adjacency.specs.Step.{linkStep}
 use borrow.Author.Needs.{needs}
 use Rattle.adjacency.proofs.step.step_link.Statement.{statement}

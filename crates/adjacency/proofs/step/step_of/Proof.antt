@@ -1,3 +1,4 @@
+-- Each return is one test of `stepOf`.
 use Rattle.adjacency.specs.Step.{stepOf}
 use mathlib.Core.Path.{sym, _∙_}
 use borrow.Author.Needs.{needs}

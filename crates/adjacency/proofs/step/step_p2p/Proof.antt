@@ -1,3 +1,4 @@
+-- Down and Initializing decide by two laws; Up goes by the phase.
 use Rattle.adjacency.proofs.StepLaws.{step-down, step-initializing}
 use borrow.Author.Needs.{needs}
 use Rattle.adjacency.proofs.step.step_p2p.Statement.{statement}

@@ -1,3 +1,4 @@
+-- Each return is one test of `linkStep` on P2P.
 use Rattle.adjacency.specs.Step.{linkStep}
 use mathlib.Core.Path.{sym, _∙_}
 use borrow.Author.Needs.{needs}
