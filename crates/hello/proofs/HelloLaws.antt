@@ -8,12 +8,13 @@ use lib.ListN.{length}
 use lib.Dec.{ltb, eqb, lit≤}
 use borrow.Author.Tests.{ltb-false}
 use Rattle.tlv.specs.Octets.{octet}
-use Rattle.tlv.specs.Tlv.{Tlv, tlvs, ended, ofType, isFound}
+use Rattle.tlv.specs.Tlv.{Tlv, tlvs, cutAt, walkOf, ofType, isFound}
 use Rattle.tlv.specs.declared.tlvs.Found.{Found}
 use Rattle.tlv.specs.declared.tlvs.Found.the-variants.{At, Nothing}
+use Rattle.tlv.specs.declared.tlvs.Counts.{Counts}
 use Rattle.tlv.specs.declared.tlvs.Walk.the-variants.{Whole, Cut}
 use Rattle.tlv.proofs.BoolLaws.{neither, or-true}
-use Rattle.tlv.proofs.TlvLaws.{unless-found, unless-none, unless-is-bad, unless-is-good}
+use Rattle.tlv.proofs.TlvLaws.{unless-found, unless-none, unless-is-bad, unless-is-good, walk-is-cut, walk-is-whole}
 use Rattle.restart_tlv.specs.Restart.{restartFault}
 use Rattle.hello.specs.Header.{headerOf, notHello, badLength, pduLength}
 use Rattle.hello.specs.Reverse.{reverseFault, reverseIn, reverseRead}
@@ -25,9 +26,10 @@ use Rattle.hello.specs.declared.three_way.ThreeWay.{ThreeWay}
 use Rattle.hello.specs.declared.three_way.ThreeWayRead.the-variants.{Bad as BadThreeWay, Good as GoodThreeWay}
 use Rattle.hello.specs.declared.header.Layout.{Layout}
 use Rattle.hello.specs.declared.header.Layout.the-variants.{Lan, P2p}
-use Rattle.hello.specs.Listed.{neighboursFault}
+use Rattle.hello.specs.Listed.{neighboursFault, listed, listRead}
+use Rattle.hello.specs.declared.listed.ListRead.the-variants.{Bad as BadList, Good as GoodList}
 use Rattle.hello.specs.declared.read.Link.{Link}
-use Rattle.hello.specs.declared.read.Link.the-variants.{P2p as P2pLink}
+use Rattle.hello.specs.declared.read.Link.the-variants.{Lan as LanLink, P2p as P2pLink}
 use Rattle.hello.specs.declared.read.LinkRead.the-variants.{Bad, Good}
 use Rattle.hello.specs.declared.read.Read.the-variants.{Refused, Accepted}
 use Rattle.hello.specs.declared.refusal.Refusal.the-variants.{BadTlv, TlvPastEnd}
@@ -92,13 +94,13 @@ module _ (l : Layout) (mac : ℕ) (p : List ℕ) where
   link-is-good k = unless-is-good Good Bad differ-link same-link (linkFault l p) (linkOf l mac p) k
 
   -- refusal 5, and what follows it
-  pub at-cut : (q : ℕ) → ended (tlvs p (headerOf l)) ≡ Cut q → pduRead l mac p ≡ Refused TlvPastEnd
+  pub at-cut : (q : ℕ) → walkOf (tlvs p (headerOf l)) ≡ Cut q → pduRead l mac p ≡ Refused TlvPastEnd
   unfolding pduRead
-  at-cut q e = rw e
+  at-cut q e = unless-found (cutAt (tlvs p (headerOf l))) _ _ (walk-is-cut _ q e)
 
-  pub at-whole : ended (tlvs p (headerOf l)) ≡ Whole → pduRead l mac p ≡ tlvsRead l mac p
+  pub at-whole : (n : Counts) → walkOf (tlvs p (headerOf l)) ≡ Whole n → pduRead l mac p ≡ tlvsRead l mac p
   unfolding pduRead
-  at-whole e = rw e
+  at-whole n e = unless-none (cutAt (tlvs p (headerOf l))) _ _ (walk-is-whole _ n e .0)
 
 -- what a header that passed gives
 pub header-least : (l : Layout) → 20 ≤ headerOf l
@@ -161,14 +163,31 @@ module _ (end : ℕ) (ts : List Tlv) where
   three-way-is-good r = unless-is-good GoodThreeWay BadThreeWay differ-three-way same-three-way (threeWayFault end ts) (threeWayIn ts) r
 
 -- what depends on the circuit's kind
-module _ (level mac : ℕ) (p : List ℕ) where
-  pub lan-bad : isFound (neighboursFault (ofType 6 (tlvs p 27))) ≡ true → linkRead (Lan level) mac p ≡ Bad
-  unfolding linkRead linkFault
-  lan-bad e = unless-found _ _ _ e
+differ-list : (b : Bool) → GoodList b ≡ BadList → ⊥
+differ-list b e = let z : _≡_ {A = ℕ} 0 1 = cc in omega arith
 
-  pub lan-good : isFound (neighboursFault (ofType 6 (tlvs p 27))) ≡ false → linkRead (Lan level) mac p ≡ Good (linkOf (Lan level) mac p)
+same-list : (a b : Bool) → GoodList a ≡ GoodList b → a ≡ b
+same-list a b e = cc
+
+module _ (mac : ℕ) (ts : List Tlv) where
+  list-is-bad : listRead mac ts ≡ BadList → isFound (neighboursFault ts) ≡ true
+  unfolding listRead
+  list-is-bad = unless-is-bad GoodList BadList differ-list same-list (neighboursFault ts) (listed mac ts)
+
+  list-is-good : (b : Bool) → listRead mac ts ≡ GoodList b → (isFound (neighboursFault ts) ≡ false) × (b ≡ listed mac ts)
+  unfolding listRead
+  list-is-good b = unless-is-good GoodList BadList differ-list same-list (neighboursFault ts) (listed mac ts) b
+
+module _ (level mac : ℕ) (p : List ℕ) where
+  pub lan-bad : listRead mac (ofType 6 (tlvs p 27)) ≡ BadList → linkRead (Lan level) mac p ≡ Bad
   unfolding linkRead linkFault
-  lan-good e = unless-none _ _ _ e
+  lan-bad e = unless-found _ _ _ (list-is-bad _ _ e)
+
+  pub lan-good : (b : Bool) → listRead mac (ofType 6 (tlvs p 27)) ≡ GoodList b → linkRead (Lan level) mac p ≡ Good (LanLink level (octet p 19 % 128) b)
+  unfolding linkRead linkFault
+  lan-good b e =
+      let g = list-is-good _ _ b e in
+      unless-none _ _ _ (g .0) ∙ rw (g .1)
 
 module _ (mac : ℕ) (p : List ℕ) where
   pub p2p-bad : threeWayRead (length p) (ofType 240 (tlvs p 20)) ≡ BadThreeWay → linkRead P2p mac p ≡ Bad

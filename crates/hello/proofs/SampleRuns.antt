@@ -5,7 +5,7 @@ use mathlib.Core.List.{List, [], _∷_}
 use lib.ListN.{length}
 use lib.Count.{ones, onesIn}
 use Rattle.tlv.specs.Octets.{big, hasBits}
-use Rattle.tlv.specs.Tlv.{tlvs, tlvsUp, ended, ofType, loneFault, unless}
+use Rattle.tlv.specs.Tlv.{tlvs, tlvsUp, cutAt, ofType, loneFault, unless}
 use Rattle.restart_tlv.specs.Flags.{counted, without, invalid, needsNeighbor, needsTime}
 use Rattle.restart_tlv.specs.Restart.{leastLength, restartBad, restartWith, timeOf, neighborOf}
 use Rattle.restart_tlv.specs.declared.reader.Neighbor.the-variants.{Unnamed}
@@ -46,5 +46,5 @@ pub c8 : (reading [] ≡ Refused BadTlv)
       reverse = NoMetric;
       link = P2p (record { state = Up; ids = NoIdentifiers });
     }))
-unfolding helloRead layoutOf notHello badLength layoutRead pduRead tlvsRead ruleFault earlier linkFault big hasBits tlvs tlvsUp ended ofType loneFault unless counted without invalid needsNeighbor needsTime leastLength restartBad restartWith timeOf neighborOf threeWayBad threeWayLength stateOf identifiersOf ones onesIn
+unfolding helloRead layoutOf notHello badLength layoutRead pduRead tlvsRead ruleFault earlier linkFault big hasBits tlvs tlvsUp cutAt ofType loneFault unless counted without invalid needsNeighbor needsTime leastLength restartBad restartWith timeOf neighborOf threeWayBad threeWayLength stateOf identifiersOf ones onesIn
 c8 = (refl, refl, refl, refl, refl)

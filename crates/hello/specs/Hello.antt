@@ -6,11 +6,9 @@ use mathlib.Core.Bool.{cond}
 use lib.ListN.{length, take}
 use lib.Dec.{eqb}
 use Rattle.tlv.specs.Octets.{octet, big}
-use Rattle.tlv.specs.Tlv.{Tlv, tlvs, ended, ofType, unless}
+use Rattle.tlv.specs.Tlv.{Tlv, tlvs, cutAt, ofType, unless}
 use Rattle.tlv.specs.declared.tlvs.Found.{Found}
 use Rattle.tlv.specs.declared.tlvs.Found.the-variants.{At, Nothing}
-use Rattle.tlv.specs.declared.tlvs.Walk.{Walk}
-use Rattle.tlv.specs.declared.tlvs.Walk.the-variants.{Whole, Cut}
 use Rattle.hello.specs.Header.{layoutOf, headerOf, notHello, badLength, pduLength}
 use Rattle.restart_tlv.specs.Restart.{restartFault, restartIn}
 use Rattle.hello.specs.ThreeWay.{threeWayFault, threeWayIn}
@@ -71,15 +69,11 @@ helloOf l mac p =
     }
 
 -- refusal 5, then refusal 6, of a PDU whose header passed
-abbrev pub afterWalk : Walk → Read → Read
-afterWalk Whole r = r
-afterWalk (Cut p) r = Refused TlvPastEnd
-
 unfoldable pub tlvsRead : Layout → ℕ → List ℕ → Read
 tlvsRead l mac p = unless (ruleFault l p) (Accepted (helloOf l mac p)) (Refused BadTlv)
 
 unfoldable pub pduRead : Layout → ℕ → List ℕ → Read
-pduRead l mac p = afterWalk (ended (tlvs p (headerOf l))) (tlvsRead l mac p)
+pduRead l mac p = unless (cutAt (tlvs p (headerOf l))) (tlvsRead l mac p) (Refused TlvPastEnd)
 
 -- refusal 3's last test, then refusal 4. Lent octets past the PDU Length are never read.
 unfoldable pub layoutRead : Selected → ℕ → List ℕ → Read

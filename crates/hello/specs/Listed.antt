@@ -4,9 +4,11 @@ use mathlib.Core.List.{List, [], _∷_}
 use mathlib.Core.Bool.{Bool, false, cond, _||_}
 use lib.ListN.{length}
 use lib.Dec.{eqb}
-use Rattle.tlv.specs.Tlv.{Tlv}
+use Rattle.tlv.specs.Tlv.{Tlv, unless}
 use Rattle.tlv.specs.declared.tlvs.Found.{Found}
 use Rattle.tlv.specs.declared.tlvs.Found.the-variants.{At, Nothing}
+use Rattle.hello.specs.declared.listed.ListRead.{ListRead}
+use Rattle.hello.specs.declared.listed.ListRead.the-variants.{Bad, Good}
 use Rattle.neighbours.specs.Neighbours.{listedIn}
 
 -- length a multiple of 6; the first whose length is not
@@ -18,3 +20,6 @@ neighboursFault (t ∷ ts) = cond (eqb (length (t .value) % 6) 0) (neighboursFau
 unfoldable pub listed : ℕ → List Tlv → Bool
 listed mac [] = false
 listed mac (t ∷ ts) = listedIn mac (t .value) || listed mac ts
+
+unfoldable pub listRead : ℕ → List Tlv → ListRead
+listRead mac ts = unless (neighboursFault ts) (Good (listed mac ts)) Bad

@@ -5,7 +5,7 @@ use mathlib.Core.Bool.{Bool, true, false, not, cond, _||_}
 use lib.ListN.{length}
 use lib.Dec.{ltb, eqb}
 use Rattle.tlv.specs.Octets.{octet, big, hasBits}
-use Rattle.tlv.specs.Tlv.{Tlv, tlvs, ofType, unless}
+use Rattle.tlv.specs.Tlv.{Tlv, tlvs, ofType, several, unless}
 use Rattle.tlv.specs.declared.tlvs.Found.{Found}
 use Rattle.tlv.specs.declared.tlvs.Found.the-variants.{At, Nothing}
 use Rattle.hello.specs.declared.reverse.ReverseRead.{ReverseRead}
@@ -29,12 +29,6 @@ abbrev pub reverseFault : List Tlv → Found
 reverseFault [] = Nothing
 reverseFault (t ∷ []) = cond (reverseBad (t .value)) (At (t .at)) Nothing
 reverseFault (t ∷ u ∷ ts) = Nothing
-
--- there are two at least
-abbrev pub several : List Tlv → Bool
-several [] = false
-several (t ∷ []) = false
-several (t ∷ u ∷ ts) = true
 
 -- flags, metric (3), sub-TLV length, sub-TLVs. RFC 8500, 2: where sub-TLV 18 appears more than once, the entire TLV is ignored.
 unfoldable pub reverseOf : List ℕ → ReverseMetric

@@ -12,8 +12,8 @@ use crate::header::header_len;
 use crate::header::is_bad_length;
 use crate::header::is_not_hello;
 use crate::header::select_layout;
-use crate::listed::is_bad_list;
-use crate::listed::is_listed;
+use crate::listed::ListRead;
+use crate::listed::read_lists;
 use crate::refusal::Refusal;
 use crate::reverse::ReverseMetric;
 use crate::reverse::ReverseRead;
@@ -26,11 +26,13 @@ use restart_tlv::reader::RestartTlv;
 use restart_tlv::reader::read_restart;
 use tlv::octets::six;
 use tlv::octets::two;
+use tlv::tlvs::Counts;
 use tlv::tlvs::Walk;
 use tlv::tlvs::walked;
 ghost use mathlib.Core.Path.{_≡_};
 ghost use Prim.Native.Nat.{_≤_};
 ghost use lib.ListN.{length};
+ghost use Rattle.tlv.specs.Tlv.{tlvs, ofType, countsOf};
 ghost use Rattle.hello.specs.Header.{headerOf};
 ghost use Rattle.hello.specs.Hello.{linkRead, tlvsRead, pduRead, layoutRead, helloRead};
 ghost use Rattle.hello.specs.declared.header.Selected.the-variants.{Fit};
@@ -64,14 +66,13 @@ pub enum Read {
     Accepted(Hello),
 }
 
-fn read_lan(pdu: &[u8], level: u8, mac: u64) -> LinkRead
-    requires { ⌜ 27 ≤ length (now pdu) ⌝ }
+fn read_lan(pdu: &[u8], level: u8, count: usize, mac: u64) -> LinkRead
+    requires { ⌜ (27 ≤ length (now pdu)) × (count ≡ length (ofType 6 (tlvs (now pdu) 27))) ⌝ }
     ensures { λ r. ⌜ r ≡ linkRead (Layout.Lan level) mac (now (pdu .entry)) ⌝ }
 {
-    if is_bad_list(pdu, 27) {
+    let ListRead::Good(listed) = read_lists(pdu, 27, count, mac) else {
         return LinkRead::Bad;
-    }
-    let listed = is_listed(pdu, 27, mac);
+    };
     LinkRead::Good(Link::Lan {
         level,
         priority: pdu[PRIORITY] % 128,
@@ -79,40 +80,41 @@ fn read_lan(pdu: &[u8], level: u8, mac: u64) -> LinkRead
     })
 }
 
-fn read_p2p(pdu: &[u8], mac: u64) -> LinkRead
+fn read_p2p(pdu: &[u8], count: usize, mac: u64) -> LinkRead
+    requires { ⌜ count ≡ length (ofType 240 (tlvs (now pdu) 20)) ⌝ }
     ensures { λ r. ⌜ r ≡ linkRead Layout.P2p mac (now (pdu .entry)) ⌝ }
 {
-    let ThreeWayRead::Good(three_way) = read_three_way(pdu, 20) else {
+    let ThreeWayRead::Good(three_way) = read_three_way(pdu, 20, count) else {
         return LinkRead::Bad;
     };
     LinkRead::Good(Link::P2p(three_way))
 }
 
-fn read_link(pdu: &[u8], layout: Layout, mac: u64) -> LinkRead
-    requires { ⌜ headerOf layout ≤ length (now pdu) ⌝ }
+fn read_link(pdu: &[u8], layout: Layout, counts: Counts, mac: u64) -> LinkRead
+    requires { ⌜ (headerOf layout ≤ length (now pdu)) × (counts ≡ countsOf (tlvs (now pdu) (headerOf layout))) ⌝ }
     ensures { λ r. ⌜ r ≡ linkRead layout mac (now (pdu .entry)) ⌝ }
 {
     match layout {
-        Layout::Lan(level) => read_lan(pdu, level, mac),
-        Layout::P2p => read_p2p(pdu, mac),
+        Layout::Lan(level) => read_lan(pdu, level, counts.neighbours, mac),
+        Layout::P2p => read_p2p(pdu, counts.threeway, mac),
     }
 }
 
 // The TLVs, once they are known to end by the end of the PDU: refusal 6, or the hello.
-fn read_tlvs(pdu: &[u8], layout: Layout, from: usize, mac: u64) -> Read
-    requires { ⌜ (from ≡ headerOf layout) × (20 ≤ from) × (from ≤ length (now pdu)) ⌝ }
+fn read_tlvs(pdu: &[u8], layout: Layout, from: usize, counts: Counts, mac: u64) -> Read
+    requires { ⌜ (from ≡ headerOf layout) × (20 ≤ from) × (from ≤ length (now pdu)) × (counts ≡ countsOf (tlvs (now pdu) from)) ⌝ }
     ensures { λ r. ⌜ r ≡ tlvsRead layout mac (now (pdu .entry)) ⌝ }
 {
     if pdu[CIRCUIT_TYPE] % 4 == 0 {
         return Read::Refused(Refusal::BadTlv);
     }
-    let RestartRead::Good(restart) = read_restart(pdu, from) else {
+    let RestartRead::Good(restart) = read_restart(pdu, from, counts.restart) else {
         return Read::Refused(Refusal::BadTlv);
     };
-    let ReverseRead::Good(reverse) = read_reverse(pdu, from) else {
+    let ReverseRead::Good(reverse) = read_reverse(pdu, from, counts.reverse) else {
         return Read::Refused(Refusal::BadTlv);
     };
-    let LinkRead::Good(link) = read_link(pdu, layout, mac) else {
+    let LinkRead::Good(link) = read_link(pdu, layout, counts, mac) else {
         return Read::Refused(Refusal::BadTlv);
     };
     Read::Accepted(Hello {
@@ -129,10 +131,10 @@ fn read_pdu(pdu: &[u8], layout: Layout, from: usize, mac: u64) -> Read
     requires { ⌜ (from ≡ headerOf layout) × (20 ≤ from) × (from ≤ length (now pdu)) ⌝ }
     ensures { λ r. ⌜ r ≡ pduRead layout mac (now (pdu .entry)) ⌝ }
 {
-    let Walk::Whole = walked(pdu, from) else {
+    let Walk::Whole(counts) = walked(pdu, from) else {
         return Read::Refused(Refusal::TlvPastEnd);
     };
-    read_tlvs(pdu, layout, from, mac)
+    read_tlvs(pdu, layout, from, counts, mac)
 }
 
 // Refusal 4, and what follows it.

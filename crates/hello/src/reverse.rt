@@ -5,8 +5,8 @@
 use tlv::octets::has_bits;
 use tlv::octets::three;
 use tlv::octets::wide;
-use tlv::tlvs::Occurs;
-use tlv::tlvs::occurrences;
+use tlv::tlvs::REVERSE_METRIC;
+use tlv::tlvs::is_repeated;
 use tlv::tlvs::value_of;
 ghost use mathlib.Core.Path.{_≡_};
 ghost use mathlib.Core.Bool.{cond};
@@ -15,8 +15,6 @@ ghost use lib.ListN.{length};
 ghost use Rattle.tlv.specs.Tlv.{tlvs, ofType};
 ghost use Rattle.hello.specs.Reverse.{reverseBad, reverseOf, reverseRead};
 ghost use Rattle.hello.specs.declared.reverse.ReverseRead.the-variants.{Good, Bad};
-
-const REVERSE_METRIC: u8 = 16;
 
 const TE_METRIC: u8 = 18;
 
@@ -54,8 +52,7 @@ fn decode_reverse(v: &[u8]) -> ReverseMetric
     requires { ⌜ 5 ≤ length (now v) ⌝ }
     ensures { λ r. ⌜ r ≡ reverseOf (now (v .entry)) ⌝ }
 {
-    let subs = occurrences(v, 5, TE_METRIC);
-    if let Occurs::Again(_, _) = subs {
+    if is_repeated(v, 5, TE_METRIC) {
         return ReverseMetric::Absent;
     }
     ReverseMetric::Present {
@@ -74,14 +71,13 @@ fn check_reverse(v: &[u8]) -> ReverseRead
     ReverseRead::Good(decode_reverse(v))
 }
 
-// The reverse metric of a PDU whose TLVs start at `from`: two or more are ignored, and one goes by its rule.
-pub fn read_reverse(pdu: &[u8], from: usize) -> ReverseRead
+// The reverse metric of a PDU whose TLVs start at `from`, of which `count` are of this type: two or more are ignored, and one goes by its rule.
+pub fn read_reverse(pdu: &[u8], from: usize, count: usize) -> ReverseRead
+    requires { ⌜ count ≡ length (ofType 16 (tlvs (now pdu) from)) ⌝ }
     ensures { λ r. ⌜ r ≡ reverseRead (ofType 16 (tlvs (now (pdu .entry)) from)) ⌝ }
 {
-    let seen = occurrences(pdu, from, REVERSE_METRIC);
-    match seen {
-        Occurs::Never => ReverseRead::Good(ReverseMetric::Absent),
-        Occurs::Once(at) => check_reverse(value_of(pdu, at, REVERSE_METRIC)),
-        Occurs::Again(_, _) => ReverseRead::Good(ReverseMetric::Absent),
+    if count == 1 {
+        return check_reverse(value_of(pdu, from, REVERSE_METRIC));
     }
+    ReverseRead::Good(ReverseMetric::Absent)
 }

@@ -4,8 +4,7 @@
 //          state  own extended circuit ID  Neighbor System ID  Neighbor Extended Circuit ID
 use tlv::octets::four;
 use tlv::octets::six;
-use tlv::tlvs::Occurs;
-use tlv::tlvs::occurrences;
+use tlv::tlvs::THREE_WAY;
 use tlv::tlvs::value_of;
 ghost use mathlib.Core.Path.{_≡_};
 ghost use mathlib.Core.Bool.{cond};
@@ -13,8 +12,6 @@ ghost use lib.ListN.{length};
 ghost use Rattle.tlv.specs.Tlv.{tlvs, ofType};
 ghost use Rattle.hello.specs.ThreeWay.{threeWayLength, threeWayBad, stateOf, identifiersOf, threeWayOf, threeWayRead};
 ghost use Rattle.hello.specs.declared.three_way.ThreeWayRead.the-variants.{Good, Bad};
-
-const THREE_WAY: u8 = 240;
 
 // The neighbour's state of this adjacency.
 pub enum State {
@@ -108,14 +105,13 @@ fn check_three_way(v: &[u8]) -> ThreeWayRead
     ThreeWayRead::Good(ThreeWay { state, ids })
 }
 
-// The three-way TLV of a PDU whose TLVs start at `from`: exactly one, and by its rule.
-pub fn read_three_way(pdu: &[u8], from: usize) -> ThreeWayRead
+// The three-way TLV of a PDU whose TLVs start at `from`, of which `count` are three-way TLVs: exactly one, and by its rule.
+pub fn read_three_way(pdu: &[u8], from: usize, count: usize) -> ThreeWayRead
+    requires { ⌜ count ≡ length (ofType 240 (tlvs (now pdu) from)) ⌝ }
     ensures { λ r. ⌜ r ≡ threeWayRead (length (now (pdu .entry))) (ofType 240 (tlvs (now (pdu .entry)) from)) ⌝ }
 {
-    let seen = occurrences(pdu, from, THREE_WAY);
-    match seen {
-        Occurs::Never => ThreeWayRead::Bad,
-        Occurs::Once(at) => check_three_way(value_of(pdu, at, THREE_WAY)),
-        Occurs::Again(_, _) => ThreeWayRead::Bad,
+    if count == 1 {
+        return check_three_way(value_of(pdu, from, THREE_WAY));
     }
+    ThreeWayRead::Bad
 }

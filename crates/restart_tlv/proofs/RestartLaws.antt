@@ -12,9 +12,9 @@ use lib.ListN.{length}
 use lib.Dec.{ltb, leb}
 use borrow.Author.Tests.{ltb-false, leb-true}
 use Rattle.tlv.specs.Octets.{octet, hasBits}
-use Rattle.tlv.specs.Tlv.{Tlv, occursOf, firstValue, isFound}
+use Rattle.tlv.specs.Tlv.{Tlv, firstValue, isFound}
 use Rattle.tlv.proofs.BoolLaws.{neither, by-test, all-below}
-use Rattle.tlv.proofs.TlvLaws.{byOccurs, lone-read, unless-is-bad, unless-is-good}
+use Rattle.tlv.proofs.TlvLaws.{byCount, lone-read, unless-is-bad, unless-is-good}
 use Rattle.restart_tlv.specs.Flags.{PR, counted, without, needsNeighbor, needsTime}
 use Rattle.restart_tlv.specs.Restart.{leastLength, restartBad, restartFault, restartIn, restartOf, restartRead}
 use Rattle.restart_tlv.specs.declared.reader.RestartRead.the-variants.{Bad, Good}
@@ -51,7 +51,7 @@ module _ (f : ℕ) where
 
 -- the reading, by how often the type occurs
 pub restart-read : (ts : List Tlv)
-    → restartRead ts ≡ byOccurs (occursOf ts) (Good Absent) (cond (restartBad (firstValue ts)) Bad (Good (restartOf (firstValue ts)))) Bad
+    → restartRead ts ≡ byCount (length ts) (Good Absent) (cond (restartBad (firstValue ts)) Bad (Good (restartOf (firstValue ts)))) Bad
 unfolding restartRead
 restart-read [] = lone-read _ _ restartBad []
 restart-read (t ∷ []) = lone-read _ _ restartBad (t ∷ [])

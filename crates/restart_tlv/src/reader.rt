@@ -5,8 +5,7 @@
 use crate::flags::Flags;
 use tlv::octets::six;
 use tlv::octets::two;
-use tlv::tlvs::Occurs;
-use tlv::tlvs::occurrences;
+use tlv::tlvs::RESTART;
 use tlv::tlvs::value_of;
 ghost use mathlib.Core.Path.{_≡_};
 ghost use Prim.Native.Nat.{_≤_};
@@ -15,8 +14,6 @@ ghost use mathlib.Core.Bool.{false, cond};
 ghost use Rattle.tlv.specs.Tlv.{tlvs, ofType};
 ghost use Rattle.restart_tlv.specs.Restart.{leastLength, restartBad, restartOf, timeOf, neighborOf, restartRead};
 ghost use Rattle.restart_tlv.specs.declared.reader.RestartRead.the-variants.{Good, Bad};
-
-pub const RESTART: u8 = 211;
 
 // Whom the TLV names.
 pub enum Neighbor {
@@ -112,14 +109,16 @@ fn check_restart(v: &[u8]) -> RestartRead
     RestartRead::Good(decode_restart(v))
 }
 
-// The Restart TLV of a PDU whose TLVs start at `from`: at most one, and by its rule.
-pub fn read_restart(pdu: &[u8], from: usize) -> RestartRead
+// The Restart TLV of a PDU whose TLVs start at `from`, of which `count` are Restart TLVs: at most one, and by its rule.
+pub fn read_restart(pdu: &[u8], from: usize, count: usize) -> RestartRead
+    requires { ⌜ count ≡ length (ofType 211 (tlvs (now pdu) from)) ⌝ }
     ensures { λ r. ⌜ r ≡ restartRead (ofType 211 (tlvs (now (pdu .entry)) from)) ⌝ }
 {
-    let seen = occurrences(pdu, from, RESTART);
-    match seen {
-        Occurs::Never => RestartRead::Good(RestartTlv::Absent),
-        Occurs::Once(at) => check_restart(value_of(pdu, at, RESTART)),
-        Occurs::Again(_, _) => RestartRead::Bad,
+    if count == 0 {
+        return RestartRead::Good(RestartTlv::Absent);
     }
+    if count == 1 {
+        return check_restart(value_of(pdu, from, RESTART));
+    }
+    RestartRead::Bad
 }

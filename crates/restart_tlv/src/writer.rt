@@ -1,6 +1,6 @@
 // The Restart TLV that answers a hello (document 01, "Marks and holding time"): 211, 9, RA or PA alone, Remaining Time, System ID.
 use crate::flags::Flags;
-use crate::reader::RESTART;
+use tlv::tlvs::RESTART;
 ghost use mathlib.Core.Path.{_≡_};
 ghost use mathlib.Core.List.{_++_};
 ghost use Prim.Native.Nat.{_≤_};

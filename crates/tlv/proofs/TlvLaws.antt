@@ -3,22 +3,18 @@ use Prim.Native.Nat.{ℕ, zero, suc, _+_, _-_, _≤_, _<_}
 use mathlib.Core.Path.{_≡_, refl, ap, sym, subst, _∙_}
 use mathlib.Core.List.{List, [], _∷_}
 use mathlib.Core.Bool.{Bool, true, false, cond, true≢false}
-use mathlib.Core.Logic.{⊎-elim}
 use native.Mathlib.Omega.{arith}
 use lib.ListN.{length, drop, length-drop}
 use lib.Seq.{length-take-le}
-use lib.Dec.{leb, ltb}
-use types.Run.{OneOf}
-use denote.Enum.Declared.{tagOf}
+use lib.Dec.{leb, ltb, eqb}
 use borrow.Author.Tests.{le-leb, lt-leb, lt-ltb, le-ltb, eq-eqb, ne-eqb}
 use Rattle.tlv.specs.Octets.{octet}
-use Rattle.tlv.specs.Tlv.{Tlvs, done, cut, one, tlvsUp, tlvs, nextAt, valueAt, ended, ofType, Tlv, firstValue, occursOf, FoundAt, StartsAt, Occurring, loneFault, isFound, unless}
+use Rattle.tlv.proofs.BoolLaws.{by-test}
+use Rattle.tlv.specs.Tlv.{Tlvs, done, cut, one, tlvsUp, tlvs, nextAt, valueAt, cutAt, oneIf, countsOf, walkAs, walkOf, ofType, Tlv, firstValue, several, FoundAt, loneFault, isFound, unless}
+use Rattle.tlv.specs.declared.tlvs.Counts.{Counts}
+use Rattle.tlv.specs.declared.tlvs.Walk.the-variants.{Whole, Cut}
 use Rattle.tlv.specs.declared.tlvs.Found.{Found}
 use Rattle.tlv.specs.declared.tlvs.Found.the-variants.{At, Nothing}
-use Rattle.tlv.specs.declared.tlvs.Walk.the-variants.{Whole, Cut}
-use Rattle.tlv.specs.declared.tlvs.Occurs.{Occurs}
-use Rattle.tlv.specs.declared.tlvs.Occurs.the-variants.{Never, Once, Again}
-use Rattle.tlv.proofs.tlvs.Occurs.{the-type}
 
 -- two choices are equal where they are so when the test passes
 same-then : (b : Bool) (x y z : Tlvs) → (b ≡ true → x ≡ y) → cond b x z ≡ cond b y z
@@ -40,13 +36,17 @@ at-end : (s : List ℕ) (at : ℕ) → length s ≤ at → tlvs s at ≡ done
 unfolding tlvs tlvsUp
 at-end s at q = enough (length s - at) zero s at (omega arith) (omega arith)
 
-pub ended-end : (s : List ℕ) (at : ℕ) → length s ≤ at → ended (tlvs s at) ≡ Whole
-unfolding ended
-ended-end s at q = ap ended (at-end s at q)
+pub cut-end : (s : List ℕ) (at : ℕ) → length s ≤ at → cutAt (tlvs s at) ≡ Nothing
+unfolding cutAt
+cut-end s at q = ap cutAt (at-end s at q)
 
 pub none : (s : List ℕ) (at k : ℕ) → length s ≤ at → ofType k (tlvs s at) ≡ []
 unfolding ofType
 none s at k q = ap (ofType k) (at-end s at q)
+
+count-cond : (b : Bool) (t : Tlv) (ts : List Tlv) → length (cond b (t ∷ ts) ts) ≡ cond b 1 0 + length ts
+count-cond true t ts = omega arith
+count-cond false t ts = omega arith
 
 module _ (s : List ℕ) (at : ℕ) (l : at < length s) where
   step : tlvs s at ≡ tlvsUp (suc (length s - (at + 1))) s at
@@ -59,9 +59,9 @@ module _ (s : List ℕ) (at : ℕ) (l : at < length s) where
     unfolding tlvsUp
     at-cut = step ∙ simp (lt-ltb at (length s) l, lt-leb (nextAt s at) (length s) q)
 
-    pub ended-cut : ended (tlvs s at) ≡ Cut at
-    unfolding ended
-    ended-cut = ap ended at-cut
+    pub cut-here : cutAt (tlvs s at) ≡ At at
+    unfolding cutAt
+    cut-here = ap cutAt at-cut
 
     pub none-cut : (k : ℕ) → ofType k (tlvs s at) ≡ []
     unfolding ofType
@@ -77,9 +77,13 @@ module _ (s : List ℕ) (at : ℕ) (l : at < length s) where
         (ap (one at (octet s at) (valueAt s at))
         (enough (length s - (at + 1)) (length s - nextAt s at) s (nextAt s at) (omega arith) (omega arith)))
 
-    pub ended-one : ended (tlvs s at) ≡ ended (tlvs s (nextAt s at))
-    unfolding ended
-    ended-one = ap ended at-one
+    pub cut-one : cutAt (tlvs s at) ≡ cutAt (tlvs s (nextAt s at))
+    unfolding cutAt
+    cut-one = ap cutAt at-one
+
+    pub count-one : (k : ℕ) → length (ofType k (tlvs s at)) ≡ oneIf (octet s at) k + length (ofType k (tlvs s (nextAt s at)))
+    unfolding ofType
+    count-one k = ap (λ (t : Tlvs). length (ofType k t)) at-one ∙ count-cond (eqb (octet s at) k) _ _
 
     -- of type k it is the first, or it is stepped over
     pub here : (k : ℕ) → octet s at ≡ k → ofType k (tlvs s at) ≡ record { at = at; value = valueAt s at } ∷ ofType k (tlvs s (nextAt s at))
@@ -89,6 +93,24 @@ module _ (s : List ℕ) (at : ℕ) (l : at < length s) where
     pub passed : (k : ℕ) → (octet s at ≡ k → ⊥) → ofType k (tlvs s at) ≡ ofType k (tlvs s (nextAt s at))
     unfolding ofType
     passed k q = ap (ofType k) at-one ∙ simp (ne-eqb _ _ q)
+
+-- there are no more than octets
+one-more : (b : Bool) (t : Tlv) (ts : List Tlv) (n : ℕ) → length ts ≤ n → length (cond b (t ∷ ts) ts) ≤ suc n
+one-more true t ts n h = omega arith
+one-more false t ts n h = omega arith
+
+count-up : (n k : ℕ) (s : List ℕ) (at : ℕ) → length (ofType k (tlvsUp n s at)) ≤ n
+unfolding tlvsUp ofType
+count-up zero k s at = omega arith
+count-up (suc n) k s at =
+    let rest = count-up n k s (nextAt s at) in
+    by-test (ltb at (length s))
+    (λ t. by-test (leb (nextAt s at) (length s)) (λ u. rw (t, u) (one-more (eqb (octet s at) k) _ _ n rest)) (λ u. rw (t, u) (omega arith)))
+    (λ t. rw t (omega arith))
+
+pub count-le : (k : ℕ) (s : List ℕ) (at : ℕ) → length (ofType k (tlvs s at)) ≤ length s
+unfolding tlvs
+count-le k s at = omega (arith, count-up (length s - at) k s at)
 
 pub value-length : (s : List ℕ) (at : ℕ) → nextAt s at ≤ length s → length (valueAt s at) ≡ octet s (at + 1)
 value-length s at h = length-take-le (octet s (at + 1)) (drop (at + 2) s) (rw length-drop (omega arith))
@@ -104,33 +126,24 @@ module _ {s : List ℕ} {from k p : ℕ} {v : List ℕ} (f : FoundAt s from k p)
   pub turn-list : ofType k (tlvs s from) ≡ record { at = p; value = v } ∷ ofType k (tlvs s (p + 2 + length v))
   turn-list = rw (f .same, f .here, value-ends, e)
 
--- what two searches in a row tell: none, one or more
+-- what two searches in a row tell
 module _ (s : List ℕ) (from k : ℕ) where
-  pub found-never : ofType k (tlvs s from) ≡ [] → Occurring s from k Never
-  found-never e = record { is = sym (ap occursOf e); start = tt }
+  pub repeats-not : (p : ℕ) → FoundAt s from k p → ofType k (tlvs s (nextAt s p)) ≡ [] → several (ofType k (tlvs s from)) ≡ false
+  repeats-not p f e = rw (f .same, f .here, e)
 
-  pub found-once : (p : ℕ) → FoundAt s from k p → ofType k (tlvs s (nextAt s p)) ≡ [] → Occurring s from k (Once p)
-  found-once p f e = record { is = rw (f .same, f .here, e); start = f .same }
+  pub repeats : (p q : ℕ) → FoundAt s from k p → FoundAt s (nextAt s p) k q → several (ofType k (tlvs s from)) ≡ true
+  repeats p q f g = rw (f .same, f .here, g .same, g .here)
 
-  pub found-again : (p q : ℕ) → FoundAt s from k p → FoundAt s (nextAt s p) k q → Occurring s from k (Again p q)
-  found-again p q f g = record { is = rw (f .same, f .here, g .same, g .here); start = f .same }
+-- what is read of a type goes by how many there are: none, one or more
+abbrev pub byCount : {A : Type 0} → ℕ → A → A → A → A
+byCount zero x y z = x
+byCount (suc zero) x y z = y
+byCount (suc (suc n)) x y z = z
 
--- a value asked for at the place of the only one is the value of the first from the start
-pub only-value : {s : List ℕ} {from k p : ℕ} {r : Occurs} {v : List ℕ} → Occurring s from k r → r ≡ Once p
-    → v ≡ firstValue (ofType k (tlvs s p)) → v ≡ firstValue (ofType k (tlvs s from))
-only-value {s} {from} {k} o e q = q ∙ sym (ap firstValue (subst (StartsAt s from k) e (o .start)))
-
--- what is read of a type goes by how often it occurs
-abbrev pub byOccurs : {A : Type 0} → Occurs → A → A → A → A
-byOccurs Never x y z = x
-byOccurs (Once p) x y z = y
-byOccurs (Again p q) x y z = z
-
--- it does not occur again, in the words of a match's arm for the other variants
-pub not-again : {A : Type 0} (x y : A) (r : Occurs) → OneOf (0 ∷ 1 ∷ []) (tagOf the-type r) → byOccurs r x x y ≡ x
-not-again x y Never h = refl
-not-again x y (Once p) h = refl
-not-again x y (Again p q) h = absurd (⊎-elim (λ e. omega arith) (λ e. omega arith) h)
+pub byCount-more : {A : Type 0} (n : ℕ) (x y z : A) → (n ≡ 0 → ⊥) → (n ≡ 1 → ⊥) → z ≡ byCount n x y z
+byCount-more zero x y z p q = absurd (p refl)
+byCount-more (suc zero) x y z p q = absurd (q refl)
+byCount-more (suc (suc n)) x y z p q = refl
 
 module _ {A : Type 0} (good bad : A) where
   -- the rule of a TLV that came alone
@@ -146,7 +159,7 @@ module _ {A : Type 0} (good bad : A) where
 
   -- of a type that may come at most once
   pub lone-read : (rule : List ℕ → Bool) (ts : List Tlv)
-      → unless (loneFault rule ts) good bad ≡ byOccurs (occursOf ts) good (cond (rule (firstValue ts)) bad good) bad
+      → unless (loneFault rule ts) good bad ≡ byCount (length ts) good (cond (rule (firstValue ts)) bad good) bad
   unfolding loneFault unless
   lone-read rule [] = refl
   lone-read rule (t ∷ []) = unless-bad (rule (t .value)) (t .at)
@@ -174,3 +187,36 @@ module _ {A B : Type 0} (good : B → A) (bad : A) (differ : (b : B) → good b 
   unfolding unless isFound
   unless-is-good Nothing a b e = (refl, sym (same a b e))
   unless-is-good (At p) a b e = absurd (differ b (sym e))
+
+-- what the walk answers
+pub walk-cut : (t : Tlvs) (p : ℕ) → cutAt t ≡ At p → Cut p ≡ walkOf t
+unfolding walkOf
+walk-cut t p e = rw e
+
+pub walk-whole : (t : Tlvs) (n : Counts) → cutAt t ≡ Nothing → n ≡ countsOf t → Whole n ≡ walkOf t
+unfolding walkOf
+walk-whole t n e q = rw (e, q)
+
+walk-as-cut : (f : Found) (n : Counts) (q : ℕ) → walkAs f n ≡ Cut q → isFound f ≡ true
+unfolding isFound
+walk-as-cut Nothing n q e = let z : _≡_ {A = ℕ} 0 1 = cc in absurd (omega arith)
+walk-as-cut (At p) n q e = refl
+
+pub walk-is-cut : (t : Tlvs) (q : ℕ) → walkOf t ≡ Cut q → isFound (cutAt t) ≡ true
+unfolding walkOf
+walk-is-cut t q e = walk-as-cut (cutAt t) (countsOf t) q e
+
+walk-as-whole : (f : Found) (m n : Counts) → walkAs f m ≡ Whole n → (isFound f ≡ false) × (n ≡ m)
+unfolding isFound
+walk-as-whole Nothing m n e = (refl, cc)
+walk-as-whole (At p) m n e = let z : _≡_ {A = ℕ} 0 1 = cc in absurd (omega arith)
+
+pub walk-is-whole : (t : Tlvs) (n : Counts) → walkOf t ≡ Whole n → (isFound (cutAt t) ≡ false) × (n ≡ countsOf t)
+unfolding walkOf
+walk-is-whole t n e = walk-as-whole (cutAt t) (countsOf t) n e
+
+-- where none and more are read alike
+pub byCount-other : {A : Type 0} (n : ℕ) (x y : A) → (n ≡ 1 → ⊥) → x ≡ byCount n x y x
+byCount-other zero x y q = refl
+byCount-other (suc zero) x y q = absurd (q refl)
+byCount-other (suc (suc n)) x y q = refl

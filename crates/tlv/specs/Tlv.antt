@@ -9,10 +9,9 @@ use lib.Dec.{leb, ltb, eqb}
 use Rattle.tlv.specs.Octets.{octet}
 use Rattle.tlv.specs.declared.tlvs.Found.{Found}
 use Rattle.tlv.specs.declared.tlvs.Found.the-variants.{At, Nothing}
+use Rattle.tlv.specs.declared.tlvs.Counts.{Counts}
 use Rattle.tlv.specs.declared.tlvs.Walk.{Walk}
 use Rattle.tlv.specs.declared.tlvs.Walk.the-variants.{Whole, Cut}
-use Rattle.tlv.specs.declared.tlvs.Occurs.{Occurs}
-use Rattle.tlv.specs.declared.tlvs.Occurs.the-variants.{Never, Once, Again}
 
 -- TLVs in order. `done`: the PDU ends where a TLV ends. `cut p`: the TLV whose type octet is at p passes the end of the
 -- PDU. `one p k v r`: a TLV at p of type k with the value v, and then r.
@@ -41,10 +40,10 @@ unfoldable pub tlvs : List ℕ → ℕ → Tlvs
 tlvs s at = tlvsUp (length s - at) s at
 
 -- Document 01, refusal 5: a TLV's two octets or its value pass the PDU Length; and which TLV
-unfoldable pub ended : Tlvs → Walk
-ended done = Whole
-ended (cut p) = Cut p
-ended (one p k v r) = ended r
+unfoldable pub cutAt : Tlvs → Found
+cutAt done = Nothing
+cutAt (cut p) = At p
+cutAt (one p k v r) = cutAt r
 
 -- a TLV of a known type: where its type octet stands, and its value
 pub record Tlv : Type 0 where
@@ -57,7 +56,28 @@ ofType k done = []
 ofType k (cut p) = []
 ofType k (one p j v r) = cond (eqb j k) (record { at = p; value = v } ∷ ofType k r) (ofType k r)
 
--- of the TLVs of one type: where the first stands, its value (no octets where there is none), and none, one or more
+-- how many there are of each type that a hello's reader looks for
+abbrev pub countsOf : Tlvs → Counts
+countsOf t =
+    record {
+      neighbours = length (ofType 6 t);
+      reverse = length (ofType 16 t);
+      restart = length (ofType 211 t);
+      threeway = length (ofType 240 t);
+    }
+
+abbrev pub oneIf : ℕ → ℕ → ℕ
+oneIf kind wanted = cond (eqb kind wanted) 1 0
+
+-- what a walk over them tells
+abbrev pub walkAs : Found → Counts → Walk
+walkAs Nothing n = Whole n
+walkAs (At p) n = Cut p
+
+unfoldable pub walkOf : Tlvs → Walk
+walkOf t = walkAs (cutAt t) (countsOf t)
+
+-- of the TLVs of one type: where the first stands, its value (no octets where there is none), and whether there are two at least
 abbrev pub firstAt : List Tlv → Found
 firstAt [] = Nothing
 firstAt (t ∷ ts) = At (t .at)
@@ -66,10 +86,10 @@ abbrev pub firstValue : List Tlv → List ℕ
 firstValue [] = []
 firstValue (t ∷ ts) = t .value
 
-abbrev pub occursOf : List Tlv → Occurs
-occursOf [] = Never
-occursOf (t ∷ []) = Once (t .at)
-occursOf (t ∷ u ∷ ts) = Again (t .at) (u .at)
+abbrev pub several : List Tlv → Bool
+several [] = false
+several (t ∷ []) = false
+several (t ∷ u ∷ ts) = true
 
 -- Of a type that may come at most once: the first TLV that breaks its rule, or else the second one. Rules are tests of a value.
 unfoldable pub loneFault : (List ℕ → Bool) → List Tlv → Found
@@ -95,13 +115,3 @@ pub record FoundAt (s : List ℕ) (from k p : ℕ) : Type 0 where
 abbrev pub Finds : List ℕ → ℕ → ℕ → Found → Type 0
 Finds s from k Nothing = ofType k (tlvs s from) ≡ []
 Finds s from k (At p) = FoundAt s from k p
-
--- What `occurrences` tells of type k: none, one or more, and that a search may start at the first
-abbrev pub StartsAt : List ℕ → ℕ → ℕ → Occurs → Type 0
-StartsAt s from k Never = Unit
-StartsAt s from k (Once p) = ofType k (tlvs s from) ≡ ofType k (tlvs s p)
-StartsAt s from k (Again p q) = ofType k (tlvs s from) ≡ ofType k (tlvs s p)
-
-pub record Occurring (s : List ℕ) (from k : ℕ) (r : Occurs) : Type 0 where
-  pub is : r ≡ occursOf (ofType k (tlvs s from))
-  pub start : StartsAt s from k r

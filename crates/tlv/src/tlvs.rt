@@ -4,7 +4,7 @@ use crate::octets::wide;
 ghost use mathlib.Core.Path.{_≡_};
 ghost use Prim.Native.Nat.{_≤_};
 ghost use lib.ListN.{length};
-ghost use Rattle.tlv.specs.Tlv.{tlvs, ended, ofType, firstValue, valueAt, nextAt, Finds, Occurring};
+ghost use Rattle.tlv.specs.Tlv.{tlvs, oneIf, walkOf, ofType, firstValue, valueAt, nextAt, several, Finds};
 
 // Where a TLV's type octet stands.
 pub enum Found {
@@ -12,23 +12,46 @@ pub enum Found {
     Nothing,
 }
 
+// The types that a hello's reader looks for.
+pub const IS_NEIGHBOURS: u8 = 6;
+
+pub const REVERSE_METRIC: u8 = 16;
+
+pub const RESTART: u8 = 211;
+
+pub const THREE_WAY: u8 = 240;
+
+// How many TLVs of each of these types there are.
+pub struct Counts {
+    pub neighbours: usize,
+    pub reverse: usize,
+    pub restart: usize,
+    pub threeway: usize,
+}
+
 // Whether each TLV ends by the end of the PDU; if not, the first that passes it.
 pub enum Walk {
-    Whole,
+    Whole(Counts),
     Cut(usize),
 }
 
-// How often a type occurs: where the first stands, and where the second.
-pub enum Occurs {
-    Never,
-    Once(usize),
-    Again(usize, usize),
+fn one_if(kind: u8, wanted: u8) -> usize
+    ensures { λ r. ⌜ r ≡ oneIf kind wanted ⌝ }
+{
+    if kind == wanted {
+        return 1;
+    }
+    0
 }
 
-// The walk that decides refusal 5.
+// The walk that decides refusal 5. It keeps no place of a TLV: each is looked for afresh.
 pub fn walked(pdu: &[u8], from: usize) -> Walk
-    ensures { λ r. ⌜ r ≡ ended (tlvs (now (pdu .entry)) from) ⌝ }
+    ensures { λ r. ⌜ r ≡ walkOf (tlvs (now (pdu .entry)) from) ⌝ }
 {
+    let mut neighbours = 0;
+    let mut reverse = 0;
+    let mut restart = 0;
+    let mut threeway = 0;
     let mut at = from;
     while at < pdu.len() {
         let left = pdu.len() - at;
@@ -39,9 +62,19 @@ pub fn walked(pdu: &[u8], from: usize) -> Walk
         if left - 2 < value {
             return Walk::Cut(at);
         }
+        let kind = pdu[at];
+        neighbours += one_if(kind, IS_NEIGHBOURS);
+        reverse += one_if(kind, REVERSE_METRIC);
+        restart += one_if(kind, RESTART);
+        threeway += one_if(kind, THREE_WAY);
         at = at + 2 + value;
     }
-    Walk::Whole
+    Walk::Whole(Counts {
+        neighbours,
+        reverse,
+        restart,
+        threeway,
+    })
 }
 
 // The first TLV of a type from a position on. The search ends at a TLV that passes the end.
@@ -77,7 +110,7 @@ pub fn value_at(pdu: &[u8], at: usize) -> &[u8]
 }
 
 // The finder: the value of the first TLV of a type from a position on, as a part of the PDU; an empty part where there is
-// none. `occurrences` tells an absent TLV from an empty one.
+// none. Whether there is none, one or more is asked of the walk first, so that absent and empty differ.
 pub fn value_of(pdu: &[u8], from: usize, kind: u8) -> &[u8]
     ensures { λ r. ⌜ now r ≡ firstValue (ofType kind (tlvs (now (pdu .entry)) from)) ⌝ }
 {
@@ -88,17 +121,17 @@ pub fn value_of(pdu: &[u8], from: usize, kind: u8) -> &[u8]
     value_at(pdu, at)
 }
 
-// None, one or more of a type.
-pub fn occurrences(pdu: &[u8], from: usize, kind: u8) -> Occurs
-    ensures { λ r. ⌜ Occurring (now (pdu .entry)) from kind r ⌝ }
+// Whether there are two at least of a type, from a position on.
+pub fn is_repeated(pdu: &[u8], from: usize, kind: u8) -> bool
+    ensures { λ r. ⌜ r ≡ several (ofType kind (tlvs (now (pdu .entry)) from)) ⌝ }
 {
     let first = find(pdu, from, kind);
     let Found::At(at) = first else {
-        return Occurs::Never;
+        return false;
     };
     let second = find(pdu, at + 2 + wide(pdu[at + 1]), kind);
-    let Found::At(again) = second else {
-        return Occurs::Once(at);
+    let Found::At(_) = second else {
+        return false;
     };
-    Occurs::Again(at, again)
+    true
 }

@@ -1,26 +1,38 @@
 -- Each return is one law of `linkRead` on a LAN.
 use Rattle.hello.proofs.HelloLaws.{lan-bad, lan-good}
-use mathlib.Core.Path.{sym, _∙_}
+use mathlib.Core.Path.{_≡_, sym, ap, _∙_}
 use borrow.Author.Needs.{needs}
 use Rattle.hello.proofs.read.read_lan.Statement.{statement}
 use Rattle.hello.proofs.read.read_lan.Tie as tie
+use Rattle.hello.proofs.read.read_lan.Reads as reads
+use Rattle.hello.proofs.read.read_lan.Lts as lts
+use Rattle.hello.proofs.listed.read_lists.Reads as read-lists-reads
 
-is-bad-list-requires : tie.Need-is-bad-list-requires
-is-bad-list-requires c κs = search needs
+read-lists-requires : tie.Need-read-lists-requires
+read-lists-requires c κs = search needs
+
+enum-known-listed : tie.Need-enum-known-listed
+enum-known-listed c = search needs
+
+enum-told : tie.Need-enum-told
+enum-told c = search needs
 
 returns : tie.Need-returns
-returns c = sym (lan-bad _ _ _ (sym (c .before .is-bad-list .ensures) ∙ c .if1 .taken))
+returns c = sym (lan-bad _ _ _ (sym (c .before .before .read-lists .ensures) ∙ c .enum-told .given .1))
 
-is-listed-requires : tie.Need-is-listed-requires
-is-listed-requires c κs = search needs
-
-shared-slice-read-t7 : tie.Need-shared-slice-read-t7
-shared-slice-read-t7 c = search needs
+shared-slice-read-t8 : tie.Need-shared-slice-read-t8
+shared-slice-read-t8 c = search needs
 
 returns-2 : tie.Need-returns-2
-returns-2 c = rw (c .before .is-listed .ensures) (sym (lan-good _ _ _ (sym (c .before .before .before .is-bad-list .ensures) ∙ c .before .before .if1 .left)))
+returns-2 c = sym (lan-good _ _ _ _ (sym (c .before .before .before .before .read-lists .ensures) ∙ c .before .before .listed .given .1))
 
 pub read-lan-spec : {M : Type 1} → statement M
 read-lan-spec =
     tie.close
-    (tie.spec is-bad-list-requires returns is-listed-requires shared-slice-read-t7 returns-2)
+    (tie.spec
+    read-lists-requires
+    enum-known-listed
+    enum-told
+    returns
+    shared-slice-read-t8
+    returns-2)

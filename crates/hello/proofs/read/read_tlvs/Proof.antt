@@ -2,10 +2,18 @@
 use Rattle.hello.proofs.HelloLaws.{by-circuit, by-restart, by-reverse, by-link, accepted, link-is-bad, link-is-good, reverse-is-bad, reverse-is-good}
 use Rattle.restart_tlv.proofs.RestartLaws.{restart-is-bad, restart-is-good}
 use borrow.Author.Tests.{eq-eqb, ne-eqb}
-use mathlib.Core.Path.{sym, _∙_}
+use Rattle.tlv.specs.declared.tlvs.Counts.{Counts}
+use mathlib.Core.Path.{_≡_, sym, ap, _∙_}
 use borrow.Author.Needs.{needs}
 use Rattle.hello.proofs.read.read_tlvs.Statement.{statement}
 use Rattle.hello.proofs.read.read_tlvs.Tie as tie
+use Rattle.hello.proofs.read.read_tlvs.Reads as reads
+use Rattle.hello.proofs.read.read_tlvs.Lts as lts
+use Rattle.hello.proofs.read.read_link.Reads as read-link-reads
+use Rattle.hello.proofs.reverse.read_reverse.Reads as read-reverse-reads
+use Rattle.restart_tlv.proofs.reader.read_restart.Reads as read-restart-reads
+use Rattle.tlv.proofs.octets.six.Reads as six-reads
+use Rattle.tlv.proofs.octets.two.Reads as two-reads
 
 shared-slice-read-if1 : tie.Need-shared-slice-read-if1
 shared-slice-read-if1 c = search needs
@@ -14,7 +22,7 @@ returns : tie.Need-returns
 returns c = sym (by-circuit _ _ _ (eq-eqb _ _ (c .if1 .taken)))
 
 read-restart-requires : tie.Need-read-restart-requires
-read-restart-requires c κs = search needs
+read-restart-requires c κs = ap (λ (n : Counts). n .restart) (c .before .before .before .pre .3)
 
 enum-known-restart : tie.Need-enum-known-restart
 enum-known-restart c = search needs
@@ -26,7 +34,7 @@ returns-2 : tie.Need-returns-2
 returns-2 c = sym (by-restart _ _ _ (restart-is-bad _ (rw (c .before .before .before .before .before .before .pre .0) at (sym (c .before .before .read-restart .ensures) ∙ c .enum-told .given .1))))
 
 read-reverse-requires : tie.Need-read-reverse-requires
-read-reverse-requires c κs = search needs
+read-reverse-requires c κs = ap (λ (n : Counts). n .reverse) (c .before .before .before .before .before .before .before .pre .3)
 
 enum-known-reverse : tie.Need-enum-known-reverse
 enum-known-reverse c = search needs
@@ -38,7 +46,7 @@ returns-3 : tie.Need-returns-3
 returns-3 c = sym (by-reverse _ _ _ (reverse-is-bad _ (rw (c .before .before .before .before .before .before .before .before .before .before .pre .0) at (sym (c .before .before .read-reverse .ensures) ∙ c .enum-told2 .given .1))))
 
 read-link-requires : tie.Need-read-link-requires
-read-link-requires c κs = search needs
+read-link-requires c κs = (rw (← c .before .before .before .before .before .before .before .before .before .before .before .pre .0) (c .before .before .before .before .before .before .before .before .before .before .before .pre .2), rw (← c .before .before .before .before .before .before .before .before .before .before .before .pre .0) (c .before .before .before .before .before .before .before .before .before .before .before .pre .3))
 
 enum-known-link : tie.Need-enum-known-link
 enum-known-link c = search needs

@@ -1,20 +1,21 @@
--- The laws `several-read` and `not-again` turn what `occurrences` tells into the definition's test.
-use borrow.Author.Needs.{needs}
-use Rattle.tlv.proofs.TlvLaws.{not-again}
+-- Each return is one case of `reverseOf`.
 use Rattle.hello.specs.Reverse.{reverseOf}
-use Rattle.hello.proofs.ReadLaws.{several-read}
+use mathlib.Core.Path.{_≡_, sym, _∙_}
+use borrow.Author.Needs.{needs}
 use Rattle.hello.proofs.reverse.decode_reverse.Statement.{statement}
 use Rattle.hello.proofs.reverse.decode_reverse.Tie as tie
+use Rattle.hello.proofs.reverse.decode_reverse.Reads as reads
+use Rattle.hello.proofs.reverse.decode_reverse.Lts as lts
+use Rattle.tlv.proofs.octets.has_bits.Reads as has-bits-reads
+use Rattle.tlv.proofs.octets.three.Reads as three-reads
+use Rattle.tlv.proofs.tlvs.is_repeated.Reads as is-repeated-reads
 
-occurrences-requires : tie.Need-occurrences-requires
-occurrences-requires c κs = search needs
-
-enum-told : tie.Need-enum-told
-enum-told c = search needs
+is-repeated-requires : tie.Need-is-repeated-requires
+is-repeated-requires c κs = search needs
 
 returns : tie.Need-returns
 unfolding reverseOf
-returns c = rw (several-read, ← c .before .before .occurrences .ensures .is, c .enum-told .given .1)
+returns c = rw (sym (c .before .is-repeated .ensures) ∙ c .if1 .taken)
 
 three-requires : tie.Need-three-requires
 three-requires c κs = search needs
@@ -33,17 +34,13 @@ has-bits-requires-2 c κs = search needs
 
 returns-2 : tie.Need-returns-2
 unfolding reverseOf
-returns-2 c =
-    let o = c .before .before .before .before .before .before .occurrences in
-    rw (several-read, ← o .ensures .is, not-again _ _ (o .result) (c .before .before .before .before .before .match .keys2))
-    (rw (c .before .before .before .before .three .ensures, c .before .before .has-bits .ensures, c .has-bits2 .ensures))
+returns-2 c = rw (sym (c .before .before .before .before .before .before .is-repeated .ensures) ∙ c .before .before .before .before .before .if1 .left, c .before .before .before .before .three .ensures, c .before .before .has-bits .ensures, c .has-bits2 .ensures)
 
 pub decode-reverse-spec : {M : Type 1} → statement M
 decode-reverse-spec =
     tie.close
     (tie.spec
-    occurrences-requires
-    enum-told
+    is-repeated-requires
     returns
     three-requires
     shared-slice-read-has-bits

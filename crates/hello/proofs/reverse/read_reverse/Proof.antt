@@ -1,18 +1,14 @@
--- The law `reverse-read`, by what `occurrences` tells, and `only-value` for the value that is checked.
-use borrow.Author.Needs.{needs}
-use Rattle.tlv.proofs.TlvLaws.{only-value}
+-- The law `reverse-read` goes by how many there are.
 use Rattle.hello.proofs.ReadLaws.{reverse-read}
+use Rattle.tlv.proofs.TlvLaws.{byCount-other}
+use mathlib.Core.Path.{_≡_, sym, _∙_}
+use borrow.Author.Needs.{needs}
 use Rattle.hello.proofs.reverse.read_reverse.Statement.{statement}
 use Rattle.hello.proofs.reverse.read_reverse.Tie as tie
-
-occurrences-requires : tie.Need-occurrences-requires
-occurrences-requires c κs = search needs
-
-enum-told : tie.Need-enum-told
-enum-told c = search needs
-
-enum-known-seen : tie.Need-enum-known-seen
-enum-known-seen c = search needs
+use Rattle.hello.proofs.reverse.read_reverse.Reads as reads
+use Rattle.hello.proofs.reverse.read_reverse.Lts as lts
+use Rattle.hello.proofs.reverse.check_reverse.Reads as check-reverse-reads
+use Rattle.tlv.proofs.tlvs.value_of.Reads as value-of-reads
 
 value-of-requires : tie.Need-value-of-requires
 value-of-requires c κs = search needs
@@ -20,32 +16,11 @@ value-of-requires c κs = search needs
 check-reverse-requires : tie.Need-check-reverse-requires
 check-reverse-requires c κs = search needs
 
-enum-told-2 : tie.Need-enum-told-2
-enum-told-2 c = search needs
-
 returns : tie.Need-returns
-returns c = rw (reverse-read, ← c .before .before .occurrences .ensures .is, c .enum-told .given .1)
+returns c = rw (c .check-reverse .ensures, c .before .value-of .ensures, reverse-read, ← c .before .before .before .before .pre, c .before .before .if1 .taken)
 
 returns-2 : tie.Need-returns-2
-returns-2 c =
-    let s = c .before .before .before in
-    let o = s .before .before .occurrences .ensures in
-    let e = s .seen .given .1 in
-    rw (c .check-reverse .ensures, only-value o e (c .before .value-of .ensures), reverse-read, ← o .is, e)
-
-returns-3 : tie.Need-returns-3
-returns-3 c = rw (reverse-read, ← c .before .before .occurrences .ensures .is, c .enum-told2 .given .1)
+returns-2 c = rw (reverse-read, ← c .before .before .pre) (byCount-other _ _ _ (c .if1 .left))
 
 pub read-reverse-spec : {M : Type 1} → statement M
-read-reverse-spec =
-    tie.close
-    (tie.spec
-    occurrences-requires
-    enum-told
-    enum-known-seen
-    value-of-requires
-    check-reverse-requires
-    enum-told-2
-    returns
-    returns-2
-    returns-3)
+read-reverse-spec = tie.close (tie.spec value-of-requires check-reverse-requires returns returns-2)

@@ -1,18 +1,14 @@
--- The law `three-way-read`, by what `occurrences` tells, and `only-value` for the value that is checked.
-use borrow.Author.Needs.{needs}
-use Rattle.tlv.proofs.TlvLaws.{only-value}
+-- The law `three-way-read` goes by how many there are.
 use Rattle.hello.proofs.ReadLaws.{three-way-read}
+use Rattle.tlv.proofs.TlvLaws.{byCount-other}
+use borrow.Author.Needs.{needs}
+use mathlib.Core.Path.{_≡_, sym, _∙_}
 use Rattle.hello.proofs.three_way.read_three_way.Statement.{statement}
 use Rattle.hello.proofs.three_way.read_three_way.Tie as tie
-
-occurrences-requires : tie.Need-occurrences-requires
-occurrences-requires c κs = search needs
-
-enum-told : tie.Need-enum-told
-enum-told c = search needs
-
-enum-known-seen : tie.Need-enum-known-seen
-enum-known-seen c = search needs
+use Rattle.hello.proofs.three_way.read_three_way.Reads as reads
+use Rattle.hello.proofs.three_way.read_three_way.Lts as lts
+use Rattle.hello.proofs.three_way.check_three_way.Reads as check-three-way-reads
+use Rattle.tlv.proofs.tlvs.value_of.Reads as value-of-reads
 
 value-of-requires : tie.Need-value-of-requires
 value-of-requires c κs = search needs
@@ -20,32 +16,12 @@ value-of-requires c κs = search needs
 check-three-way-requires : tie.Need-check-three-way-requires
 check-three-way-requires c κs = search needs
 
-enum-told-2 : tie.Need-enum-told-2
-enum-told-2 c = search needs
-
 returns : tie.Need-returns
-returns c = rw (three-way-read, ← c .before .before .occurrences .ensures .is, c .enum-told .given .1)
+returns c = rw (c .check-three-way .ensures, c .before .value-of .ensures, three-way-read, ← c .before .before .before .before .pre, c .before .before .if1 .taken)
 
 returns-2 : tie.Need-returns-2
-returns-2 c =
-    let s = c .before .before .before in
-    let o = s .before .before .occurrences .ensures in
-    let e = s .seen .given .1 in
-    rw (c .check-three-way .ensures, only-value o e (c .before .value-of .ensures), three-way-read, ← o .is, e)
-
-returns-3 : tie.Need-returns-3
-returns-3 c = rw (three-way-read, ← c .before .before .occurrences .ensures .is, c .enum-told2 .given .1)
+returns-2 c = rw (three-way-read, ← c .before .before .pre) (byCount-other _ _ _ (c .if1 .left))
 
 pub read-three-way-spec : {M : Type 1} → statement M
 read-three-way-spec =
-    tie.close
-    (tie.spec
-    occurrences-requires
-    enum-told
-    enum-known-seen
-    value-of-requires
-    check-three-way-requires
-    enum-told-2
-    returns
-    returns-2
-    returns-3)
+    tie.close (tie.spec value-of-requires check-three-way-requires returns returns-2)

@@ -1,18 +1,17 @@
--- The law `restart-read` goes by how often the type occurs.
-use Rattle.tlv.proofs.TlvLaws.{only-value}
+-- The law `restart-read` goes by how many there are.
 use Rattle.restart_tlv.proofs.RestartLaws.{restart-read}
+use Rattle.tlv.proofs.TlvLaws.{byCount-more}
+use mathlib.Core.Path.{_≡_, sym, _∙_}
 use borrow.Author.Needs.{needs}
 use Rattle.restart_tlv.proofs.reader.read_restart.Statement.{statement}
 use Rattle.restart_tlv.proofs.reader.read_restart.Tie as tie
+use Rattle.restart_tlv.proofs.reader.read_restart.Reads as reads
+use Rattle.restart_tlv.proofs.reader.read_restart.Lts as lts
+use Rattle.restart_tlv.proofs.reader.check_restart.Reads as check-restart-reads
+use Rattle.tlv.proofs.tlvs.value_of.Reads as value-of-reads
 
-occurrences-requires : tie.Need-occurrences-requires
-occurrences-requires c κs = search needs
-
-enum-told : tie.Need-enum-told
-enum-told c = search needs
-
-enum-known-seen : tie.Need-enum-known-seen
-enum-known-seen c = search needs
+returns : tie.Need-returns
+returns c = rw (restart-read, ← c .before .before .pre, c .if1 .taken)
 
 value-of-requires : tie.Need-value-of-requires
 value-of-requires c κs = search needs
@@ -20,32 +19,12 @@ value-of-requires c κs = search needs
 check-restart-requires : tie.Need-check-restart-requires
 check-restart-requires c κs = search needs
 
-enum-told-2 : tie.Need-enum-told-2
-enum-told-2 c = search needs
-
-returns : tie.Need-returns
-returns c = rw (restart-read, ← c .before .before .occurrences .ensures .is, c .enum-told .given .1)
-
 returns-2 : tie.Need-returns-2
-returns-2 c =
-    let s = c .before .before .before in
-    let o = s .before .before .occurrences .ensures in
-    let e = s .seen .given .1 in
-    rw (c .check-restart .ensures, only-value o e (c .before .value-of .ensures), restart-read, ← o .is, e)
+returns-2 c = rw (c .check-restart .ensures, c .before .value-of .ensures, restart-read, ← c .before .before .before .before .before .pre, c .before .before .if2 .taken)
 
 returns-3 : tie.Need-returns-3
-returns-3 c = rw (restart-read, ← c .before .before .occurrences .ensures .is, c .enum-told2 .given .1)
+returns-3 c = rw (restart-read, ← c .before .before .before .pre) (byCount-more _ _ _ _ (c .before .if1 .left) (c .if2 .left))
 
 pub read-restart-spec : {M : Type 1} → statement M
 read-restart-spec =
-    tie.close
-    (tie.spec
-    occurrences-requires
-    enum-told
-    enum-known-seen
-    value-of-requires
-    check-restart-requires
-    enum-told-2
-    returns
-    returns-2
-    returns-3)
+    tie.close (tie.spec returns value-of-requires check-restart-requires returns-2 returns-3)

@@ -1,11 +1,15 @@
--- Two searches in a row, by the laws `found-never`, `found-once` and `found-again`.
-use Rattle.tlv.proofs.TlvLaws.{found-never, found-once, found-again}
-use Rattle.tlv.specs.Tlv.{Finds, FoundAt}
+-- Two searches in a row, by the laws `repeats-not` and `repeats`.
+use Rattle.tlv.proofs.TlvLaws.{repeats-not, repeats}
+use Rattle.tlv.specs.Tlv.{Finds, FoundAt, several}
 use native.Mathlib.Omega.{arith}
-use mathlib.Core.Path.{subst}
+use mathlib.Core.Path.{_≡_, ap, subst, sym, _∙_}
 use borrow.Author.Needs.{needs}
-use Rattle.tlv.proofs.tlvs.occurrences.Statement.{statement}
-use Rattle.tlv.proofs.tlvs.occurrences.Tie as tie
+use Rattle.tlv.proofs.tlvs.is_repeated.Statement.{statement}
+use Rattle.tlv.proofs.tlvs.is_repeated.Tie as tie
+use Rattle.tlv.proofs.tlvs.is_repeated.Reads as reads
+use Rattle.tlv.proofs.tlvs.is_repeated.Lts as lts
+use Rattle.tlv.proofs.octets.wide.Reads as wide-reads
+use Rattle.tlv.proofs.tlvs.find.Reads as find-reads
 
 find-requires : tie.Need-find-requires
 find-requires c κs = search needs
@@ -17,7 +21,7 @@ enum-told : tie.Need-enum-told
 enum-told c = search needs
 
 returns : tie.Need-returns
-returns c = found-never _ _ _ (subst (Finds _ _ _) (c .enum-told .given .1) (c .before .before .find .ensures))
+returns c = sym (ap several (subst (Finds _ _ _) (c .enum-told .given .1) (c .before .before .find .ensures)))
 
 -- the first one found
 got : (f : tie.After-first) → FoundAt (f .before .before .before .before .args .pdu .now) (f .before .before .before .before .args .from) (f .before .before .before .before .args .kind) (f .first .given .0 .0)
@@ -41,20 +45,20 @@ add-find-2 c = omega (arith, got (c .before .before .before) .within)
 find-requires-2 : tie.Need-find-requires-2
 find-requires-2 c κs = search needs
 
-enum-known-second : tie.Need-enum-known-second
-enum-known-second c = search needs
-
 enum-told-2 : tie.Need-enum-told-2
 enum-told-2 c = search needs
 
+enum-told-3 : tie.Need-enum-told-3
+enum-told-3 c = search needs
+
 returns-2 : tie.Need-returns-2
-returns-2 c = found-once _ _ _ _ (got (c .before .before .before .before .before .before)) (rw (← c .before .before .before .wide .ensures .is) (subst (Finds _ _ _) (c .enum-told2 .given .1) (c .before .before .find2 .ensures)))
+returns-2 c = sym (repeats-not _ _ _ _ (got (c .before .before .before .before .before .before)) (rw (← c .before .before .before .wide .ensures .is) (subst (Finds _ _ _) (c .enum-told3 .given .1) (c .before .before .find2 .ensures))))
 
 returns-3 : tie.Need-returns-3
-returns-3 c = found-again _ _ _ _ _ (got (c .before .before .before .before .before .before .before)) (rw (← c .before .before .before .before .wide .ensures .is) (subst (Finds _ _ _) (c .before .second .given .1) (c .before .before .before .find2 .ensures)))
+returns-3 c = sym (repeats _ _ _ _ _ (got (c .before .before .before .before .before .before)) (rw (c .before .before .before .wide .ensures .is) at (subst (Finds _ _ _) (c .enum-told2 .given .1) (c .before .before .find2 .ensures))))
 
-pub occurrences-spec : {M : Type 1} → statement M
-occurrences-spec =
+pub is-repeated-spec : {M : Type 1} → statement M
+is-repeated-spec =
     tie.close
     (tie.spec
     find-requires
@@ -67,7 +71,7 @@ occurrences-spec =
     wide-requires
     add-find-2
     find-requires-2
-    enum-known-second
     enum-told-2
+    enum-told-3
     returns-2
     returns-3)
