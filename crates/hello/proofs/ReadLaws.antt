@@ -2,7 +2,7 @@
 -- has. The proofs of their readers cite these.
 use Prim.Native.Nat.{ℕ, _<_, _%_}
 use mathlib.Core.List.{List, [], _∷_}
-use mathlib.Core.Bool.{Bool, true, false, cond, _||_, or-assoc, or-false, true≢false}
+use mathlib.Core.Bool.{Bool, false, cond, _||_, or-assoc, or-false, true≢false}
 use borrow.Author.Tests.{eq-eqb, ne-eqb}
 use mathlib.Core.Path.{_≡_, refl}
 use native.Mathlib.Omega.{arith}

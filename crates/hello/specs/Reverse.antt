@@ -1,7 +1,7 @@
 -- The Reverse Metric TLV, type 16 (RFC 8500, 2; document 01, "TLVs read").
 use Prim.Native.Nat.{ℕ, _-_}
 use mathlib.Core.List.{List, [], _∷_}
-use mathlib.Core.Bool.{Bool, true, false, not, cond, _||_}
+use mathlib.Core.Bool.{Bool, not, cond, _||_}
 use lib.ListN.{length}
 use lib.Dec.{ltb, eqb}
 use Rattle.tlv.specs.Octets.{octet, big, hasBits}

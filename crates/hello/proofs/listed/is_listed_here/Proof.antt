@@ -1,11 +1,7 @@
 -- Each return is one side of the `||`.
-use mathlib.Core.Path.{_≡_}
 use borrow.Author.Needs.{needs}
 use Rattle.hello.proofs.listed.is_listed_here.Statement.{statement}
 use Rattle.hello.proofs.listed.is_listed_here.Tie as tie
-use Rattle.hello.proofs.listed.is_listed_here.Reads as reads
-use Rattle.hello.proofs.listed.is_listed_here.Lts as lts
-use Rattle.neighbours.proofs.is_listed_in.Reads as is-listed-in-reads
 
 returns : tie.Need-returns
 returns c = search needs

@@ -6,16 +6,10 @@ use Rattle.tlv.specs.Tlv.{tlvs, ofType, Finds, FoundAt}
 use lib.ListN.{length}
 use borrow.Author.Needs.{needs}
 use native.Mathlib.Omega.{arith}
-use mathlib.Core.Path.{_≡_, refl, sym, ap, subst, _∙_}
+use mathlib.Core.Path.{_≡_, sym, ap, subst, _∙_}
 use mathlib.Core.Bool.{false}
-use Prim.Native.Nat.{_+_}
 use Rattle.hello.proofs.listed.read_lists.Statement.{statement}
 use Rattle.hello.proofs.listed.read_lists.Tie as tie
-use Rattle.hello.proofs.listed.read_lists.Reads as reads
-use Rattle.hello.proofs.listed.read_lists.Lts as lts
-use Rattle.hello.proofs.listed.is_listed_here.Reads as is-listed-here-reads
-use Rattle.tlv.proofs.tlvs.find.Reads as find-reads
-use Rattle.tlv.proofs.tlvs.value_at.Reads as value-at-reads
 
 abbrev Inv-loop : tie.InvT-loop
 Inv-loop pdu from count mac listed₀ at₀ left₀ listed at left =

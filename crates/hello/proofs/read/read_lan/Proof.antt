@@ -1,12 +1,9 @@
 -- Each return is one law of `linkRead` on a LAN.
 use Rattle.hello.proofs.HelloLaws.{lan-bad, lan-good}
-use mathlib.Core.Path.{_≡_, sym, ap, _∙_}
+use mathlib.Core.Path.{sym, _∙_}
 use borrow.Author.Needs.{needs}
 use Rattle.hello.proofs.read.read_lan.Statement.{statement}
 use Rattle.hello.proofs.read.read_lan.Tie as tie
-use Rattle.hello.proofs.read.read_lan.Reads as reads
-use Rattle.hello.proofs.read.read_lan.Lts as lts
-use Rattle.hello.proofs.listed.read_lists.Reads as read-lists-reads
 
 read-lists-requires : tie.Need-read-lists-requires
 read-lists-requires c κs = search needs

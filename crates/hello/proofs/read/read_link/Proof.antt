@@ -4,14 +4,10 @@ use Rattle.hello.specs.Header.{headerOf}
 use Rattle.tlv.specs.Tlv.{tlvs, countsOf}
 use native.Mathlib.Omega.{arith}
 use Rattle.tlv.specs.declared.tlvs.Counts.{Counts}
-use mathlib.Core.Path.{_≡_, sym, ap, _∙_}
+use mathlib.Core.Path.{ap, _∙_}
 use borrow.Author.Needs.{needs}
 use Rattle.hello.proofs.read.read_link.Statement.{statement}
 use Rattle.hello.proofs.read.read_link.Tie as tie
-use Rattle.hello.proofs.read.read_link.Reads as reads
-use Rattle.hello.proofs.read.read_link.Lts as lts
-use Rattle.hello.proofs.read.read_lan.Reads as read-lan-reads
-use Rattle.hello.proofs.read.read_p2p.Reads as read-p2p-reads
 
 enum-known-layout : tie.Need-enum-known-layout
 enum-known-layout c = search needs

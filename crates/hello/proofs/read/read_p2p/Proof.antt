@@ -1,12 +1,9 @@
 -- Each return is one law of `linkRead` on P2P.
 use Rattle.hello.proofs.HelloLaws.{p2p-bad, p2p-good}
-use mathlib.Core.Path.{_≡_, sym, ap, _∙_}
+use mathlib.Core.Path.{sym, _∙_}
 use borrow.Author.Needs.{needs}
 use Rattle.hello.proofs.read.read_p2p.Statement.{statement}
 use Rattle.hello.proofs.read.read_p2p.Tie as tie
-use Rattle.hello.proofs.read.read_p2p.Reads as reads
-use Rattle.hello.proofs.read.read_p2p.Lts as lts
-use Rattle.hello.proofs.three_way.read_three_way.Reads as read-three-way-reads
 
 read-three-way-requires : tie.Need-read-three-way-requires
 read-three-way-requires c κs = search needs

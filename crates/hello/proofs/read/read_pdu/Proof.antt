@@ -1,14 +1,10 @@
 -- What the walk found decides `pduRead`, and its counts are those of the PDU.
 use Rattle.hello.proofs.HelloLaws.{at-cut, at-whole}
 use Rattle.tlv.proofs.TlvLaws.{walk-is-whole}
-use mathlib.Core.Path.{_≡_, sym, ap, _∙_}
+use mathlib.Core.Path.{sym, _∙_}
 use borrow.Author.Needs.{needs}
 use Rattle.hello.proofs.read.read_pdu.Statement.{statement}
 use Rattle.hello.proofs.read.read_pdu.Tie as tie
-use Rattle.hello.proofs.read.read_pdu.Reads as reads
-use Rattle.hello.proofs.read.read_pdu.Lts as lts
-use Rattle.hello.proofs.read.read_tlvs.Reads as read-tlvs-reads
-use Rattle.tlv.proofs.tlvs.walked.Reads as walked-reads
 
 walked-requires : tie.Need-walked-requires
 walked-requires c κs = search needs

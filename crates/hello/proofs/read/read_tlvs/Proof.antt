@@ -3,17 +3,10 @@ use Rattle.hello.proofs.HelloLaws.{by-circuit, by-restart, by-reverse, 
 use Rattle.restart_tlv.proofs.RestartLaws.{restart-is-bad, restart-is-good}
 use borrow.Author.Tests.{eq-eqb, ne-eqb}
 use Rattle.tlv.specs.declared.tlvs.Counts.{Counts}
-use mathlib.Core.Path.{_≡_, sym, ap, _∙_}
+use mathlib.Core.Path.{sym, ap, _∙_}
 use borrow.Author.Needs.{needs}
 use Rattle.hello.proofs.read.read_tlvs.Statement.{statement}
 use Rattle.hello.proofs.read.read_tlvs.Tie as tie
-use Rattle.hello.proofs.read.read_tlvs.Reads as reads
-use Rattle.hello.proofs.read.read_tlvs.Lts as lts
-use Rattle.hello.proofs.read.read_link.Reads as read-link-reads
-use Rattle.hello.proofs.reverse.read_reverse.Reads as read-reverse-reads
-use Rattle.restart_tlv.proofs.reader.read_restart.Reads as read-restart-reads
-use Rattle.tlv.proofs.octets.six.Reads as six-reads
-use Rattle.tlv.proofs.octets.two.Reads as two-reads
 
 shared-slice-read-if1 : tie.Need-shared-slice-read-if1
 shared-slice-read-if1 c = search needs

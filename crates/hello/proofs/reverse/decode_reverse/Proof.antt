@@ -1,14 +1,9 @@
 -- Each return is one case of `reverseOf`.
 use Rattle.hello.specs.Reverse.{reverseOf}
-use mathlib.Core.Path.{_≡_, sym, _∙_}
+use mathlib.Core.Path.{sym, _∙_}
 use borrow.Author.Needs.{needs}
 use Rattle.hello.proofs.reverse.decode_reverse.Statement.{statement}
 use Rattle.hello.proofs.reverse.decode_reverse.Tie as tie
-use Rattle.hello.proofs.reverse.decode_reverse.Reads as reads
-use Rattle.hello.proofs.reverse.decode_reverse.Lts as lts
-use Rattle.tlv.proofs.octets.has_bits.Reads as has-bits-reads
-use Rattle.tlv.proofs.octets.three.Reads as three-reads
-use Rattle.tlv.proofs.tlvs.is_repeated.Reads as is-repeated-reads
 
 is-repeated-requires : tie.Need-is-repeated-requires
 is-repeated-requires c κs = search needs

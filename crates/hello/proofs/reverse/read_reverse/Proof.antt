@@ -1,14 +1,9 @@
 -- The law `reverse-read` goes by how many there are.
 use Rattle.hello.proofs.ReadLaws.{reverse-read}
 use Rattle.tlv.proofs.TlvLaws.{byCount-other}
-use mathlib.Core.Path.{_≡_, sym, _∙_}
 use borrow.Author.Needs.{needs}
 use Rattle.hello.proofs.reverse.read_reverse.Statement.{statement}
 use Rattle.hello.proofs.reverse.read_reverse.Tie as tie
-use Rattle.hello.proofs.reverse.read_reverse.Reads as reads
-use Rattle.hello.proofs.reverse.read_reverse.Lts as lts
-use Rattle.hello.proofs.reverse.check_reverse.Reads as check-reverse-reads
-use Rattle.tlv.proofs.tlvs.value_of.Reads as value-of-reads
 
 value-of-requires : tie.Need-value-of-requires
 value-of-requires c κs = search needs

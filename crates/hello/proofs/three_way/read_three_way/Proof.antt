@@ -2,13 +2,8 @@
 use Rattle.hello.proofs.ReadLaws.{three-way-read}
 use Rattle.tlv.proofs.TlvLaws.{byCount-other}
 use borrow.Author.Needs.{needs}
-use mathlib.Core.Path.{_≡_, sym, _∙_}
 use Rattle.hello.proofs.three_way.read_three_way.Statement.{statement}
 use Rattle.hello.proofs.three_way.read_three_way.Tie as tie
-use Rattle.hello.proofs.three_way.read_three_way.Reads as reads
-use Rattle.hello.proofs.three_way.read_three_way.Lts as lts
-use Rattle.hello.proofs.three_way.check_three_way.Reads as check-three-way-reads
-use Rattle.tlv.proofs.tlvs.value_of.Reads as value-of-reads
 
 value-of-requires : tie.Need-value-of-requires
 value-of-requires c κs = search needs

@@ -1,14 +1,9 @@
 -- The law `restart-read` goes by how many there are.
 use Rattle.restart_tlv.proofs.RestartLaws.{restart-read}
 use Rattle.tlv.proofs.TlvLaws.{byCount-more}
-use mathlib.Core.Path.{_≡_, sym, _∙_}
 use borrow.Author.Needs.{needs}
 use Rattle.restart_tlv.proofs.reader.read_restart.Statement.{statement}
 use Rattle.restart_tlv.proofs.reader.read_restart.Tie as tie
-use Rattle.restart_tlv.proofs.reader.read_restart.Reads as reads
-use Rattle.restart_tlv.proofs.reader.read_restart.Lts as lts
-use Rattle.restart_tlv.proofs.reader.check_restart.Reads as check-restart-reads
-use Rattle.tlv.proofs.tlvs.value_of.Reads as value-of-reads
 
 returns : tie.Need-returns
 returns c = rw (restart-read, ← c .before .before .pre, c .if1 .taken)

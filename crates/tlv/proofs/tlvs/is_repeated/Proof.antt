@@ -2,14 +2,10 @@
 use Rattle.tlv.proofs.TlvLaws.{repeats-not, repeats}
 use Rattle.tlv.specs.Tlv.{Finds, FoundAt, several}
 use native.Mathlib.Omega.{arith}
-use mathlib.Core.Path.{_≡_, ap, subst, sym, _∙_}
+use mathlib.Core.Path.{ap, subst, sym}
 use borrow.Author.Needs.{needs}
 use Rattle.tlv.proofs.tlvs.is_repeated.Statement.{statement}
 use Rattle.tlv.proofs.tlvs.is_repeated.Tie as tie
-use Rattle.tlv.proofs.tlvs.is_repeated.Reads as reads
-use Rattle.tlv.proofs.tlvs.is_repeated.Lts as lts
-use Rattle.tlv.proofs.octets.wide.Reads as wide-reads
-use Rattle.tlv.proofs.tlvs.find.Reads as find-reads
 
 find-requires : tie.Need-find-requires
 find-requires c κs = search needs

@@ -2,8 +2,6 @@
 use borrow.Author.Tests.{eq-eqb, ne-eqb}
 use Rattle.tlv.proofs.tlvs.one_if.Statement.{statement}
 use Rattle.tlv.proofs.tlvs.one_if.Tie as tie
-use Rattle.tlv.proofs.tlvs.one_if.Reads as reads
-use Rattle.tlv.proofs.tlvs.one_if.Lts as lts
 
 returns : tie.Need-returns
 returns c = rw (eq-eqb _ _ (c .if1 .taken))

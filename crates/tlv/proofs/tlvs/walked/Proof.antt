@@ -1,20 +1,15 @@
 -- The invariant: what is left to walk is cut where the whole is, and each type is counted so far.
-use Rattle.tlv.proofs.TlvLaws.{walk-cut, walk-whole}
-use Rattle.tlv.proofs.TlvLaws.{cut-end, cut-here, cut-one, count-one, count-le, none}
-use Rattle.tlv.specs.Tlv.{tlvs, cutAt, oneIf, nextAt, ofType, walkOf}
+use Rattle.tlv.proofs.TlvLaws.{walk-cut, walk-whole, cut-end, cut-here, cut-one, count-one, count-le, none}
+use Rattle.tlv.specs.Tlv.{tlvs, cutAt, oneIf, nextAt, ofType}
 use Rattle.tlv.specs.Octets.{octet}
 use lib.ListN.{length}
 use borrow.Author.Needs.{needs}
 use native.Mathlib.Omega.{arith}
-use mathlib.Core.Path.{_≡_, refl, sym, ap, _∙_}
+use mathlib.Core.Path.{_≡_, refl, ap, _∙_}
 use mathlib.Core.List.{List}
 use Prim.Native.Nat.{ℕ, _+_, _-_, _≤_}
 use Rattle.tlv.proofs.tlvs.walked.Statement.{statement}
 use Rattle.tlv.proofs.tlvs.walked.Tie as tie
-use Rattle.tlv.proofs.tlvs.walked.Reads as reads
-use Rattle.tlv.proofs.tlvs.walked.Lts as lts
-use Rattle.tlv.proofs.octets.wide.Reads as wide-reads
-use Rattle.tlv.proofs.tlvs.one_if.Reads as one-if-reads
 
 -- k is counted so far: n of them before `at`
 abbrev Counted : List ℕ → ℕ → ℕ → ℕ → ℕ → Type 0

@@ -1,10 +1,9 @@
 -- The invariant: both counters stay within their bounds.
 use lib.Seq.{length-take-le}
-use lib.ListN.{length-set}
+use lib.ListN.{length-set, length}
 use native.Mathlib.Omega.{arith}
 use mathlib.Core.Path.{_≡_, sym}
 use Prim.Native.Nat.{_≤_, _-_}
-use lib.ListN.{length}
 use borrow.Author.Needs.{needs}
 use Rattle.vectors.proofs.lines.octets_of.Statement.{statement}
 use Rattle.vectors.proofs.lines.octets_of.Tie as tie
