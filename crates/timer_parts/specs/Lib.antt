@@ -1,0 +1,6 @@
+pub mod Levels
+pub mod Mask
+pub mod Heard
+pub mod T1
+pub mod T2
+pub mod T3

@@ -1,0 +1,247 @@
+// The T1 of one circuit (document 01, "Timers while Restarting"; RFC 8706, 3.1 and 3.3.1).
+use crate::heard::Heard;
+use hello::levels::Levels;
+use restart_tlv::flags::Flags;
+ghost use mathlib.Core.Path.{_≡_};
+ghost use mathlib.Core.Bool.{true, cond, not, _||_};
+ghost use Rattle.timer_parts.specs.Levels.{within, union};
+ghost use Rattle.timer_parts.specs.T1.{startEntry, stopT1, due, helloDue, again, tickT1, done, satisfied, acknowledged, noted, heardT1, freedBy, helloFlags};
+ghost use Rattle.timer_parts.specs.declared.t1.Freed.the-variants.{Stopped, Reinitialise};
+
+// The lengths of T1 and T2 in seconds, and T1's tries, N.
+pub struct Lengths {
+    pub t1: u16,
+    pub t2: u16,
+    pub tries: u8,
+}
+
+// What is kept of a T1: its deadline, its expiries so far, whether an acknowledgement came, and the levels whose CSNP set is
+// complete.
+pub struct Entry {
+    pub deadline: u64,
+    pub tries: u8,
+    pub acked: bool,
+    pub sets: Levels,
+}
+
+pub struct T1 {
+    pub runs: bool,
+    pub entry: Entry,
+}
+
+// Whether a frame with no Restart TLV stopped a running T1. Reinitialise: and the daemon must make the neighbour reinitialise.
+pub enum Freed {
+    Kept,
+    Stopped,
+    Reinitialise,
+}
+
+pub fn start_entry(deadline: u64) -> Entry
+    ensures { λ r. ⌜ r ≡ startEntry deadline ⌝ }
+{
+    Entry {
+        deadline,
+        tries: 0,
+        acked: false,
+        sets: Levels {
+            one: false,
+            two: false,
+        },
+    }
+}
+
+pub fn is_due(clock: u32, t: T1) -> bool
+    ensures { λ r. ⌜ r ≡ due clock t ⌝ }
+{
+    let runs = t.runs;
+    let deadline = t.entry.deadline;
+    if runs {
+        return deadline <= clock as u64;
+    }
+    false
+}
+
+pub fn is_hello_due(s: Lengths, clock: u32, t: T1) -> bool
+    ensures { λ r. ⌜ r ≡ helloDue s clock t ⌝ }
+{
+    let tries = t.entry.tries;
+    let last = s.tries;
+    if is_due(clock, t) {
+        return tries as u16 + 1 < last as u16;
+    }
+    false
+}
+
+// One expiry more, and the new deadline.
+fn run_again(s: Lengths, clock: u32, t: T1) -> T1
+    requires { ⌜ helloDue s clock t ≡ true ⌝ }
+    ensures { λ r. ⌜ r ≡ again s clock t ⌝ }
+{
+    let e = t.entry;
+    let tries = e.tries;
+    let sets = e.sets;
+    T1 {
+        runs: true,
+        entry: Entry {
+            deadline: clock as u64 + s.t1 as u64,
+            tries: tries + 1,
+            acked: e.acked,
+            sets,
+        },
+    }
+}
+
+pub fn tick_t1(s: Lengths, clock: u32, t: T1) -> T1
+    ensures { λ r. ⌜ r ≡ tickT1 s clock t ⌝ }
+{
+    if is_hello_due(s, clock, t) {
+        return run_again(s, clock, t);
+    }
+    if is_due(clock, t) {
+        return stop_t1(t);
+    }
+    t
+}
+
+pub fn stop_t1(t: T1) -> T1
+    ensures { λ r. ⌜ r ≡ stopT1 t ⌝ }
+{
+    let e = t.entry;
+    T1 {
+        runs: false,
+        entry: e,
+    }
+}
+
+fn implies(a: bool, b: bool) -> bool
+    ensures { λ r. ⌜ r ≡ (not a || b) ⌝ }
+{
+    if a {
+        return b;
+    }
+    true
+}
+
+fn either(a: bool, b: bool) -> bool
+    ensures { λ r. ⌜ r ≡ (a || b) ⌝ }
+{
+    if a {
+        return true;
+    }
+    b
+}
+
+// Whether each level of `l` is in `s`.
+fn is_within(l: Levels, s: Levels) -> bool
+    ensures { λ r. ⌜ r ≡ within l s ⌝ }
+{
+    if implies(l.one, s.one) {
+        return implies(l.two, s.two);
+    }
+    false
+}
+
+fn join_levels(l: Levels, s: Levels) -> Levels
+    ensures { λ r. ⌜ r ≡ union l s ⌝ }
+{
+    let one = either(l.one, s.one);
+    let two = either(l.two, s.two);
+    Levels { one, two }
+}
+
+// Whether a T1 of a circuit with the levels `l` has all that it waits for.
+pub fn is_done(l: Levels, e: Entry) -> bool
+    ensures { λ r. ⌜ r ≡ done l e ⌝ }
+{
+    let acked = e.acked;
+    let sets = e.sets;
+    if acked {
+        return is_within(l, sets);
+    }
+    false
+}
+
+pub fn satisfy(l: Levels, t: T1) -> T1
+    ensures { λ r. ⌜ r ≡ satisfied l t ⌝ }
+{
+    let e = t.entry;
+    if is_done(l, e) {
+        return stop_t1(t);
+    }
+    t
+}
+
+pub fn acknowledge(t: T1) -> T1
+    ensures { λ r. ⌜ r ≡ acknowledged t ⌝ }
+{
+    let mut e = t.entry;
+    e.acked = true;
+    T1 {
+        runs: t.runs,
+        entry: e,
+    }
+}
+
+// The CSNP sets of the levels `n` are complete.
+pub fn note(n: Levels, t: T1) -> T1
+    ensures { λ r. ⌜ r ≡ noted n t ⌝ }
+{
+    let e = t.entry;
+    let sets = e.sets;
+    let all = join_levels(n, sets);
+    T1 {
+        runs: t.runs,
+        entry: Entry {
+            deadline: e.deadline,
+            tries: e.tries,
+            acked: e.acked,
+            sets: all,
+        },
+    }
+}
+
+// An accepted hello on a circuit with the levels `l`.
+pub fn hear_t1(l: Levels, h: Heard, t: T1) -> T1
+    ensures { λ r. ⌜ r ≡ heardT1 l h t ⌝ }
+{
+    match h {
+        Heard::Bare(_) => stop_t1(t),
+        Heard::Acknowledged {
+            up: _,
+            remaining: _,
+        } => satisfy(l, acknowledge(t)),
+        Heard::Plain => t,
+    }
+}
+
+fn freed_from(ours: bool) -> Freed
+    ensures { λ r. ⌜ r ≡ cond ours Reinitialise Stopped ⌝ }
+{
+    if ours {
+        Freed::Reinitialise
+    } else {
+        Freed::Stopped
+    }
+}
+
+pub fn freed_by(h: Heard, t: T1) -> Freed
+    ensures { λ r. ⌜ r ≡ freedBy h t ⌝ }
+{
+    let runs = t.runs;
+    match h {
+        Heard::Bare(ours) => if runs { freed_from(ours) } else { Freed::Kept },
+        Heard::Acknowledged {
+            up: _,
+            remaining: _,
+        } => Freed::Kept,
+        Heard::Plain => Freed::Kept,
+    }
+}
+
+// The flags of the circuit's next hello.
+pub fn hello_flags(t: T1) -> Flags
+    ensures { λ r. ⌜ r ≡ helloFlags t ⌝ }
+{
+    let runs = t.runs;
+    if runs { Flags::RR } else { Flags::NONE }
+}

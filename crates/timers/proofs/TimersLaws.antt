@@ -1,0 +1,180 @@
+-- The laws of the calls on the timers. The first part is for the gateway: while the mode is Running no call changes a timer or
+-- orders anything. The rest joins the steps of the code to the definitions.
+use Prim.Native.Nat.{ℕ, _+_, _<_}
+use mathlib.Core.Path.{_≡_, refl, sym, ap, _∙_}
+use mathlib.Core.Bool.{Bool, true, false, true≢false}
+use mathlib.Core.List.{List, map}
+use lib.ListN.{set, getD}
+use Rattle.hello.specs.declared.levels.Levels.{Levels}
+use Rattle.timer_parts.specs.Mask.{circuits, bits, countTrue, firstTrue}
+use Rattle.timer_parts.specs.T1.{startEntry, tickT1, helloDue, freedBy, satisfied, noted, heardT1}
+use Rattle.timer_parts.specs.T3.{heardT3}
+use Rattle.timer_parts.specs.declared.heard.Heard.{Heard}
+use Rattle.timer_parts.specs.declared.t1.Lengths.{Lengths}
+use Rattle.timer_parts.specs.declared.t1.Entry.{Entry}
+use Rattle.timer_parts.specs.declared.t1.T1.{T1}
+use Rattle.timer_parts.specs.declared.t1.Freed.{Freed}
+use Rattle.timer_parts.specs.declared.t1.Freed.the-variants.{Kept}
+use Rattle.timer_parts.specs.declared.t3.T3.{T3}
+use Rattle.timers.specs.declared.head.Mode.{Mode}
+use Rattle.timers.specs.declared.head.Mode.the-variants.{Running, Restarting}
+use Rattle.timers.specs.declared.head.Head.{Head}
+use Rattle.timers.specs.declared.calls.Start.{Start}
+use Rattle.timers.specs.declared.outcome.Outcome.{Outcome}
+use Rattle.timers.specs.declared.outcome.Outcome.the-variants.{Idle, Goes, Ended}
+use Rattle.timers.specs.declared.outcome.Overload.{Overload}
+use Rattle.timers.specs.Timers.{Timers, withT1s, withT3, countRuns, firstRuns, noT1, atT1, tickT1s, expireT2s, cancelT2s, tickT3, finish, inMode, closed, settled, toT3, ticked, heardIn, heard, csnpIn, csnpNoticed, noticeT2s, databaseNoticed}
+use Rattle.timers.specs.Memory.{joined, timersOf}
+use Rattle.timers.specs.Outcome.{outcomeWith, outcomeOf, ordered, tickHellos, heardFreed}
+use Rattle.timers.specs.Calls.{startHead, startHellos, started, Starts, Closes, Settles, Ticks, Hears}
+use Rattle.timers.proofs.T1sLaws.{countRuns-joined, firstRuns-joined, bits-none, joined-started}
+
+-- ---- for the gateway
+
+module _ {A : Type 0} {m : Mode} (x y : A) where
+  pub in-running : m ≡ Running → x ≡ inMode m x y
+  in-running e = rw e
+
+  pub in-restarting : m ≡ Restarting → y ≡ inMode m x y
+  in-restarting e = rw e
+
+module _ (t : Timers) (run : t .mode ≡ Running) where
+  -- any call, by its own step
+  pub settled-running : (f : Timers → Timers) → (settled f t ≡ t) × (ordered f t ≡ Idle)
+  unfolding settled ordered
+  settled-running f = (sym (in-running t _ run), sym (in-running Idle _ run))
+
+  pub ticked-running : (s : Lengths) (clock : ℕ)
+      → (ticked s clock t ≡ t) × (ordered (toT3 s clock) t ≡ Idle) × (tickHellos s clock t ≡ map (λ x. false) (t .t1s))
+  unfolding tickHellos
+  ticked-running s clock =
+      let k = settled-running (toT3 s clock) in
+      (k .0, k .1, sym (in-running (map (λ x. false) (t .t1s)) _ run))
+
+  pub heard-running : (clock i : ℕ) (l : Levels) (d : Heard)
+      → (heard clock i l d t ≡ t) × (ordered (heardIn clock i l d) t ≡ Idle) × (heardFreed i d t ≡ Kept)
+  unfolding heardFreed
+  heard-running clock i l d =
+      let k = settled-running (heardIn clock i l d) in
+      (k .0, k .1, sym (in-running Kept _ run))
+
+  pub csnp-running : (i : ℕ) (l n : Levels) → (csnpNoticed i l n t ≡ t) × (ordered (csnpIn i l n) t ≡ Idle)
+  csnp-running i l n = settled-running (csnpIn i l n)
+
+  pub database-running : (n : Levels) → (databaseNoticed n t ≡ t) × (ordered (noticeT2s n) t ≡ Idle)
+  database-running n = settled-running (noticeT2s n)
+
+  -- the mode stays
+  pub mode-running : (f : Timers → Timers) → settled f t .mode ≡ Running
+  mode-running f = ap (λ (u : Timers). u .mode) (settled-running f .0) ∙ run
+
+-- the outcome is Idle only where the mode was Running
+isIdle : Outcome → Bool
+isIdle Idle = true
+isIdle (Goes spf overload) = false
+isIdle (Ended spf overload) = false
+
+not-idle : (b : Bool) (spf : Levels) (overload : Overload) → isIdle (outcomeWith b spf overload) ≡ false
+unfolding outcomeWith isIdle
+not-idle true spf overload = refl
+not-idle false spf overload = refl
+
+by-mode : (m : Mode) (o : Outcome) → isIdle o ≡ false → inMode m Idle o ≡ Idle → m ≡ Running
+unfolding isIdle
+by-mode Running o h e = refl
+by-mode Restarting o h e = absurd (true≢false (sym (ap isIdle e) ∙ h))
+
+pub idle-running : (f : Timers → Timers) (t : Timers) → ordered f t ≡ Idle → t .mode ≡ Running
+unfolding ordered outcomeOf
+idle-running f t h = by-mode (t .mode) (outcomeOf t (f t) (closed f t)) (not-idle _ _ _) h
+
+-- ---- the mode that a call tests
+
+module _ (h : Head) (e : ℕ → Entry) where
+  pub settles-running : (f : Timers → Timers) → h .mode ≡ Running → Settles f (timersOf h e) (timersOf h e) Idle
+  unfolding settled ordered timersOf
+  settles-running f k = record { timers = in-running _ _ k; outcome = in-running _ _ k }
+
+  pub settles-restarting : (f : Timers → Timers) (after : Timers) (o : Outcome) → h .mode ≡ Restarting → Closes f (timersOf h e) after o
+      → Settles f (timersOf h e) after o
+  unfolding settled ordered timersOf
+  settles-restarting f after o k c = record { timers = c .timers ∙ in-restarting _ _ k; outcome = c .outcome ∙ in-restarting _ _ k }
+
+  pub ticks-running : (s : Lengths) (clock : ℕ) → h .mode ≡ Running → Ticks s clock (timersOf h e) (timersOf h e) Idle (bits 0)
+  unfolding tickHellos timersOf
+  ticks-running s clock k =
+      record { settles = settles-running (toT3 s clock) k; hellos = bits-none (h .mask) e ∙ in-running _ _ k }
+
+  pub ticks-restarting : (s : Lengths) (clock : ℕ) (after : Timers) (o : Outcome) (hs : List Bool) → h .mode ≡ Restarting
+      → Closes (toT3 s clock) (timersOf h e) after o × (hs ≡ map (helloDue s clock) (joined (bits (h .mask)) e))
+      → Ticks s clock (timersOf h e) after o hs
+  unfolding tickHellos timersOf
+  ticks-restarting s clock after o hs k c =
+      record { settles = settles-restarting (toT3 s clock) after o k (c .0); hellos = c .1 ∙ in-restarting _ _ k }
+
+  pub hears-running : (clock i : ℕ) (l : Levels) (d : Heard) → h .mode ≡ Running
+      → Hears clock i l d (timersOf h e) (timersOf h e) Idle Kept
+  unfolding heardFreed timersOf
+  hears-running clock i l d k =
+      record { settles = settles-running (heardIn clock i l d) k; freed = in-running _ _ k }
+
+  pub hears-restarting : (clock i : ℕ) (l : Levels) (d : Heard) (after : Timers) (o : Outcome) (r : Freed) → h .mode ≡ Restarting
+      → Closes (heardIn clock i l d) (timersOf h e) after o × (r ≡ freedBy d (getD (joined (bits (h .mask)) e) i noT1))
+      → Hears clock i l d (timersOf h e) after o r
+  unfolding heardFreed timersOf
+  hears-restarting clock i l d after o r k c =
+      record { settles = settles-restarting (heardIn clock i l d) after o k (c .0); freed = c .1 ∙ in-restarting _ _ k }
+
+-- ---- the steps of a call
+
+pub closes : (f : Timers → Timers) (t mid after : Timers) (o : Outcome) → mid ≡ f t
+    → (after ≡ finish (cancelT2s mid)) × (o ≡ outcomeOf t mid (finish (cancelT2s mid))) → Closes f t after o
+unfolding closed
+closes f t mid after o p q =
+    record {
+      timers = q .0 ∙ ap (λ (x : Timers). finish (cancelT2s x)) p;
+      outcome = q .1 ∙ ap (λ (x : Timers). outcomeOf t x (finish (cancelT2s x))) p;
+    }
+
+pub count-of : (h : Head) (e : ℕ → Entry) → countTrue (bits (h .mask)) ≡ countRuns (timersOf h e .t1s)
+unfolding timersOf
+count-of h e = sym (countRuns-joined (bits (h .mask)) e)
+
+pub first-of : (h : Head) (e : ℕ → Entry) → firstTrue (bits (h .mask)) 1 ≡ firstRuns (timersOf h e .t1s) 1
+unfolding timersOf
+first-of h e = sym (firstRuns-joined (bits (h .mask)) e 1)
+
+pub t1-of : (h : Head) (e : ℕ → Entry) (i : ℕ) → getD (joined (bits (h .mask)) e) i noT1 ≡ getD (timersOf h e .t1s) i noT1
+unfolding timersOf
+t1-of h e i = refl
+
+-- all T1s changed, then the head's steps
+pub toT3-is : (s : Lengths) (clock m : ℕ) (h : Head) (e f : ℕ → Entry) (u r : Timers)
+    → joined (bits m) f ≡ map (tickT1 s clock) (joined (bits (h .mask)) e) → u ≡ withT1s (timersOf h f) (joined (bits m) f)
+    → r ≡ tickT3 clock (cancelT2s (expireT2s clock u)) → r ≡ toT3 s clock (timersOf h e)
+unfolding toT3 tickT1s withT1s timersOf
+toT3-is s clock m h e f u r p q k = k ∙ ap (λ (x : Timers). tickT3 clock (cancelT2s (expireT2s clock x))) (q ∙ rw p)
+
+-- one circuit's T1 changed
+pub t1-stored : (h : Head) (m i : ℕ) (e f : ℕ → Entry) (g : T1 → T1) (t : T1) → t ≡ g (getD (joined (bits (h .mask)) e) i noT1)
+    → joined (bits m) f ≡ set (joined (bits (h .mask)) e) i t → withT1s (timersOf h f) (joined (bits m) f) ≡ atT1 i g (timersOf h e)
+unfolding withT1s timersOf atT1
+t1-stored h m i e f g t p q = rw (q, p)
+
+pub heardIn-is : (clock i : ℕ) (l : Levels) (d : Heard) (h : Head) (e : ℕ → Entry) (u : Timers) (x : T3)
+    → u ≡ atT1 i (heardT1 l d) (timersOf h e) → x ≡ heardT3 clock d (h .t3) → withT3 u x ≡ heardIn clock i l d (timersOf h e)
+unfolding heardIn timersOf
+heardIn-is clock i l d h e u x p q = rw (p, q)
+
+pub csnpIn-is : (i : ℕ) (l n : Levels) (t : Timers) → atT1 i (λ x. satisfied l (noted n x)) t ≡ csnpIn i l n t
+unfolding csnpIn
+csnpIn-is i l n t = refl
+
+pub starts : (s : Start) (h : Head) (e : ℕ → Entry) → h ≡ startHead s → ((j : ℕ) → j < circuits → e j ≡ startEntry (s .clock + s .lengths .t1))
+    → Starts s (timersOf h e) (bits (h .mask))
+unfolding timersOf started startHellos
+starts s h e p k =
+    record {
+      timers = rw (p, joined-started (startHead s .mask) e (s .clock + s .lengths .t1) k);
+      hellos = ap (λ (x : Head). bits (x .mask)) p;
+    }

@@ -1,0 +1,4 @@
+pub mod Timers
+pub mod Memory
+pub mod Outcome
+pub mod Calls

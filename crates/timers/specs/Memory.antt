@@ -1,0 +1,43 @@
+-- What the head and the lent words mean: every head and all words are some timers.
+use Prim.Native.Nat.{ℕ, zero, suc, _+_, _*_, _/_, _%_}
+use mathlib.Core.Bool.{Bool}
+use mathlib.Core.List.{List, [], _∷_}
+use lib.Dec.{eqb}
+use lib.ListN.{getD}
+use Rattle.timer_parts.specs.Mask.{circuits, bits}
+use Rattle.timer_parts.specs.declared.t1.Entry.{Entry}
+use Rattle.timer_parts.specs.declared.t1.T1.{T1}
+use Rattle.timers.specs.declared.head.Head.{Head}
+use Rattle.timers.specs.Timers.{Timers}
+
+-- two words for each circuit
+abbrev pub wordCount : ℕ
+wordCount = 2 * circuits
+
+-- the deadline; the expiries, the acknowledgement and the CSNP sets
+unfoldable pub entryOf : ℕ → ℕ → Entry
+entryOf a b =
+    record {
+      deadline = a;
+      tries = b % 256;
+      acked = eqb (b / 256 % 2) 1;
+      sets = record { one = eqb (b / 512 % 2) 1; two = eqb (b / 1024 % 2) 1 };
+    }
+
+-- the entry of circuit i (from 0)
+unfoldable pub entryAt : List ℕ → ℕ → Entry
+entryAt ws i = entryOf (getD ws (2 * i) 0) (getD ws (2 * i + 1) 0)
+
+-- the T1s of a mask's digits and of entries
+unfoldable pub joined : List Bool → (ℕ → Entry) → List T1
+joined [] e = []
+joined (b ∷ bs) e = record { runs = b; entry = e zero } ∷ joined bs (λ i. e (suc i))
+
+abbrev pub t1sAt : ℕ → List ℕ → List T1
+t1sAt m ws = joined (bits m) (entryAt ws)
+
+unfoldable pub timersOf : Head → (ℕ → Entry) → Timers
+timersOf h e = record { mode = h .mode; t1s = joined (bits (h .mask)) e; t2s = h .t2s; t3 = h .t3 }
+
+abbrev pub timersAt : Head → List ℕ → Timers
+timersAt h ws = timersOf h (entryAt ws)

@@ -1,0 +1,114 @@
+// How a call ends, and what it orders (an order is an action the caller must take; document 01, "Timers while Restarting").
+use crate::head::Head;
+use crate::head::Mode;
+use crate::head::cancel_t2s;
+use crate::head::end_restart;
+use hello::levels::Levels;
+use timer_parts::t2::spf_due;
+use timer_parts::t3::is_expired;
+ghost use mathlib.Core.Path.{_≡_};
+ghost use mathlib.Core.Bool.{not, _&&_};
+ghost use Prim.Native.Nat.{ℕ};
+ghost use Rattle.timer_parts.specs.declared.t1.Entry.{Entry};
+ghost use Rattle.timers.specs.Timers.{finish, cancelT2s};
+ghost use Rattle.timers.specs.Memory.{timersOf};
+ghost use Rattle.timers.specs.Outcome.{isRunning, overloadOf, outcomeWith, outcomeOf};
+
+// Overload is ordered set, clear, both in this order, or not at all.
+pub enum Overload {
+    Quiet,
+    Set,
+    Clear,
+    Both,
+}
+
+// Idle: the mode was Running. Goes: it is Restarting still. Ended: it is Running from this call on. With the levels whose SPF is
+// ordered, and the overload order.
+pub enum Outcome {
+    Idle,
+    Goes { spf: Levels, overload: Overload },
+    Ended { spf: Levels, overload: Overload },
+}
+
+// What a call leaves, where the mode was Restarting.
+pub struct Settled {
+    pub head: Head,
+    pub outcome: Outcome,
+}
+
+fn is_running(m: Mode) -> bool
+    ensures { λ r. ⌜ r ≡ isRunning m ⌝ }
+{
+    match m {
+        Mode::Running => true,
+        Mode::Restarting => false,
+    }
+}
+
+fn overload_of(set: bool, clear: bool) -> Overload
+    ensures { λ r. ⌜ r ≡ overloadOf set clear ⌝ }
+{
+    if set {
+        if clear {
+            return Overload::Both;
+        }
+        return Overload::Set;
+    }
+    if clear {
+        return Overload::Clear;
+    }
+    Overload::Quiet
+}
+
+fn first_only(a: bool, b: bool) -> bool
+    ensures { λ r. ⌜ r ≡ (not a && b) ⌝ }
+{
+    if a {
+        return false;
+    }
+    b
+}
+
+fn both(a: bool, b: bool) -> bool
+    ensures { λ r. ⌜ r ≡ (a && b) ⌝ }
+{
+    if a {
+        return b;
+    }
+    false
+}
+
+fn outcome_with(ended: bool, spf: Levels, overload: Overload) -> Outcome
+    ensures { λ r. ⌜ r ≡ outcomeWith ended spf overload ⌝ }
+{
+    if ended {
+        return Outcome::Ended { spf, overload };
+    }
+    Outcome::Goes { spf, overload }
+}
+
+// From the timers before a call, after its own step, and after all of it.
+fn outcome_of(before: Head, mid: Head, after: Head) -> Outcome
+    ensures { λ r. ⌜ ((d e f : ℕ → Entry) → r ≡ outcomeOf (timersOf before d) (timersOf mid e) (timersOf after f)) ⌝ }
+{
+    let old = before.t3;
+    let own = mid.t3;
+    let a = before.t2s;
+    let b = after.t2s;
+    let mode = after.mode;
+    let spf = spf_due(a, b);
+    let was = is_expired(old);
+    let is = is_expired(own);
+    let ended = is_running(mode);
+    let overload = overload_of(first_only(was, is), both(ended, is));
+    outcome_with(ended, spf, overload)
+}
+
+// The tail of every call: T2 cancelling, then the end of the mode. `mid` is what the call's own step left.
+pub fn settle(before: Head, mid: Head) -> Settled
+    ensures { λ r. ⌜ ((d e : ℕ → Entry) → (timersOf (r .head) e ≡ finish (cancelT2s (timersOf mid e))) × (r .outcome ≡ outcomeOf (timersOf before d) (timersOf mid e) (finish (cancelT2s (timersOf mid e))))) ⌝ }
+{
+    let head = end_restart(cancel_t2s(mid));
+    let outcome = outcome_of(before, mid, head);
+    Settled { head, outcome }
+}
