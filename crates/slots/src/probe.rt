@@ -1,0 +1,91 @@
+// Questions about a place of the table, answered from the words they concern: no record is decoded but where its rank is compared.
+use crate::slot::Slot;
+use crate::slot::load;
+use adjacency::duty::Rank;
+use adjacency::duty::is_outranked_by;
+use adjacency::record::Key;
+ghost use mathlib.Core.Path.{_≡_};
+ghost use Prim.Native.Nat.{_+_, _*_, _<_};
+ghost use lib.ListN.{length, getD};
+ghost use Rattle.slots.specs.Slots.{tableOf, heldWord, isHeld, isFree, hasKey, meets, expiredBy, plannedState, outrankedAt};
+ghost use Rattle.slots.specs.declared.slot.Slot.the-variants.{Free};
+
+// The tag is INIT or UP.
+fn is_held_word(w: u64) -> bool
+    ensures { λ r. ⌜ r ≡ heldWord w ⌝ }
+{
+    let tag = w % 4;
+    if tag == 0 {
+        return false;
+    }
+    tag != 3
+}
+
+pub fn is_free_at(words: &[u64], i: usize) -> bool
+    requires { ⌜ (length (now words) ≡ 64) × (i < 16) ⌝ }
+    ensures { λ r. ⌜ r ≡ isFree (getD (tableOf (now (words .entry))) i Free) ⌝ }
+{
+    words[4 * i + 3] % 4 == 0
+}
+
+pub fn is_held_at(words: &[u64], i: usize) -> bool
+    requires { ⌜ (length (now words) ≡ 64) × (i < 16) ⌝ }
+    ensures { λ r. ⌜ r ≡ isHeld (getD (tableOf (now (words .entry))) i Free) ⌝ }
+{
+    is_held_word(words[4 * i + 3])
+}
+
+pub fn is_key_at(words: &[u64], i: usize, key: Key) -> bool
+    requires { ⌜ (length (now words) ≡ 64) × (i < 16) ⌝ }
+    ensures { λ r. ⌜ r ≡ hasKey key (getD (tableOf (now (words .entry))) i Free) ⌝ }
+{
+    if words[4 * i] != key.system {
+        return false;
+    }
+    if words[4 * i + 1] != key.mac {
+        return false;
+    }
+    let w = words[4 * i + 3];
+    if w / 256 % 256 != key.level as u64 {
+        return false;
+    }
+    is_held_word(w)
+}
+
+pub fn is_expired_at(words: &[u64], i: usize, clock: u64) -> bool
+    requires { ⌜ (length (now words) ≡ 64) × (i < 16) ⌝ }
+    ensures { λ r. ⌜ r ≡ meets (expiredBy clock) (getD (tableOf (now (words .entry))) i Free) ⌝ }
+{
+    if is_held_word(words[4 * i + 3]) {
+        return words[4 * i + 2] <= clock;
+    }
+    false
+}
+
+pub fn is_planned_at(words: &[u64], i: usize) -> bool
+    requires { ⌜ (length (now words) ≡ 64) × (i < 16) ⌝ }
+    ensures { λ r. ⌜ r ≡ meets plannedState (getD (tableOf (now (words .entry))) i Free) ⌝ }
+{
+    let w = words[4 * i + 3];
+    if w % 4 != 2 {
+        return false;
+    }
+    2 <= w / 4 % 4
+}
+
+pub fn is_outranked_at(words: &[u64], i: usize, rank: Rank) -> bool
+    requires { ⌜ (length (now words) ≡ 64) × (i < 16) ⌝ }
+    ensures { λ r. ⌜ r ≡ outrankedAt rank (getD (tableOf (now (words .entry))) i Free) ⌝ }
+{
+    let w = words[4 * i + 3];
+    if w % 4 != 2 {
+        return false;
+    }
+    if w / 256 % 256 != rank.level as u64 {
+        return false;
+    }
+    let Slot::Held(entry) = load(words, i) else {
+        return false;
+    };
+    is_outranked_by(rank, entry)
+}

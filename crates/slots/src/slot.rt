@@ -1,0 +1,94 @@
+// A place's four words: System ID, MAC, expiry, and the small fields (word.rt).
+use crate::word::data_at;
+use crate::word::mark_at;
+use crate::word::state_word;
+use adjacency::record::Key;
+use adjacency::record::Record;
+use adjacency::record::State;
+use adjacency::record::state_expiry;
+ghost use mathlib.Core.Path.{_≡_};
+ghost use Prim.Native.Nat.{_+_, _*_, _<_};
+ghost use lib.ListN.{length, getD, set};
+ghost use Rattle.slots.specs.Slots.{slotOf, tableOf, recordWord, FitRecord};
+
+// A place of a circuit's room: no record, a record, or a place that the circuit does not have (a P2P circuit has room for one).
+pub enum Slot {
+    Free,
+    Held(Record),
+    Closed,
+}
+
+fn slot_of(system: u64, mac: u64, expiry: u64, w: u64) -> Slot
+    ensures { λ r. ⌜ r ≡ slotOf system mac expiry w ⌝ }
+{
+    let tag = w % 4;
+    if tag == 0 {
+        return Slot::Free;
+    }
+    if tag == 3 {
+        return Slot::Closed;
+    }
+    let kept = data_at(expiry, w);
+    let key = Key {
+        level: (w / 256 % 256) as u8,
+        system,
+        mac,
+    };
+    if tag == 1 {
+        let state = State::Init(kept);
+        return Slot::Held(Record { key, state });
+    }
+    let state = State::Up(kept, mark_at(w));
+    Slot::Held(Record { key, state })
+}
+
+pub fn load(words: &[u64], i: usize) -> Slot
+    requires { ⌜ (length (now words) ≡ 64) × (i < 16) ⌝ }
+    ensures { λ r. ⌜ r ≡ getD (tableOf (now (words .entry))) i Slot.Free ⌝ }
+{
+    slot_of(
+        words[4 * i],
+        words[4 * i + 1],
+        words[4 * i + 2],
+        words[4 * i + 3],
+    )
+}
+
+fn record_word(entry: Record) -> u64
+    ensures { λ r. ⌜ r ≡ recordWord entry ⌝ }
+    ensures { λ _. ⌜ FitRecord entry ⌝ }
+{
+    let key = entry.key;
+    let state = entry.state;
+    state_word(state) + 256 * (key.level as u64)
+}
+
+pub fn store(words: &mut [u64], i: usize, entry: Record)
+    requires { ⌜ (length (now words) ≡ 64) × (i < 16) ⌝ }
+    ensures { λ _. ⌜ tableOf (now (words .exit)) ≡ set (tableOf (now (words .entry))) i (Slot.Held entry) ⌝ }
+{
+    let w = record_word(entry);
+    let key = entry.key;
+    let state = entry.state;
+    let e = state_expiry(state);
+    words[4 * i] = key.system;
+    words[4 * i + 1] = key.mac;
+    words[4 * i + 2] = e;
+    words[4 * i + 3] = w;
+}
+
+// No record stands at a place any more.
+pub fn clear(words: &mut [u64], i: usize)
+    requires { ⌜ (length (now words) ≡ 64) × (i < 16) ⌝ }
+    ensures { λ _. ⌜ tableOf (now (words .exit)) ≡ set (tableOf (now (words .entry))) i Slot.Free ⌝ }
+{
+    words[4 * i + 3] = 0;
+}
+
+// The circuit does not have this place.
+pub fn close(words: &mut [u64], i: usize)
+    requires { ⌜ (length (now words) ≡ 64) × (i < 16) ⌝ }
+    ensures { λ _. ⌜ tableOf (now (words .exit)) ≡ set (tableOf (now (words .entry))) i Slot.Closed ⌝ }
+{
+    words[4 * i + 3] = 3;
+}

@@ -1,0 +1,4 @@
+pub mod TableLaws
+pub mod SearchLaws
+pub mod PlaceLaws
+pub mod SweepLaws

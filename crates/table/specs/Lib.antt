@@ -1,0 +1,4 @@
+pub mod Table
+pub mod Place
+pub mod Sweep
+pub mod Gather
