@@ -141,7 +141,7 @@ fn is_within(l: Levels, s: Levels) -> bool
     false
 }
 
-fn join_levels(l: Levels, s: Levels) -> Levels
+pub fn join_levels(l: Levels, s: Levels) -> Levels
     ensures { λ r. ⌜ r ≡ union l s ⌝ }
 {
     let one = either(l.one, s.one);

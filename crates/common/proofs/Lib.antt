@@ -1,0 +1,2 @@
+pub mod CommonLaws
+pub mod HeadLaws

@@ -1,0 +1,43 @@
+-- The count is tested first, so that the loop stays within the eight.
+use mathlib.Core.Path.{sym, _∙_}
+use Rattle.settings.proofs.SettingsLaws.{between-true, ok-counted, ok-miscounted}
+use borrow.Author.Needs.{needs}
+use Rattle.settings.proofs.setup.are_settings_ok.Statement.{statement}
+use Rattle.settings.proofs.setup.are_settings_ok.Tie as tie
+
+cast-is-between : tie.Need-cast-is-between
+cast-is-between c = search needs
+
+is-between-requires : tie.Need-is-between-requires
+is-between-requires c κs = search needs
+
+cast-are-circuits-ok : tie.Need-cast-are-circuits-ok
+cast-are-circuits-ok c = search needs
+
+are-circuits-ok-requires : tie.Need-are-circuits-ok-requires
+are-circuits-ok-requires c κs = between-true 1 _ 8 (sym (c .before .is-between .ensures) ∙ c .if1 .taken) .1
+
+are-lengths-ok-requires : tie.Need-are-lengths-ok-requires
+are-lengths-ok-requires c κs = search needs
+
+both-requires : tie.Need-both-requires
+both-requires c κs = search needs
+
+returns : tie.Need-returns
+returns c = rw (c .both .ensures, c .before .are-lengths-ok .ensures, c .before .before .are-circuits-ok .ensures) (sym (ok-counted (c .before .before .before .before .before .before .before .args .s) (sym (c .before .before .before .before .is-between .ensures) ∙ c .before .before .before .if1 .taken)))
+
+returns-2 : tie.Need-returns-2
+returns-2 c = sym (ok-miscounted (c .before .before .before .before .args .s) (sym (c .before .is-between .ensures) ∙ c .if1 .left))
+
+pub are-settings-ok-spec : {M : Type 1} → statement M
+are-settings-ok-spec =
+    tie.close
+    (tie.spec
+    cast-is-between
+    is-between-requires
+    cast-are-circuits-ok
+    are-circuits-ok-requires
+    are-lengths-ok-requires
+    both-requires
+    returns
+    returns-2)

@@ -1,0 +1,62 @@
+// One circuit's settings (document 01, "What the gateway holds").
+use hello::header::CircuitKind;
+use hello::levels::Levels;
+ghost use mathlib.Core.Path.{_≡_};
+ghost use mathlib.Core.Bool.{_&&_};
+ghost use Rattle.settings.specs.Settings.{between, someOn, circuitOk};
+
+pub const MAX_PRIORITY: u32 = 127;
+
+pub const MAX_HOLD: u32 = 65535;
+
+pub const MAX_METRIC: u32 = 16777214;
+
+// The id is our own extended circuit ID, which only a P2P circuit has.
+pub struct Circuit {
+    pub kind: CircuitKind,
+    pub levels: Levels,
+    pub mac: u64,
+    pub priority: u8,
+    pub hold: u16,
+    pub metric: u32,
+    pub id: u32,
+}
+
+pub fn is_between(low: u32, n: u32, high: u32) -> bool
+    ensures { λ r. ⌜ r ≡ between low n high ⌝ }
+{
+    if low <= n {
+        return n <= high;
+    }
+    false
+}
+
+fn some_on(levels: Levels) -> bool
+    ensures { λ r. ⌜ r ≡ someOn levels ⌝ }
+{
+    let one = levels.one;
+    let two = levels.two;
+    if one {
+        return true;
+    }
+    two
+}
+
+pub fn both(a: bool, b: bool) -> bool
+    ensures { λ r. ⌜ r ≡ (a && b) ⌝ }
+{
+    if a {
+        return b;
+    }
+    false
+}
+
+pub fn is_circuit_ok(s: Circuit) -> bool
+    ensures { λ r. ⌜ r ≡ circuitOk s ⌝ }
+{
+    let levels = s.levels;
+    let priority = is_between(0, s.priority as u32, MAX_PRIORITY);
+    let hold = is_between(1, s.hold as u32, MAX_HOLD);
+    let metric = is_between(0, s.metric, MAX_METRIC);
+    both(some_on(levels), both(priority, both(hold, metric)))
+}
