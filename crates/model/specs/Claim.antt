@@ -1,0 +1,145 @@
+-- Demand 3 (document 01, "The runs of demand 3"): a bad neighbour harms itself. What two runs must agree on, and the claim.
+use Prim.Native.Nat.{ℕ}
+use mathlib.Core.Path.{_≡_}
+use mathlib.Core.Logic.{_≢_}
+use mathlib.Core.Bool.{Bool, true, false, cond, not, _&&_}
+use mathlib.Core.List.{List, [], _∷_}
+use lib.Dec.{eqb}
+use Rattle.hello.specs.Refusal.{refusalNo}
+use Rattle.hello.specs.declared.header.CircuitKind.{CircuitKind}
+use Rattle.hello.specs.declared.header.CircuitKind.the-variants.{Lan, P2p}
+use Rattle.adjacency.specs.declared.duty.Csnps.the-variants.{Nothing}
+use Rattle.adjacency.specs.declared.record.Key.{Key}
+use Rattle.timers.specs.declared.head.Mode.the-variants.{Running}
+use Rattle.settings.specs.declared.setup.Settings.{Settings}
+use Rattle.common.specs.Common.{circuitOf}
+use Rattle.common.specs.declared.words.Chosen.{Chosen}
+use Rattle.common.specs.declared.words.Chosen.the-variants.{Known, Unknown}
+use Rattle.model.specs.declared.answers.Orders.{Orders}
+use Rattle.model.specs.Answers.{Answer, Refused, Received, Ticked, Told, Done}
+use Rattle.model.specs.Gateway.{Gateway, Started, setup, renew, recordAt}
+use Rattle.model.specs.Step.{Local, Receive, Release, CsnpComplete, LookUp, LinkMetric, NextHello, Call, At, Over, Outcome, step}
+
+-- a bad neighbour: one source MAC on one circuit
+pub record Neighbour : Type 0 where
+  pub circuit : ℕ
+  pub mac : ℕ
+
+-- ---- the lists
+
+-- "The bad neighbour's frames are the receives with its circuit and source MAC."
+unfoldable pub isSent : Neighbour → Local → Bool
+isSent b (Receive mac frame buffer) = eqb mac (b .mac)
+isSent b Release = false
+isSent b (CsnpComplete level) = false
+isSent b (LookUp k) = false
+isSent b LinkMetric = false
+isSent b NextHello = false
+
+unfoldable pub isIts : Neighbour → Call → Bool
+isIts b (At n l) = eqb n (b .circuit) && isSent b l
+isIts b (Over w) = false
+
+-- "Without them the lists are equal .. those are the shared calls."
+unfoldable pub shared : Neighbour → List Call → List Call
+shared b [] = []
+shared b (c ∷ cs) = cond (isIts b c) (shared b cs) (c ∷ shared b cs)
+
+-- ---- "On its LAN, until a run answers 9 there"
+
+unfoldable pub isLan : Chosen → Bool
+isLan Unknown = false
+isLan (Known s) = by (s .kind)
+  where
+    by : CircuitKind → Bool
+    by Lan = true
+    by P2p = false
+
+-- the call names its circuit
+unfoldable pub isThere : Neighbour → Call → Bool
+isThere b (At n l) = eqb n (b .circuit)
+isThere b (Over w) = false
+
+unfoldable pub isNine : Answer → Bool
+isNine (Refused x) = eqb (refusalNo x) 9
+isNine (Received o) = false
+isNine (Ticked marks hellos o) = false
+isNine (Told f) = false
+
+-- the promise for its LAN stood before a call, and stands after it
+abbrev pub still : Neighbour → Bool → Call → Answer → Bool
+still b s c a = s && not (isThere b c && isNine a)
+
+-- ---- the runs
+
+-- a shared call, whether the promise for its LAN stands, and what came of the call
+pub record Sight : Type 0 where
+  pub call : Call
+  pub stands : Bool
+  pub outcome : Outcome
+
+-- the shared calls of a run from g: "Each call gets the gateway that the last one returned or left"
+unfoldable pub run : Neighbour → Bool → Gateway → List Call → List Sight
+run b s g [] = []
+run b s g (c ∷ cs) =
+    let o : Outcome = step g c in
+    let z : Bool = still b s c (o .answer) in
+    cond (isIts b c) (run b z (o .next) cs) (record { call = c; stands = z; outcome = o } ∷ run b z (o .next) cs)
+
+-- ---- what is compared
+
+-- ".. but for a tick's mark of the bad neighbour's circuit"
+unfoldable pub unmarked : ℕ → Answer → Answer
+unmarked n (Ticked marks hellos o) = Ticked (renew marks n false) hellos o
+unmarked n (Refused x) = Refused x
+unmarked n (Received o) = Received o
+unmarked n (Told f) = Told f
+
+-- ".. but for line 1's orders"
+abbrev pub withoutCsnps : Orders → Orders
+withoutCsnps o = record { reply = o .reply; csnps = Nothing; outcome = o .outcome; freed = o .freed }
+
+unfoldable pub unordered : Answer → Answer
+unordered (Received o) = Received (withoutCsnps o)
+unordered (Refused x) = Refused x
+unordered (Ticked marks hellos o) = Ticked marks hellos o
+unordered (Told f) = Told f
+
+-- ".. and look-ups of keys with its MAC"
+unfoldable pub comparedThere : Neighbour → Local → Answer → Answer
+comparedThere b (Receive mac frame buffer) a = unordered a
+comparedThere b (LookUp k) a = cond (eqb (k .mac) (b .mac)) (Told Done) a
+comparedThere b Release a = a
+comparedThere b (CsnpComplete level) a = a
+comparedThere b LinkMetric a = a
+comparedThere b NextHello a = a
+
+unfoldable pub compared : Neighbour → Call → Answer → Answer
+compared b (At n l) a = cond (eqb n (b .circuit)) (comparedThere b l a) a
+compared b (Over w) a = unmarked (b .circuit) a
+
+-- after a shared call
+pub record Agree (b : Neighbour) (x y : Sight) : Type 0 where
+  pub call : x .call ≡ y .call
+  -- every record of every other circuit, and the answer and reply of a call that does not name its circuit
+  pub records : (n : ℕ) (k : Key) → n ≢ b .circuit → recordAt (x .outcome .next) n k ≡ recordAt (y .outcome .next) n k
+  pub answer : isThere b (x .call) ≡ false → compared b (x .call) (x .outcome .answer) ≡ compared b (y .call) (y .outcome .answer)
+  pub reply : isThere b (x .call) ≡ false → x .outcome .reply ≡ y .outcome .reply
+  -- while the promise for its LAN stands in both runs: the same there, but for records with its MAC
+  pub own-records : x .stands ≡ true → y .stands ≡ true → (k : Key) → k .mac ≢ b .mac
+      → recordAt (x .outcome .next) (b .circuit) k ≡ recordAt (y .outcome .next) (b .circuit) k
+  pub own-answer : x .stands ≡ true → y .stands ≡ true → compared b (x .call) (x .outcome .answer) ≡ compared b (y .call) (y .outcome .answer)
+  pub own-reply : x .stands ≡ true → y .stands ≡ true → x .outcome .reply ≡ y .outcome .reply
+
+pub data Agreeing (b : Neighbour) : List Sight → List Sight → Type 0 where
+  end : Agreeing b [] []
+  next : {x y : Sight} {xs ys : List Sight} → Agree b x y → Agreeing b xs ys → Agreeing b (x ∷ xs) (y ∷ ys)
+
+-- ---- the claim
+
+-- Any gateway that setup returned in the mode Running, any bad neighbour, any two lists whose calls are equal without its frames.
+abbrev pub Isolation : Type 0
+Isolation =
+    (s : Settings) (g : Gateway) (hellos : List Bool) → s .mode ≡ Running → setup s ≡ Started g hellos
+    → (b : Neighbour) (xs ys : List Call) → shared b xs ≡ shared b ys
+    → Agreeing b (run b (isLan (circuitOf (g .common) (b .circuit))) g xs) (run b (isLan (circuitOf (g .common) (b .circuit))) g ys)

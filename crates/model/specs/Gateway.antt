@@ -1,0 +1,74 @@
+-- What the gateway holds (document 01, "What the gateway holds"): the common part, and each circuit's own.
+use Prim.Native.Nat.{ℕ, zero, suc}
+use mathlib.Core.Bool.{Bool, cond}
+use mathlib.Core.List.{List, [], map}
+use lib.ListN.{getD, set}
+use Rattle.hello.specs.declared.refusal.Refusal.{Refusal}
+use Rattle.hello.specs.declared.refusal.Refusal.the-variants.{BadSetting}
+use Rattle.adjacency.specs.declared.record.Adjacency.{Adjacency}
+use Rattle.adjacency.specs.declared.record.Key.{Key}
+use Rattle.slots.specs.declared.slot.Slot.{Slot}
+use Rattle.table.specs.Table.{find, emptyRoom}
+use Rattle.timers.specs.Calls.{startHellos}
+use Rattle.settings.specs.Settings.{settingsOk}
+use Rattle.settings.specs.declared.circuit.Circuit.{Circuit}
+use Rattle.settings.specs.declared.setup.Settings.{Settings}
+use Rattle.common.specs.Common.{Common, startOf, setupCommon}
+
+-- one circuit's own
+pub record Room : Type 0 where
+  pub slots : List Slot
+
+pub record Gateway : Type 0 where
+  pub common : Common
+  pub rooms : List Room
+
+abbrev pub withSlots : Room → List Slot → Room
+withSlots r t = record { slots = t }
+
+abbrev pub withRooms : Gateway → List Room → Gateway
+withRooms g rs = record { common = g .common; rooms = rs }
+
+abbrev pub withCommon : Gateway → Common → Gateway
+withCommon g c = record { common = c; rooms = g .rooms }
+
+-- ---- "circuits, numbered from 1"
+
+module _ {A : Type 0} where
+  -- the element of this number, or d where there is none
+  unfoldable pub numbered : List A → ℕ → A → A
+  numbered l zero d = d
+  numbered l (suc i) d = getD l i d
+
+  -- the list with v at this number; as it was, where there is none
+  unfoldable pub renew : List A → ℕ → A → List A
+  renew l zero v = l
+  renew l (suc i) v = set l i v
+
+abbrev pub noRoom : Room
+noRoom = record { slots = [] }
+
+abbrev pub roomOf : Gateway → ℕ → Room
+roomOf g n = numbered (g .rooms) n noRoom
+
+-- the record of a key on a circuit
+unfoldable pub recordAt : Gateway → ℕ → Key → Adjacency
+recordAt g n k = find k (roomOf g n .slots)
+
+-- ---- setup
+
+-- "Setup takes these, a clock in seconds (32 bits) and a mode": every room is empty
+abbrev pub newRoom : Circuit → Room
+newRoom s = record { slots = emptyRoom (s .kind) }
+
+unfoldable pub newGateway : Settings → Gateway
+newGateway s = record { common = setupCommon s; rooms = map newRoom (s .circuits) }
+
+-- the gateway, and the circuits whose hello with RR is ordered
+pub data Setup : Type 0 where
+  Declined : Refusal → Setup
+  Started : Gateway → (hellos : List Bool) → Setup
+
+-- "A setting outside its range is refused (12) and no gateway results."
+unfoldable pub setup : Settings → Setup
+setup s = cond (settingsOk s) (Started (newGateway s) (startHellos (startOf s))) (Declined BadSetting)

@@ -1,0 +1,5 @@
+pub mod Answers
+pub mod Gateway
+pub mod Receive
+pub mod Step
+pub mod Claim

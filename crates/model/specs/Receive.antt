@@ -1,0 +1,99 @@
+-- Receive on a circuit, by stages in the order of the refusals (document 01, "Refusals by number"). A stage is a function of the common
+-- part and of the circuit's own; n is the circuit's number, s its settings, b the lent reply buffer.
+use Prim.Native.Nat.{ℕ, _-_}
+use mathlib.Core.Bool.{cond, not}
+use mathlib.Core.List.{List}
+use lib.ListN.{length}
+use lib.Dec.{ltb}
+use Rattle.hello.specs.Hello.{helloRead}
+use Rattle.hello.specs.declared.read.Hello.{Hello}
+use Rattle.hello.specs.declared.read.Read.{Read}
+use Rattle.hello.specs.declared.read.Read.the-variants.{Refused as Unread, Accepted as ReadAs}
+use Rattle.hello.specs.declared.refusal.Refusal.{Refusal}
+use Rattle.hello.specs.declared.refusal.Refusal.the-variants.{ReplyRoom, WrongSource}
+use Rattle.adjacency.specs.Step.{wrongSource}
+use Rattle.adjacency.specs.declared.duty.Rank.{Rank}
+use Rattle.adjacency.specs.declared.marks.Acknowledgement.{Acknowledgement}
+use Rattle.adjacency.specs.declared.marks.Line.{Line}
+use Rattle.adjacency.specs.declared.react.Reaction.{Reaction}
+use Rattle.adjacency.specs.declared.react.Reaction.the-variants.{Refused as Declined, Accepted}
+use Rattle.adjacency.specs.declared.record.Adjacency.{Adjacency}
+use Rattle.adjacency.specs.declared.record.Key.{Key}
+use Rattle.adjacency.specs.declared.step.Here.{Here}
+use Rattle.timer_parts.specs.Heard.{heardOf}
+use Rattle.timer_parts.specs.declared.heard.Heard.{Heard}
+use Rattle.timers.specs.Timers.{heardIn, heard}
+use Rattle.timers.specs.Outcome.{isRunning, ordered, heardFreed}
+use Rattle.settings.specs.declared.circuit.Circuit.{Circuit}
+use Rattle.common.specs.Common.{Common, withTimers}
+use Rattle.room_calls.specs.Seat.{levelIn, keyIn, decided, kept, written, csnpsIn}
+use Rattle.model.specs.declared.answers.Orders.{Orders}
+use Rattle.model.specs.Answers.{Answer, Refused, Received}
+use Rattle.model.specs.Gateway.{Room, withSlots}
+
+-- what a call on a circuit answers and replies, and what it makes of the common part and of the circuit's own
+pub record Acted : Type 0 where
+  pub answer : Answer
+  pub reply : List ℕ
+  pub common : Common
+  pub room : Room
+
+-- "A refusal changes no record, timer, clock or octet of a lent buffer"
+unfoldable pub refuse : List ℕ → Refusal → Common → Room → Acted
+refuse b x c r = record { answer = Refused x; reply = b; common = c; room = r }
+
+-- ---- an accepted frame
+
+-- what the state step and the marks know of the gateway
+abbrev pub hereOf : Common → Circuit → Here
+hereOf c s = record { clock = c .clock; restarting = not (isRunning (c .timers .mode)); own = c .system; circuit = s .id; hold = s .hold }
+
+-- our own pair (priority, MAC), at the frame's level
+abbrev pub rankOf : Circuit → Hello → Rank
+rankOf s h = record { level = levelIn (h .link); priority = s .priority; mac = s .mac }
+
+-- what the frame says to the timers
+abbrev pub saidOf : Common → Circuit → Hello → Heard
+saidOf c s h = heardOf (c .system) (s .id) h
+
+abbrev pub ordersOf : ℕ → Circuit → Hello → Acknowledgement → Line → Common → Room → Orders
+ordersOf n s h reply line c r =
+    record {
+      reply = reply;
+      csnps = csnpsIn (rankOf s h) line (s .levels) (h .link) (r .slots);
+      outcome = ordered (heardIn (c .clock) (n - 1) (s .levels) (saidOf c s h)) (c .timers);
+      freed = heardFreed (n - 1) (saidOf c s h) (c .timers);
+    }
+
+-- The record, then line 1's order, then the timers, then the reply. Circuits' timers count from 0.
+unfoldable pub accepted : ℕ → Circuit → Hello → Key → List ℕ → Adjacency → Acknowledgement → Line → Common → Room → Acted
+accepted n s h k b after reply line c r =
+    record {
+      answer = Received (ordersOf n s h reply line c (withSlots r (kept k after (r .slots))));
+      reply = written (h .system) reply b;
+      common = withTimers (heard (c .clock) (n - 1) (s .levels) (saidOf c s h) (c .timers)) c;
+      room = withSlots r (kept k after (r .slots));
+    }
+
+-- refusals 8 and 9, or the frame's effect
+unfoldable pub settle : ℕ → Circuit → Hello → Key → List ℕ → Reaction → Common → Room → Acted
+settle n s h k b (Declined x) c r = refuse b x c r
+settle n s h k b (Accepted after reply line) c r = accepted n s h k b after reply line c r
+
+unfoldable pub seated : ℕ → Circuit → ℕ → List ℕ → Hello → Common → Room → Acted
+seated n s mac b h c r =
+    settle n s h (keyIn (s .kind) mac h) b (decided (hereOf c s) (keyIn (s .kind) mac h) h (r .slots)) c r
+
+-- refusal 7
+unfoldable pub checked : ℕ → Circuit → ℕ → List ℕ → Hello → Common → Room → Acted
+checked n s mac b h c r =
+    cond (wrongSource (s .levels) (c .system) h) (refuse b WrongSource c r) (seated n s mac b h c r)
+
+-- refusals 3 to 6
+unfoldable pub readIn : ℕ → Circuit → ℕ → List ℕ → Read → Common → Room → Acted
+readIn n s mac b (Unread x) = refuse b x
+readIn n s mac b (ReadAs h) = checked n s mac b h
+
+-- refusal 2
+unfoldable pub receive : ℕ → Circuit → ℕ → List ℕ → List ℕ → Common → Room → Acted
+receive n s mac frame b = cond (ltb (length b) 11) (refuse b ReplyRoom) (readIn n s mac b (helloRead (s .kind) (s .mac) frame))

@@ -1,0 +1,190 @@
+-- The calls, and the step that each is (document 01, "What the gateway holds" and "Refusals by number"): its answer, the reply buffer,
+-- and the next gateway. Each call's promise and every claim about lists of calls cite this step.
+use Prim.Native.Nat.{ℕ, _-_}
+use mathlib.Core.Bool.{Bool, true, false, cond}
+use mathlib.Core.List.{List, [], _∷_, map}
+use lib.ListN.{getD, replicate}
+use lib.Dec.{ltb}
+use Rattle.hello.specs.declared.header.CircuitKind.{CircuitKind}
+use Rattle.hello.specs.declared.header.CircuitKind.the-variants.{Lan, P2p}
+use Rattle.hello.specs.declared.levels.Levels.{Levels}
+use Rattle.hello.specs.declared.refusal.Refusal.{Refusal}
+use Rattle.hello.specs.declared.refusal.Refusal.the-variants.{NoCircuit, ClockBack, NotRestarting}
+use Rattle.adjacency.specs.Step.{hasLevel}
+use Rattle.adjacency.specs.Duty.{onlyLevel}
+use Rattle.adjacency.specs.declared.record.Key.{Key}
+use Rattle.table.specs.Table.{find, released, expired, anyExpired, firstState}
+use Rattle.metric.specs.Metric.{linkMetric}
+use Rattle.timer_parts.specs.Mask.{circuits}
+use Rattle.timer_parts.specs.T1.{helloFlags}
+use Rattle.timers.specs.Timers.{Timers, inMode, settled, ticked, toT3, csnpIn, noticeT2s, noT1, countRuns, firstRuns}
+use Rattle.timers.specs.Outcome.{ordered, tickHellos}
+use Rattle.timers.specs.declared.outcome.Outcome.{Outcome as Timed}
+use Rattle.timers.specs.declared.outcome.Outcome.the-variants.{Idle}
+use Rattle.settings.specs.Settings.{enabledLevels}
+use Rattle.settings.specs.declared.circuit.Circuit.{Circuit}
+use Rattle.common.specs.Common.{Common, withClock, withTimers, circuitOf}
+use Rattle.common.specs.declared.words.Chosen.{Chosen}
+use Rattle.common.specs.declared.words.Chosen.the-variants.{Known, Unknown}
+use Rattle.room_calls.specs.Seat.{keyOn}
+use Rattle.model.specs.Answers.{Answer, Refused, Ticked, Told, Fact, Done, Noticed, Looked, Metric, HelloFlags, Waits}
+use Rattle.model.specs.Gateway.{Room, Gateway, withSlots, roomOf, renew}
+use Rattle.model.specs.Receive.{Acted, refuse, receive}
+
+-- ---- the calls
+
+-- those that name a circuit, without its number
+pub data Local : Type 0 where
+  Receive : (mac : ℕ) (frame buffer : List ℕ) → Local
+  Release : Local
+  CsnpComplete : (level : ℕ) → Local
+  LookUp : Key → Local
+  LinkMetric : Local
+  NextHello : Local
+
+-- those that name none
+pub data Global : Type 0 where
+  Tick : (clock : ℕ) → Global
+  DatabaseComplete : (level : ℕ) → Global
+  Waiting : Global
+
+pub data Call : Type 0 where
+  At : (circuit : ℕ) → Local → Call
+  Over : Global → Call
+
+pub record Outcome : Type 0 where
+  pub answer : Answer
+  pub reply : List ℕ
+  pub next : Gateway
+
+-- ---- the calls on a circuit
+
+abbrev pub told : Fact → Common → Room → Acted
+told f c r = record { answer = Told f; reply = []; common = c; room = r }
+
+-- a notice whose own step is f: "11: CSNP or database notice outside Restarting mode"
+abbrev pub noticeOf : (Timers → Timers) → Common → Fact
+noticeOf f c = Noticed (ordered f (c .timers))
+
+abbrev pub settledBy : (Timers → Timers) → Common → Common
+settledBy f c = withTimers (settled f (c .timers)) c
+
+-- "CSNP set complete (circuit, level)"; 1 for "a level not enabled there", ahead of 11
+unfoldable pub csnpComplete : ℕ → Circuit → ℕ → Common → Room → Acted
+csnpComplete n s level c r =
+    cond (hasLevel (s .levels) level)
+    (inMode (c .timers .mode) (refuse [] NotRestarting c r)
+    (told (noticeOf (csnpIn (n - 1) (s .levels) (onlyLevel level)) c) (settledBy (csnpIn (n - 1) (s .levels) (onlyLevel level)) c) r))
+    (refuse [] NoCircuit c r)
+
+-- the level of a key counts on a LAN alone
+abbrev pub asksLevel : CircuitKind → Levels → ℕ → Bool
+asksLevel Lan l level = hasLevel l level
+asksLevel P2p l level = true
+
+-- "Look up answers 'none' where no such record stands."
+unfoldable pub lookUp : Circuit → Key → Common → Room → Acted
+lookUp s k c r =
+    cond (asksLevel (s .kind) (s .levels) (k .level)) (told (Looked (find (keyOn (s .kind) k) (r .slots))) c r) (refuse [] NoCircuit c r)
+
+-- a P2P room has one record at most
+unfoldable pub linkMetricOf : Circuit → Common → Room → Acted
+linkMetricOf s c r = told (Metric (linkMetric (s .kind) (s .metric) (firstState (r .slots)))) c r
+
+-- "The next hello carries RR exactly while T1 runs"
+unfoldable pub nextHello : ℕ → Common → Room → Acted
+nextHello n c r = told (HelloFlags (helloFlags (getD (c .timers .t1s) (n - 1) noT1))) c r
+
+unfoldable pub act : ℕ → Circuit → Local → Common → Room → Acted
+act n s (Receive mac frame b) c r = receive n s mac frame b c r
+act n s Release c r = told Done c (withSlots r (released (r .slots)))
+act n s (CsnpComplete level) c r = csnpComplete n s level c r
+act n s (LookUp k) c r = lookUp s k c r
+act n s LinkMetric c r = linkMetricOf s c r
+act n s NextHello c r = nextHello n c r
+
+-- the reply buffer that a call lends
+abbrev pub lent : Local → List ℕ
+lent (Receive mac frame b) = b
+lent Release = []
+lent (CsnpComplete level) = []
+lent (LookUp k) = []
+lent LinkMetric = []
+lent NextHello = []
+
+-- a call on circuit n, done on the common part and on its room
+unfoldable pub lift : Gateway → ℕ → (Common → Room → Acted) → Outcome
+lift g n f =
+    let a : Acted = f (g .common) (roomOf g n) in
+    record { answer = a .answer; reply = a .reply; next = record { common = a .common; rooms = renew (g .rooms) n (a .room) } }
+
+abbrev pub refused : Gateway → List ℕ → Refusal → Outcome
+refused g b x = record { answer = Refused x; reply = b; next = g }
+
+-- 1: "no circuit of that number"
+unfoldable pub on : Gateway → ℕ → Local → Chosen → Outcome
+on g n l Unknown = refused g (lent l) NoCircuit
+on g n l (Known s) = lift g n (act n s l)
+
+-- ---- the calls that name none
+
+-- what such a call comes to, by the common part alone
+pub data Judged : Type 0 where
+  Decline : Refusal → Judged
+  Sweep : (clock : ℕ) (next : Common) (hellos : List Bool) → Timed → Judged
+  Tell : (next : Common) → Answer → Judged
+
+unfoldable pub noneOf : {A : Type 0} → List A → Bool
+noneOf [] = true
+noneOf (x ∷ xs) = false
+
+abbrev pub quiet : Answer
+quiet = Ticked (replicate circuits false) (replicate circuits false) Idle
+
+-- 10: "clock lower than the held clock". Memory that was never set up holds no circuit and no clock: there a tick does nothing.
+unfoldable pub tickOf : ℕ → Common → Judged
+tickOf clock c =
+    cond (noneOf (c .circuits)) (Tell c quiet)
+    (cond (ltb clock (c .clock)) (Decline ClockBack)
+    (Sweep clock (withTimers (ticked (c .lengths) clock (c .timers)) (withClock clock c)) (tickHellos (c .lengths) clock (c .timers))
+    (ordered (toT3 (c .lengths) clock) (c .timers))))
+
+-- 1: a level not enabled, "for database complete: on no circuit"
+unfoldable pub databaseOf : ℕ → Common → Judged
+databaseOf level c =
+    cond (hasLevel (enabledLevels (c .circuits)) level)
+    (inMode (c .timers .mode) (Decline NotRestarting)
+    (Tell (settledBy (noticeT2s (onlyLevel level)) c) (Told (noticeOf (noticeT2s (onlyLevel level)) c))))
+    (Decline NoCircuit)
+
+-- "how many circuits still wait for T1, and the lowest such circuit (or none)"
+abbrev pub waitsOf : Timers → Fact
+waitsOf t = Waits (countRuns (t .t1s)) (firstRuns (t .t1s) 1)
+
+unfoldable pub judge : Common → Global → Judged
+judge c (Tick clock) = tickOf clock c
+judge c (DatabaseComplete level) = databaseOf level c
+judge c Waiting = Tell c (Told (waitsOf (c .timers)))
+
+-- "A tick removes each record with expiry at or below the clock, and marks its circuit in the answer."
+abbrev pub swept : ℕ → Room → Room
+swept clock r = withSlots r (expired clock (r .slots))
+
+abbrev pub lapsed : ℕ → Room → Bool
+lapsed clock r = anyExpired clock (r .slots)
+
+unfoldable pub carry : Gateway → Judged → Outcome
+carry g (Decline x) = refused g [] x
+carry g (Sweep clock c hellos o) =
+    record {
+      answer = Ticked (map (lapsed clock) (g .rooms)) hellos o;
+      reply = [];
+      next = record { common = c; rooms = map (swept clock) (g .rooms) };
+    }
+carry g (Tell c a) = record { answer = a; reply = []; next = record { common = c; rooms = g .rooms } }
+
+-- ---- every call
+
+unfoldable pub step : Gateway → Call → Outcome
+step g (At n l) = on g n l (circuitOf (g .common) n)
+step g (Over w) = carry g (judge (g .common) w)

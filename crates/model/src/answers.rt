@@ -1,0 +1,75 @@
+// What the calls answer (document 01, "What the gateway holds"). An order is an action the caller must take. A mask over circuits has
+// the lowest bit for circuit 1.
+use adjacency::duty::Csnps;
+use adjacency::marks::Acknowledgement;
+use adjacency::record::State;
+use hello::refusal::Refusal;
+use restart_tlv::flags::Flags;
+use timer_parts::mask::Lowest;
+use timer_parts::t1::Freed;
+use timers::outcome::Outcome;
+
+// Of an accepted frame: the reply that was written, line 1's order, how the timers ended and what they order, and whether the circuit's
+// T1 was stopped for want of a Restart TLV.
+pub struct Orders {
+    pub reply: Acknowledgement,
+    pub csnps: Csnps,
+    pub outcome: Outcome,
+    pub freed: Freed,
+}
+
+pub enum Received {
+    Refused(Refusal),
+    Done(Orders),
+}
+
+// Of a tick: the circuits that lost a record, the circuits whose hello is ordered, and how the timers ended.
+pub enum Ticked {
+    Refused(Refusal),
+    Done {
+        marks: u8,
+        hellos: u8,
+        outcome: Outcome,
+    },
+}
+
+// Of a call with nothing to report.
+pub enum Released {
+    Refused(Refusal),
+    Done,
+}
+
+// Of a notice: how the timers ended and what they order.
+pub enum Noticed {
+    Refused(Refusal),
+    Done(Outcome),
+}
+
+// Of a look up: the state of the record with the key, or that there is none.
+pub enum Looked {
+    Refused(Refusal),
+    Nothing,
+    Found(State),
+}
+
+pub enum Metric {
+    Refused(Refusal),
+    Link(u32),
+}
+
+pub enum NextFlags {
+    Refused(Refusal),
+    Next(Flags),
+}
+
+// How many circuits still wait for T1, and the lowest of them.
+pub struct Waiting {
+    pub count: u32,
+    pub lowest: Lowest,
+}
+
+// Of setup: the circuits whose hello is ordered.
+pub enum SetUp {
+    Refused(Refusal),
+    Done(u8),
+}

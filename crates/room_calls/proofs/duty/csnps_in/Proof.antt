@@ -1,0 +1,78 @@
+use Rattle.room_calls.proofs.SeatLaws.{csnps-by}
+use mathlib.Core.Bool.{Bool}
+use mathlib.Core.Path.{ap, _∙_}
+use Rattle.adjacency.specs.Duty.{csnpsOf}
+use Rattle.room_calls.specs.Seat.{csnpsIn}
+use borrow.Author.Needs.{needs}
+use Rattle.room_calls.proofs.duty.csnps_in.Statement.{statement}
+use Rattle.room_calls.proofs.duty.csnps_in.Tie as tie
+use Rattle.room_calls.proofs.duty.csnps_in.Reads as reads
+use Rattle.room_calls.proofs.duty.csnps_in.Lts as lts
+use Rattle.adjacency.proofs.duty.csnps_of.Reads as csnps-of-reads
+use Rattle.table.proofs.search.is_outranked.Reads as is-outranked-reads
+
+enum-told : tie.Need-enum-told
+enum-told c = search needs
+
+enum-told-2 : tie.Need-enum-told-2
+enum-told-2 c = search needs
+
+is-outranked-requires : tie.Need-is-outranked-requires
+is-outranked-requires c κs = search needs
+
+csnps-of-requires : tie.Need-csnps-of-requires
+csnps-of-requires c κs = search needs
+
+enum-told-3 : tie.Need-enum-told-3
+enum-told-3 c = search needs
+
+enum-told-4 : tie.Need-enum-told-4
+enum-told-4 c = search needs
+
+enum-told-5 : tie.Need-enum-told-5
+enum-told-5 c = search needs
+
+enum-told-6 : tie.Need-enum-told-6
+enum-told-6 c = search needs
+
+returns : tie.Need-returns
+unfolding csnpsIn csnpsOf
+returns c = search needs
+
+returns-2 : tie.Need-returns-2
+returns-2 c = csnps-by _ _ _ _ _ _ _ (c .csnps-of .ensures) (c .before .is-outranked .ensures)
+
+returns-3 : tie.Need-returns-3
+unfolding csnpsIn csnpsOf
+returns-3 c = search needs
+
+returns-4 : tie.Need-returns-4
+unfolding csnpsIn csnpsOf
+returns-4 c = search needs
+
+returns-5 : tie.Need-returns-5
+unfolding csnpsIn csnpsOf
+returns-5 c = search needs
+
+returns-6 : tie.Need-returns-6
+unfolding csnpsIn csnpsOf
+returns-6 c = search needs
+
+pub csnps-in-spec : {M : Type 1} → statement M
+csnps-in-spec =
+    tie.close
+    (tie.spec
+    enum-told
+    enum-told-2
+    is-outranked-requires
+    csnps-of-requires
+    enum-told-3
+    enum-told-4
+    enum-told-5
+    enum-told-6
+    returns
+    returns-2
+    returns-3
+    returns-4
+    returns-5
+    returns-6)

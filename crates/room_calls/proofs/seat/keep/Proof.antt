@@ -1,0 +1,32 @@
+use Rattle.room_calls.proofs.SeatLaws.{kept-absent, kept-present}
+use mathlib.Core.Path.{_≡_, refl, sym, subst, _∙_}
+use Rattle.room_calls.specs.Seat.{kept}
+use borrow.Author.Needs.{needs}
+use Rattle.room_calls.proofs.seat.keep.Statement.{statement}
+use Rattle.room_calls.proofs.seat.keep.Tie as tie
+use Rattle.room_calls.proofs.seat.keep.Reads as reads
+use Rattle.room_calls.proofs.seat.keep.Lts as lts
+use Rattle.table.proofs.place.store_state.Reads as store-state-reads
+
+enum-known-after : tie.Need-enum-known-after
+enum-known-after c = search needs
+
+enum-told : tie.Need-enum-told
+enum-told c = search needs
+
+returns : tie.Need-returns
+returns c = kept-absent _ _ _ (c .enum-told .given .1)
+
+store-state-requires : tie.Need-store-state-requires
+store-state-requires c κs = (c .before .before .before .before .before .pre .0, c .before .before .before .before .before .pre .1 .below)
+
+same-length : tie.Need-same-length
+same-length c = search needs
+
+returns-2 : tie.Need-returns-2
+returns-2 c = c .before .before .store-state .ensures ∙ sym (c .before .before .before .before .before .before .before .before .pre .1 .puts _) ∙ kept-present _ _ _ _ (c .before .before .before .before .before .after .given .1)
+
+pub keep-spec : {M : Type 1} → statement M
+keep-spec =
+    tie.close
+    (tie.spec enum-known-after enum-told returns store-state-requires same-length returns-2)

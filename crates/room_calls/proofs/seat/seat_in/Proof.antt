@@ -1,0 +1,39 @@
+use mathlib.Core.Path.{_≡_, refl, sym, subst, _∙_}
+use Rattle.room_calls.proofs.SeatLaws.{decided-is}
+use borrow.Author.Needs.{needs}
+use Rattle.room_calls.proofs.seat.seat_in.Statement.{statement}
+use Rattle.room_calls.proofs.seat.seat_in.Tie as tie
+use Rattle.room_calls.proofs.seat.seat_in.Reads as reads
+use Rattle.room_calls.proofs.seat.seat_in.Lts as lts
+use Rattle.adjacency.proofs.react.react_to.Reads as react-to-reads
+use Rattle.room_calls.proofs.seat.seat_at.Reads as seat-at-reads
+use Rattle.table.proofs.place.place_of.Reads as place-of-reads
+
+place-of-requires : tie.Need-place-of-requires
+place-of-requires c κs = search needs
+
+react-to-requires : tie.Need-react-to-requires
+react-to-requires c κs = search needs
+
+seat-at-requires : tie.Need-seat-at-requires
+seat-at-requires c κs = (c .before .before .before .before .before .before .before .pre .0, c .before .before .before .place-of .ensures .spot, c .before .before .before .before .before .before .before .pre .1)
+
+same-length : tie.Need-same-length
+same-length c = search needs
+
+same-length-2 : tie.Need-same-length-2
+same-length-2 c = search needs
+
+returns : tie.Need-returns
+returns c = let x = c .before .before .before .before .seat-at .ensures in record { is = x .is ∙ decided-is _ _ _ _ _ _ (c .before .before .before .before .before .before .before .before .place-of .ensures .found) (c .before .before .before .before .before .before .before .react-to .ensures); did = x .did }
+
+pub seat-in-spec : {M : Type 1} → statement M
+seat-in-spec =
+    tie.close
+    (tie.spec
+    place-of-requires
+    react-to-requires
+    seat-at-requires
+    same-length
+    same-length-2
+    returns)

@@ -1,0 +1,30 @@
+// Line 1's order of CSNPs and flooding marks, of the room as the frame left it (document 01, "Marks and holding time").
+use adjacency::duty::Csnps;
+use adjacency::duty::Rank;
+use adjacency::duty::csnps_of;
+use adjacency::marks::Line;
+use hello::levels::Levels;
+use hello::read::Link;
+use table::search::is_outranked;
+ghost use mathlib.Core.Path.{_≡_};
+ghost use lib.ListN.{length};
+ghost use Rattle.slots.specs.Slots.{tableOf};
+ghost use Rattle.room_calls.specs.Seat.{csnpsIn};
+
+// Of the lines only line 1 orders, so only then is the room looked through.
+pub fn csnps_in(words: &[u64], rank: Rank, line: Line, levels: Levels, link: Link) -> Csnps
+    requires { ⌜ length (now words) ≡ 64 ⌝ }
+    ensures { λ r. ⌜ r ≡ csnpsIn rank line levels link (tableOf (now (words .entry))) ⌝ }
+{
+    match line {
+        Line::Ordinary => Csnps::Nothing,
+        Line::One => {
+            let outranked = is_outranked(words, rank);
+            csnps_of(line, levels, link, outranked)
+        }
+        Line::Two => Csnps::Nothing,
+        Line::Three => Csnps::Nothing,
+        Line::Four => Csnps::Nothing,
+        Line::Five => Csnps::Nothing,
+    }
+}
