@@ -1,0 +1,34 @@
+use Rattle.timers.specs.declared.head.Mode.{Mode}
+use Rattle.timers.specs.Outcome.{isRunning}
+use mathlib.Core.Bool.{not}
+use mathlib.Core.Path.{_≡_, refl, ap, sym, _∙_}
+use borrow.Author.Needs.{needs}
+use Rattle.gateway.proofs.frame.here_of.Statement.{statement}
+use Rattle.gateway.proofs.frame.here_of.Tie as tie
+use Rattle.gateway.proofs.frame.here_of.Reads as reads
+use Rattle.gateway.proofs.frame.here_of.Lts as lts
+use Rattle.common.proofs.head.mode_of.Reads as mode-of-reads
+use Rattle.common.proofs.words.clock_of.Reads as clock-of-reads
+use Rattle.common.proofs.words.system_of.Reads as system-of-reads
+use Rattle.gateway.proofs.frame.is_restarting.Reads as is-restarting-reads
+
+clock-of-requires : tie.Need-clock-of-requires
+clock-of-requires c κs = search needs
+
+mode-of-requires : tie.Need-mode-of-requires
+mode-of-requires c κs = search needs
+
+is-restarting-requires : tie.Need-is-restarting-requires
+is-restarting-requires c κs = search needs
+
+system-of-requires : tie.Need-system-of-requires
+system-of-requires c κs = search needs
+
+returns : tie.Need-returns
+returns c = let a = c .before .before .before .clock-of .ensures in let m = c .before .is-restarting .ensures ∙ ap (λ (x : Mode). not (isRunning x)) (c .before .before .mode-of .ensures) in let o = c .system-of .ensures in
+    λ i. record { clock = a i; restarting = m i; own = o i; circuit = c .before .before .before .before .before .args .s .id; hold = c .before .before .before .before .before .args .s .hold }
+
+pub here-of-spec : {M : Type 1} → statement M
+here-of-spec =
+    tie.close
+    (tie.spec clock-of-requires mode-of-requires is-restarting-requires system-of-requires returns)

@@ -1,0 +1,75 @@
+use Rattle.gateway.proofs.FrameLaws.{received-is}
+use Rattle.gateway.proofs.WordLaws.{along, refuses-all, choice, no-circuit, a-circuit}
+use Rattle.gateway.specs.Words.{gatewayOf}
+use Rattle.tlv.specs.Octets.{big}
+use Rattle.model.specs.Step.{Receive}
+use Rattle.common.specs.Common.{InRange}
+use Rattle.hello.specs.declared.refusal.Refusal.the-variants.{NoCircuit}
+use mathlib.Core.Path.{_≡_, refl, ap, sym, subst, _∙_}
+use borrow.Author.Needs.{needs}
+use Rattle.gateway.proofs.frame.receive_in.Statement.{statement}
+use Rattle.gateway.proofs.frame.receive_in.Tie as tie
+use Rattle.gateway.proofs.frame.receive_in.Reads as reads
+use Rattle.gateway.proofs.frame.receive_in.Lts as lts
+use Rattle.common.proofs.words.circuit_of.Reads as circuit-of-reads
+use Rattle.gateway.proofs.frame.read_in.Reads as read-in-reads
+use Rattle.tlv.proofs.octets.six.Reads as six-reads
+
+sub-circuit-of : tie.Need-sub-circuit-of
+sub-circuit-of c = search needs
+
+part-circuit-of-start : tie.Need-part-circuit-of-start
+part-circuit-of-start c = search needs
+
+part-circuit-of-end : tie.Need-part-circuit-of-end
+part-circuit-of-end c = search needs
+
+circuit-of-requires : tie.Need-circuit-of-requires
+circuit-of-requires c κs = search needs
+
+enum-known-s : tie.Need-enum-known-s
+enum-known-s c = search needs
+
+enum-told : tie.Need-enum-told
+enum-told c = search needs
+
+same-length : tie.Need-same-length
+same-length c = search needs
+
+returns : tie.Need-returns
+returns c = let a = c .before .before .before .before .before .before .before .before .before .args in
+    along (no-circuit (gatewayOf (a .gateway .now)) (a .n) (Receive (big 6 (a .source .now) 0) (a .frame .now) (a .reply .now)) (choice (a .gateway .now) (a .n) _ _ (c .before .before .circuit-of .ensures) (c .enum-told .given .1))) (refuses-all (a .gateway .now) (a .reply .now) NoCircuit)
+
+six-requires : tie.Need-six-requires
+six-requires c κs = search needs
+
+read-in-requires : tie.Need-read-in-requires
+read-in-requires c κs = let s = c .before .before .before .before .before .before .before .before .before .before .before .before .before in let r = subst (InRange _) (c .before .before .before .before .s .given .1) (c .before .before .before .before .before .before .circuit-of .ensures .range) in (s .pre .0, r .0, r .1)
+
+same-length-2 : tie.Need-same-length-2
+same-length-2 c = search needs
+
+same-length-3 : tie.Need-same-length-3
+same-length-3 c = search needs
+
+returns-2 : tie.Need-returns-2
+returns-2 c = let a = c .before .before .before .before .before .before .before .before .before .before .before .before .before .before .before .before .before .before .args in
+    along (received-is (gatewayOf (a .gateway .now)) (a .n) _ _ _ (a .frame .now) (a .reply .now) (c .before .before .before .before .before .before .before .six .ensures) ∙ a-circuit (gatewayOf (a .gateway .now)) (a .n) (Receive (big 6 (a .source .now) 0) (a .frame .now) (a .reply .now)) _ (choice (a .gateway .now) (a .n) _ _ (c .before .before .before .before .before .before .before .before .before .before .before .circuit-of .ensures) (c .before .before .before .before .before .before .before .before .before .s .given .1))) (c .before .before .before .before .read-in .ensures)
+
+pub receive-in-spec : {M : Type 1} → statement M
+receive-in-spec =
+    tie.close
+    (tie.spec
+    sub-circuit-of
+    part-circuit-of-start
+    part-circuit-of-end
+    circuit-of-requires
+    enum-known-s
+    enum-told
+    same-length
+    returns
+    six-requires
+    read-in-requires
+    same-length-2
+    same-length-3
+    returns-2)

@@ -1,0 +1,42 @@
+-- The gateway in lent words (house): the common words, then 64 words for each of eight circuits; and what a call is to do.
+use Prim.Native.Nat.{ℕ, _+_, _*_}
+use mathlib.Core.Path.{_≡_}
+use mathlib.Core.List.{List}
+use lib.ListN.{take, drop}
+use Rattle.hello.specs.declared.refusal.Refusal.{Refusal}
+use Rattle.slots.specs.Slots.{tabulate, tableOf}
+use Rattle.common.specs.Words.{commonWords}
+use Rattle.common.specs.Common.{commonOf}
+use Rattle.model.specs.Answers.{Answer, Refused}
+use Rattle.model.specs.Gateway.{Gateway, Room}
+use Rattle.model.specs.Step.{Outcome}
+
+-- the words of a circuit's room, and of a gateway
+abbrev pub roomWords : ℕ
+roomWords = 64
+
+abbrev pub gatewayWords : ℕ
+gatewayWords = 640
+
+-- k words from a on
+abbrev pub part : ℕ → ℕ → List ℕ → List ℕ
+part a k ws = take k (drop a ws)
+
+-- where the room of circuit i (from 0) stands
+abbrev pub roomPlace : ℕ → ℕ
+roomPlace i = 128 + 64 * i
+
+unfoldable pub roomAt : List ℕ → ℕ → Room
+roomAt ws i = record { slots = tableOf (part (roomPlace i) 64 ws) }
+
+-- any words mean some gateway
+unfoldable pub gatewayOf : List ℕ → Gateway
+gatewayOf ws = record { common = commonOf (part 0 128 ws); rooms = tabulate (roomAt ws) 8 }
+
+-- What a call on the words ws is to do, a being its answer: answer, reply buffer and gateway at exit are the outcome's, and a refusal leaves
+-- every word as it was.
+pub record Meets (a : Answer) (o : Outcome) (ws ws′ b′ : List ℕ) : Type 0 where
+  pub answer : a ≡ o .answer
+  pub reply : b′ ≡ o .reply
+  pub next : gatewayOf ws′ ≡ o .next
+  pub kept : (x : Refusal) → a ≡ Refused x → ws′ ≡ ws

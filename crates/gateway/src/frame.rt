@@ -1,0 +1,159 @@
+// Receive (document 01, "Refusals by number"): each function is one stage of the definition, in the order of the refusals.
+use adjacency::duty::Rank;
+use adjacency::react::Reaction;
+use adjacency::step::Here;
+use adjacency::step::is_wrong_source;
+use common::head::mode_of;
+use common::words::Chosen;
+use common::words::circuit_of;
+use common::words::clock_of;
+use common::words::system_of;
+use common_calls::calls::Handled;
+use common_calls::calls::hear;
+use hello::read::Hello;
+use hello::read::Read;
+use hello::read::read_hello;
+use hello::refusal::Refusal;
+use model::answers::Orders;
+use model::answers::Received;
+use room_calls::duty::csnps_in;
+use room_calls::keys::key_in;
+use room_calls::keys::level_in;
+use room_calls::seat::seat_in;
+use settings::circuit::Circuit;
+use timer_parts::heard::heard_of;
+use timers::head::Mode;
+use tlv::octets::six;
+ghost use mathlib.Core.Path.{_≡_};
+ghost use mathlib.Core.Bool.{not};
+ghost use Prim.Native.Nat.{_-_, _<_, _≤_};
+ghost use lib.ListN.{length};
+ghost use Rattle.tlv.specs.Octets.{big};
+ghost use Rattle.timers.specs.Outcome.{isRunning};
+ghost use Rattle.common.specs.Words.{commonWords};
+ghost use Rattle.common.specs.Common.{commonOf};
+ghost use Rattle.common_calls.specs.Calls.{CommonHears};
+ghost use Rattle.model.specs.Answers.{receivedOf};
+ghost use Rattle.model.specs.Receive.{hereOf, rankOf, saidOf, seated, checked};
+ghost use Rattle.model.specs.Step.{lift, step, Call, At, Receive};
+ghost use Rattle.gateway.specs.Words.{gatewayWords, gatewayOf, Meets};
+
+fn is_restarting(mode: Mode) -> bool
+    ensures { λ r. ⌜ r ≡ not (isRunning mode) ⌝ }
+{
+    match mode {
+        Mode::Running => false,
+        Mode::Restarting => true,
+    }
+}
+
+// What the state step and the marks know of the gateway.
+fn here_of(words: &[u64], s: Circuit) -> Here
+    requires { ⌜ length (now words) ≡ commonWords ⌝ }
+    ensures { λ r. ⌜ r ≡ hereOf (commonOf (now (words .entry))) s ⌝ }
+{
+    let clock = clock_of(words);
+    let mode = mode_of(words);
+    let restarting = is_restarting(mode);
+    let own = system_of(words);
+    Here {
+        clock,
+        restarting,
+        own,
+        circuit: s.id,
+        hold: s.hold,
+    }
+}
+
+fn rank_of(s: Circuit, frame: Hello) -> Rank
+    ensures { λ r. ⌜ r ≡ rankOf s frame ⌝ }
+{
+    let link = frame.link;
+    let level = level_in(link);
+    Rank {
+        level,
+        priority: s.priority,
+        mac: s.mac,
+    }
+}
+
+// What an accepted frame on circuit i (from 0) says to the timers.
+fn hear_frame(words: &mut [u64], i: usize, s: Circuit, frame: Hello) -> Handled
+    requires { ⌜ (length (now words) ≡ commonWords) × (i < 8) ⌝ }
+    ensures { λ r. ⌜ CommonHears i (s .levels) (saidOf (commonOf (now (words .entry))) s frame) (now (words .entry)) (now (words .exit)) (r .outcome) (r .freed) ⌝ }
+{
+    let levels = s.levels;
+    let own = system_of(words);
+    let said = heard_of(frame, own, s.id);
+    hear(words, i, levels, said)
+}
+
+// Refusals 8 and 9, or the frame's effect: the only function that cuts the words into parts.
+fn settle_in(gateway: &mut [u64], n: u8, s: Circuit, mac: u64, frame: Hello, reply: &mut [u8]) -> Received
+    requires { ⌜ (length (now gateway) ≡ gatewayWords) × (0 < n) × (n ≤ 8) × (11 ≤ length (now reply)) ⌝ }
+    ensures { λ r. ⌜ Meets (receivedOf r) (lift (gatewayOf (now (gateway .entry))) n (seated n s mac (now (reply .entry)) frame)) (now (gateway .entry)) (now (gateway .exit)) (now (reply .exit)) ⌝ }
+{
+    let kind = s.kind;
+    let levels = s.levels;
+    let link = frame.link;
+    let here = here_of(&gateway[0..128], s);
+    let key = key_in(kind, mac, frame);
+    let i = n as usize - 1;
+    let a = 128 + 64 * i;
+    match seat_in(&mut gateway[a..a + 64], here, key, frame, reply) {
+        Reaction::Refused(x) => Received::Refused(x),
+        Reaction::Accepted(_, acknowledgement, line) => {
+            let rank = rank_of(s, frame);
+            let csnps = csnps_in(&gateway[a..a + 64], rank, line, levels, link);
+            let x = hear_frame(&mut gateway[0..128], i, s, frame);
+            let outcome = x.outcome;
+            let freed = x.freed;
+            Received::Done(Orders {
+                reply: acknowledgement,
+                csnps,
+                outcome,
+                freed,
+            })
+        }
+    }
+}
+
+// Refusal 7.
+fn check_in(gateway: &mut [u64], n: u8, s: Circuit, mac: u64, frame: Hello, reply: &mut [u8]) -> Received
+    requires { ⌜ (length (now gateway) ≡ gatewayWords) × (0 < n) × (n ≤ 8) × (11 ≤ length (now reply)) ⌝ }
+    ensures { λ r. ⌜ Meets (receivedOf r) (lift (gatewayOf (now (gateway .entry))) n (checked n s mac (now (reply .entry)) frame)) (now (gateway .entry)) (now (gateway .exit)) (now (reply .exit)) ⌝ }
+{
+    let levels = s.levels;
+    let own = system_of(&gateway[0..128]);
+    if is_wrong_source(levels, own, frame) {
+        return Received::Refused(Refusal::WrongSource);
+    }
+    settle_in(gateway, n, s, mac, frame, reply)
+}
+
+// Refusals 2 and 3 to 6.
+fn read_in(gateway: &mut [u64], n: u8, s: Circuit, mac: u64, frame: &[u8], reply: &mut [u8]) -> Received
+    requires { ⌜ (length (now gateway) ≡ gatewayWords) × (0 < n) × (n ≤ 8) ⌝ }
+    ensures { λ r. ⌜ Meets (receivedOf r) (lift (gatewayOf (now (gateway .entry))) n (Rattle.model.specs.Receive.receive n s mac (now (frame .entry)) (now (reply .entry)))) (now (gateway .entry)) (now (gateway .exit)) (now (reply .exit)) ⌝ }
+{
+    let kind = s.kind;
+    if reply.len() < 11 {
+        return Received::Refused(Refusal::ReplyRoom);
+    }
+    match read_hello(frame, kind, s.mac) {
+        Read::Refused(x) => Received::Refused(x),
+        Read::Accepted(hello) => check_in(gateway, n, s, mac, hello, reply),
+    }
+}
+
+// Refusal 1.
+fn receive_in(gateway: &mut [u64], n: u8, source: &[u8], frame: &[u8], reply: &mut [u8]) -> Received
+    requires { ⌜ (length (now gateway) ≡ gatewayWords) × (length (now source) ≡ 6) ⌝ }
+    ensures { λ r. ⌜ Meets (receivedOf r) (step (gatewayOf (now (gateway .entry))) (At n (Receive (big 6 (now (source .entry)) 0) (now (frame .entry)) (now (reply .entry))))) (now (gateway .entry)) (now (gateway .exit)) (now (reply .exit)) ⌝ }
+{
+    let Chosen::Known(s) = circuit_of(&gateway[0..128], n) else {
+        return Received::Refused(Refusal::NoCircuit);
+    };
+    let mac = six(source, 0);
+    read_in(gateway, n, s, mac, frame, reply)
+}
