@@ -72,7 +72,7 @@ pub fn is_outranked_by(own: Rank, entry: Record) -> bool
     false
 }
 
-fn only_level(level: u8) -> Levels
+pub fn only_level(level: u8) -> Levels
     ensures { λ r. ⌜ r ≡ onlyLevel level ⌝ }
 {
     Levels {

@@ -22,7 +22,7 @@ pub struct Here {
     pub hold: u16,
 }
 
-fn has_level(levels: Levels, level: u8) -> bool
+pub fn has_level(levels: Levels, level: u8) -> bool
     ensures { λ r. ⌜ r ≡ hasLevel levels level ⌝ }
 {
     if level == 1 {

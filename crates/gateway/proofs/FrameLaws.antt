@@ -135,7 +135,7 @@ module _ (ws : List ℕ) (n : ℕ) (s : Circuit) (mac : ℕ) (h : Hello) (b : Li
       unfolding lift accepted
       accepted-meets o e w p q =
           let rooms : set (g .rooms) (n - 1) (record { slots = tableOf t }) ≡ renew (g .rooms) n room =
-              ap (λ (x : List Slot). set (g .rooms) (n - 1) (record { slots = x })) e ∙ sym (renew-at (g .rooms) n room lo) in
+          ap (λ (x : List Slot). set (g .rooms) (n - 1) (record { slots = x })) e ∙ sym (renew-at (g .rooms) n room lo) in
           record {
             answer = ap Received p;
             reply = w;
@@ -154,10 +154,10 @@ module _ (ws : List ℕ) (n : ℕ) (s : Circuit) (mac : ℕ) (h : Hello) (b : Li
       taken rank cs timed freed l re ce hs =
           let e = kept1 (l .did .0) in
           let own : tableOf (part a (a + 64 - a) ws1) ≡ kept k after (roomOf g n .slots) =
-              ap tableOf (room-same ws t len (n - 1) (omega arith) lt) ∙ e in
+          ap tableOf (room-same ws t len (n - 1) (omega arith) lt) ∙ e in
           let c : cs ≡ csnpsIn (rankOf s h) line (s .levels) (h .link) (kept k after (roomOf g n .slots)) =
-              ce ∙ ap (λ (x : Rank). csnpsIn x line (s .levels) (h .link) (tableOf (part a (a + 64 - a) ws1))) re
-              ∙ ap (csnpsIn (rankOf s h) line (s .levels) (h .link)) own in
+          ce ∙ ap (λ (x : Rank). csnpsIn x line (s .levels) (h .link) (tableOf (part a (a + 64 - a) ws1))) re
+          ∙ ap (csnpsIn (rankOf s h) line (s .levels) (h .link)) own in
           let m = subst (λ (x : Common). commonOf u ≡ withTimers (settled (heardIn (x .clock) (n - 1) (s .levels) (saidOf x s h)) (x .timers)) x) common1 (hs .settles .common) in
           let p = subst (λ (x : Common). timed ≡ ordered (heardIn (x .clock) (n - 1) (s .levels) (saidOf x s h)) (x .timers)) common1 (hs .settles .outcome) in
           let f = subst (λ (x : Common). freed ≡ heardFreed (n - 1) (saidOf x s h) (x .timers)) common1 (hs .freed) in

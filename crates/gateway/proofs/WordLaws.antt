@@ -122,7 +122,7 @@ unfolding renew
 renew-at l zero r p = absurd (omega arith)
 renew-at l (suc i) r p = let z : suc i - 1 ≡ i = omega arith in ap (λ (k : ℕ). set l k r) (sym z)
 
-same-room : (l : List Room) (n : ℕ) → renew l n (numbered l n noRoom) ≡ l
+pub same-room : (l : List Room) (n : ℕ) → renew l n (numbered l n noRoom) ≡ l
 unfolding renew numbered
 same-room l zero = refl
 same-room l (suc i) = set-getD l i noRoom

@@ -89,7 +89,14 @@ fn hear_frame(words: &mut [u64], i: usize, s: Circuit, frame: Hello) -> Handled
 }
 
 // Refusals 8 and 9, or the frame's effect: the only function that cuts the words into parts.
-fn settle_in(gateway: &mut [u64], n: u8, s: Circuit, mac: u64, frame: Hello, reply: &mut [u8]) -> Received
+fn settle_in(
+    gateway: &mut [u64],
+    n: u8,
+    s: Circuit,
+    mac: u64,
+    frame: Hello,
+    reply: &mut [u8],
+) -> Received
     requires { ⌜ (length (now gateway) ≡ gatewayWords) × (0 < n) × (n ≤ 8) × (11 ≤ length (now reply)) ⌝ }
     ensures { λ r. ⌜ Meets (receivedOf r) (lift (gatewayOf (now (gateway .entry))) n (seated n s mac (now (reply .entry)) frame)) (now (gateway .entry)) (now (gateway .exit)) (now (reply .exit)) ⌝ }
 {
@@ -119,7 +126,14 @@ fn settle_in(gateway: &mut [u64], n: u8, s: Circuit, mac: u64, frame: Hello, rep
 }
 
 // Refusal 7.
-fn check_in(gateway: &mut [u64], n: u8, s: Circuit, mac: u64, frame: Hello, reply: &mut [u8]) -> Received
+fn check_in(
+    gateway: &mut [u64],
+    n: u8,
+    s: Circuit,
+    mac: u64,
+    frame: Hello,
+    reply: &mut [u8],
+) -> Received
     requires { ⌜ (length (now gateway) ≡ gatewayWords) × (0 < n) × (n ≤ 8) × (11 ≤ length (now reply)) ⌝ }
     ensures { λ r. ⌜ Meets (receivedOf r) (lift (gatewayOf (now (gateway .entry))) n (checked n s mac (now (reply .entry)) frame)) (now (gateway .entry)) (now (gateway .exit)) (now (reply .exit)) ⌝ }
 {
@@ -132,7 +146,14 @@ fn check_in(gateway: &mut [u64], n: u8, s: Circuit, mac: u64, frame: Hello, repl
 }
 
 // Refusals 2 and 3 to 6.
-fn read_in(gateway: &mut [u64], n: u8, s: Circuit, mac: u64, frame: &[u8], reply: &mut [u8]) -> Received
+fn read_in(
+    gateway: &mut [u64],
+    n: u8,
+    s: Circuit,
+    mac: u64,
+    frame: &[u8],
+    reply: &mut [u8],
+) -> Received
     requires { ⌜ (length (now gateway) ≡ gatewayWords) × (0 < n) × (n ≤ 8) ⌝ }
     ensures { λ r. ⌜ Meets (receivedOf r) (lift (gatewayOf (now (gateway .entry))) n (Rattle.model.specs.Receive.receive n s mac (now (frame .entry)) (now (reply .entry)))) (now (gateway .entry)) (now (gateway .exit)) (now (reply .exit)) ⌝ }
 {

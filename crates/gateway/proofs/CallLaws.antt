@@ -1,0 +1,270 @@
+-- The laws of the calls beside receive: what each stage comes to.
+use Prim.Native.Nat.{ℕ, zero, suc, _+_, _-_, _<_, _≤_}
+use native.Mathlib.Omega.{arith}
+use native.Mathlib.Numerals.{add-one}
+use mathlib.Core.Path.{_≡_, refl, ap, sym, subst, _∙_}
+use mathlib.Core.Bool.{Bool, true, false}
+use mathlib.Core.List.{List, [], _∷_, _++_, map, append-nil}
+use lib.ListN.{length, getD, set, take, drop, drop-of-length-le}
+use lib.Seq.{take-suc-set, drop-set-lt, drop-cons, append-snoc, take-all}
+use borrow.Author.Tests.{lt-ltb, le-ltb}
+use borrow.Rule.Slice.PartMut.{putMid}
+use Rattle.hello.specs.declared.refusal.Refusal.{Refusal}
+use Rattle.hello.specs.declared.refusal.Refusal.the-variants.{NoCircuit, ClockBack, NotRestarting}
+use Rattle.adjacency.specs.Step.{hasLevel}
+use Rattle.adjacency.specs.Duty.{onlyLevel}
+use Rattle.adjacency.specs.declared.record.Adjacency.{Adjacency}
+use Rattle.adjacency.specs.declared.record.Key.{Key}
+use Rattle.slots.specs.Slots.{tableOf, expiredBy}
+use Rattle.slots.specs.declared.slot.Slot.{Slot}
+use Rattle.table.specs.Table.{find, released, firstState, expired, anyExpired}
+use Rattle.table.specs.Sweep.{Swept}
+use Rattle.metric.specs.Metric.{linkMetric}
+use Rattle.restart_tlv.specs.declared.flags.Flags.{Flags}
+use Rattle.hello.specs.declared.levels.Levels.{Levels}
+use Rattle.hello.specs.declared.header.CircuitKind.{CircuitKind}
+use Rattle.hello.specs.declared.header.CircuitKind.the-variants.{Lan}
+use Rattle.timer_parts.specs.Mask.{bits, bitsOf}
+use Rattle.timer_parts.specs.T1.{helloFlags}
+use Rattle.timer_parts.specs.declared.mask.Lowest.{Lowest}
+use Rattle.timers.specs.Timers.{Timers, inMode, settled, ticked, toT3, csnpIn, noticeT2s, noT1, countRuns, firstRuns}
+use Rattle.timers.proofs.TimersLaws.{in-running, in-restarting}
+use Rattle.timers.specs.Outcome.{ordered, tickHellos}
+use Rattle.timers.specs.declared.head.Mode.the-variants.{Running, Restarting}
+use Rattle.timers.specs.declared.outcome.Outcome.{Outcome as Timed}
+use Rattle.settings.specs.Settings.{enabledLevels}
+use Rattle.settings.specs.declared.circuit.Circuit.{Circuit}
+use Rattle.common.specs.Words.{countOf}
+use Rattle.common.specs.Common.{Common, commonOf, withClock, withTimers}
+use Rattle.common.proofs.CommonLaws.{circuits-length}
+use Rattle.common_calls.specs.Calls.{CommonSettles, CommonTicks}
+use Rattle.room_calls.specs.Seat.{keyOn}
+use Rattle.model.specs.Answers.{Answer, Refused, Ticked, Told, Fact, Done, Noticed, Looked, Metric, HelloFlags, Waits}
+use Rattle.model.specs.Gateway.{Gateway, Room, withRooms, withCommon, noRoom, numbered, renew, roomOf}
+use Rattle.model.specs.Receive.{Acted, refuse}
+use Rattle.model.specs.Step.{Outcome, Call, Judged, Decline, Tell, Release, CsnpComplete, LookUp, LinkMetric, NextHello, Tick, DatabaseComplete, Waiting, Over, act, asksLevel, csnpComplete, lookUp, linkMetricOf, nextHello, noticeOf, settledBy, lift, refused, noneOf, quiet, tickOf, databaseOf, waitsOf, judge, carry, swept, lapsed, step}
+use Rattle.gateway.specs.Words.{gatewayWords, part, roomPlace, gatewayOf, Meets}
+use Rattle.gateway.proofs.WordLaws.{along, refuses, asks, common-at, common-put, room-put, room-at, room-of, renew-at, same-room}
+
+-- ---- a call on a circuit that changes the common part, or the circuit's own
+
+module _ (ws : List ℕ) (n : ℕ) (len : length ws ≡ gatewayWords) where
+  abbrev g : Gateway
+  g = gatewayOf ws
+
+  common-acts : (f : Common → Room → Acted) (x : Fact) (u : List ℕ) → length u ≡ 128 → Told x ≡ f (g .common) (roomOf g n) .answer
+      → [] ≡ f (g .common) (roomOf g n) .reply → commonOf u ≡ f (g .common) (roomOf g n) .common → roomOf g n ≡ f (g .common) (roomOf g n) .room
+      → Meets (Told x) (lift g n f) ws (putMid 0 128 ws u) []
+  unfolding lift
+  common-acts f x u lu p q c r =
+      record {
+        answer = p;
+        reply = q;
+        next =
+            common-put ws u len lu ∙ ap (withCommon g) c
+            ∙ ap (λ (l : List Room). record { common = f (g .common) (roomOf g n) .common; rooms = l }) (sym (same-room (g .rooms) n) ∙ ap (renew (g .rooms) n) r);
+        kept = λ y z. absurd (let w : _≡_ {A = ℕ} 0 1 = cc in omega arith);
+      }
+
+  -- release
+  pub releases : (lo : 0 < n) (hi : n ≤ 8) (s : Circuit) (t : List ℕ) → length t ≡ roomPlace (n - 1) + 64 - roomPlace (n - 1)
+      → tableOf t ≡ released (tableOf (part (roomPlace (n - 1)) (roomPlace (n - 1) + 64 - roomPlace (n - 1)) ws))
+      → Meets (Told Done) (lift g n (act n s Release)) ws (putMid (roomPlace (n - 1)) (roomPlace (n - 1) + 64 - roomPlace (n - 1)) ws t) []
+  unfolding lift act
+  releases lo hi s t lt e =
+      let r : Room = record { slots = released (roomOf g n .slots) } in
+      let q : record { slots = tableOf t } ≡ r = ap (λ x. record { slots = x }) (e ∙ ap released (room-of ws n lo hi)) in
+      record {
+        answer = refl;
+        reply = refl;
+        next = room-put ws t len (n - 1) (omega arith) lt ∙ ap (λ (x : Room). withRooms g (set (g .rooms) (n - 1) x)) q ∙ ap (withRooms g) (sym (renew-at (g .rooms) n r lo));
+        kept = λ y z. absurd (let w : _≡_ {A = ℕ} 0 1 = cc in omega arith);
+      }
+
+  -- CSNP set complete
+  module _ (s : Circuit) (level : ℕ) where
+    pub csnp-off : hasLevel (s .levels) level ≡ false → lift g n (refuse [] NoCircuit) ≡ lift g n (csnpComplete n s level)
+    unfolding lift csnpComplete
+    csnp-off e = rw e refl
+
+    module _ (has : hasLevel (s .levels) level ≡ true) where
+      pub csnp-outside : commonOf (part 0 128 ws) .timers .mode ≡ Running → lift g n (refuse [] NotRestarting) ≡ lift g n (csnpComplete n s level)
+      unfolding lift csnpComplete gatewayOf
+      csnp-outside m = rw (has, m) refl
+
+      pub csnp-taken : (m : commonOf (part 0 128 ws) .timers .mode ≡ Restarting) (on : Levels) (se : on ≡ onlyLevel level) (u : List ℕ) (lu : length u ≡ 128) (o : Timed)
+          → CommonSettles (csnpIn (n - 1) (s .levels) on) (part 0 128 ws) u o
+          → Meets (Told (Noticed o)) (lift g n (csnpComplete n s level)) ws (putMid 0 128 ws u) []
+      unfolding csnpComplete gatewayOf
+      csnp-taken m on se u lu o h =
+          let f : Timers → Timers = csnpIn (n - 1) (s .levels) (onlyLevel level) in
+          let h′ : CommonSettles f (part 0 128 ws) u o = subst (λ (x : Levels). CommonSettles (csnpIn (n - 1) (s .levels) x) (part 0 128 ws) u o) se h in
+          common-acts (csnpComplete n s level) (Noticed o) u lu (rw (has, m) (ap (λ (x : Timed). Told (Noticed x)) (h′ .outcome))) (rw (has, m) refl) (rw (has, m) (h′ .common)) (rw (has, m) refl)
+
+  -- look up
+  module _ (s : Circuit) (k : Key) where
+    pub looks-not : asksLevel (s .kind) (s .levels) (k .level) ≡ false → lift g n (refuse [] NoCircuit) ≡ lift g n (lookUp s k)
+    unfolding lift lookUp
+    looks-not e = rw e refl
+
+    pub looks : (lo : 0 < n) (hi : n ≤ 8) (own : Key) (stood : Adjacency) (a : Answer) → asksLevel (s .kind) (s .levels) (k .level) ≡ true → own ≡ keyOn (s .kind) k
+        → stood ≡ find own (tableOf (part (roomPlace (n - 1)) (roomPlace (n - 1) + 64 - roomPlace (n - 1)) ws)) → a ≡ Told (Looked stood)
+        → Meets a (lift g n (lookUp s k)) ws ws []
+    unfolding lookUp
+    looks lo hi own stood a e ke f p =
+        let w : stood ≡ find (keyOn (s .kind) k) (roomOf g n .slots) =
+        f ∙ ap (λ (x : Key). find x (tableOf (part (roomPlace (n - 1)) (roomPlace (n - 1) + 64 - roomPlace (n - 1)) ws))) ke ∙ ap (find (keyOn (s .kind) k)) (room-of ws n lo hi) in
+        asks ws n (lookUp s k) a (rw e (p ∙ ap (λ (x : Adjacency). Told (Looked x)) w)) (rw e refl) (rw e refl) (rw e refl)
+
+  -- link metric
+  pub measures : (lo : 0 < n) (hi : n ≤ 8) (s : Circuit) (stood : Adjacency) (m : ℕ)
+      → stood ≡ firstState (tableOf (part (roomPlace (n - 1)) (roomPlace (n - 1) + 64 - roomPlace (n - 1)) ws)) → m ≡ linkMetric (s .kind) (s .metric) stood
+      → Meets (Told (Metric m)) (lift g n (act n s LinkMetric)) ws ws []
+  unfolding act linkMetricOf
+  measures lo hi s stood m f e =
+      asks ws n (act n s LinkMetric) (Told (Metric m))
+      (ap (λ (x : ℕ). Told (Metric x)) (e ∙ ap (linkMetric (s .kind) (s .metric)) (f ∙ ap firstState (room-of ws n lo hi)))) refl refl refl
+
+  -- flags of the next hello
+  pub flags : (s : Circuit) (f : Flags) → f ≡ helloFlags (getD (commonOf (part 0 128 ws) .timers .t1s) (n - 1) noT1)
+      → Meets (Told (HelloFlags f)) (lift g n (act n s NextHello)) ws ws []
+  unfolding act nextHello gatewayOf
+  flags s f e = asks ws n (act n s NextHello) (Told (HelloFlags f)) (ap (λ (x : Flags). Told (HelloFlags x)) e) refl refl refl
+
+pub asks-lan : (kind : CircuitKind) (l : Levels) (level : ℕ) (r : Bool) → kind ≡ Lan → r ≡ hasLevel l level → r ≡ asksLevel kind l level
+asks-lan kind l level r e h = rw e h
+
+-- the stage of a call on a circuit is the call's own definition
+module _ (g : Gateway) (n : ℕ) (s : Circuit) where
+  pub csnp-is : (level : ℕ) → lift g n (csnpComplete n s level) ≡ lift g n (act n s (CsnpComplete level))
+  unfolding lift act
+  csnp-is level = refl
+
+  pub look-is : (k : Key) → lift g n (lookUp s k) ≡ lift g n (act n s (LookUp k))
+  unfolding lift act
+  look-is k = refl
+
+-- ---- the calls that name no circuit
+
+none-length : {A : Type 0} (l : List A) → length l ≡ 0 → noneOf l ≡ true
+unfolding noneOf
+none-length [] e = refl
+none-length (x ∷ l) e = absurd (omega arith)
+
+some-length : {A : Type 0} (l : List A) → 0 < length l → noneOf l ≡ false
+unfolding noneOf
+some-length [] e = absurd (omega arith)
+some-length (x ∷ l) e = refl
+
+module _ (ws : List ℕ) where
+  abbrev gw : Gateway
+  gw = gatewayOf ws
+
+  abbrev cs : Common
+  cs = commonOf (part 0 128 ws)
+
+  -- tick
+  module _ (clock : ℕ) where
+    pub tick-none : (k : ℕ) → k ≡ countOf (part 0 128 ws) → k ≡ 0 → Meets quiet (step gw (Over (Tick clock))) ws ws []
+    unfolding step judge tickOf carry gatewayOf
+    tick-none k e z =
+        rw (none-length (cs .circuits) (circuits-length (part 0 128 ws) ∙ sym e ∙ z)) (record { answer = refl; reply = refl; next = refl; kept = λ x y. refl })
+
+    module _ (k : ℕ) (ke : k ≡ countOf (part 0 128 ws)) (some : 0 < k) where
+      is-some : noneOf (cs .circuits) ≡ false
+      is-some = some-length (cs .circuits) (omega (arith, circuits-length (part 0 128 ws)))
+
+      pub tick-back : (c : ℕ) → c ≡ cs .clock → clock < c → Meets (Refused ClockBack) (step gw (Over (Tick clock))) ws ws []
+      unfolding step judge tickOf carry gatewayOf
+      tick-back c e lt =
+          rw (is-some, lt-ltb clock (cs .clock) (rw (← e) lt)) (record { answer = refl; reply = refl; next = refl; kept = λ x y. refl })
+
+      pub tick-took : (c : ℕ) (ws1 u : List ℕ) (marks hellos : List Bool) (o : Timed) → c ≡ cs .clock → c ≤ clock → length ws1 ≡ gatewayWords → length u ≡ 128
+          → marks ≡ map (lapsed clock) (gw .rooms) → gatewayOf ws1 ≡ withRooms gw (map (swept clock) (gw .rooms))
+          → CommonTicks clock (part 0 128 ws1) u o hellos
+          → Meets (Ticked marks hellos o) (step gw (Over (Tick clock))) ws (putMid 0 128 ws1 u) []
+      unfolding step judge tickOf carry
+      tick-took c ws1 u marks hellos o e le l1 lu m r h =
+          let c1 : commonOf (part 0 128 ws1) ≡ gw .common = common-at ws1 ∙ ap (λ (x : Gateway). x .common) r in
+          let s : noneOf (gw .common .circuits) ≡ false = rw (← common-at ws) is-some in
+          let w : gw .common .clock ≤ clock = rw (← common-at ws, ← e) le in
+          let hc = subst (λ (x : Common). commonOf u ≡ withTimers (ticked (x .lengths) clock (x .timers)) (withClock clock x)) c1 (h .common) in
+          let ho = subst (λ (x : Common). o ≡ ordered (toT3 (x .lengths) clock) (x .timers)) c1 (h .outcome) in
+          let hh = subst (λ (x : Common). hellos ≡ tickHellos (x .lengths) clock (x .timers)) c1 (h .hellos) in
+          rw (s, le-ltb clock (gw .common .clock) w)
+          (record {
+            answer = λ i. Ticked (m i) (hh i) (ho i);
+            reply = refl;
+            next = common-put ws1 u l1 lu ∙ ap (λ (x : Gateway). withCommon x (commonOf u)) r ∙ ap (withCommon (withRooms gw (map (swept clock) (gw .rooms)))) hc;
+            kept = λ x z. absurd (let y : _≡_ {A = ℕ} 0 1 = cc in omega arith);
+          })
+
+  -- database complete
+  module _ (level : ℕ) (l : Levels) (le : l ≡ enabledLevels (cs .circuits)) where
+    abbrev call : Call
+    call = Over (DatabaseComplete level)
+
+    pub database-off : hasLevel l level ≡ false → Meets (Refused NoCircuit) (step gw call) ws ws []
+    unfolding step judge databaseOf carry gatewayOf
+    database-off e = rw (← le, e) (record { answer = refl; reply = refl; next = refl; kept = λ x y. refl })
+
+    module _ (on : hasLevel l level ≡ true) where
+      judged : (d : Judged) → inMode (gw .common .timers .mode) (Decline NotRestarting) (Tell (settledBy (noticeT2s (onlyLevel level)) (gw .common)) (Told (noticeOf (noticeT2s (onlyLevel level)) (gw .common)))) ≡ d
+          → step gw call ≡ carry gw d
+      unfolding step judge databaseOf
+      judged d e =
+          let h : hasLevel (enabledLevels (gw .common .circuits)) level ≡ true = rw (← common-at ws, ← le) on in
+          ap (carry gw) (rw h e)
+
+      pub database-outside : cs .timers .mode ≡ Running → Meets (Refused NotRestarting) (step gw call) ws ws []
+      unfolding carry
+      database-outside m =
+          along (sym (judged (Decline NotRestarting) (sym (in-running {m = gw .common .timers .mode} (Decline NotRestarting) _ (rw (← common-at ws) m)))))
+          (record { answer = refl; reply = refl; next = refl; kept = λ x y. refl })
+
+      pub database-taken : cs .timers .mode ≡ Restarting → (n : Levels) → n ≡ onlyLevel level → (u : List ℕ) → length ws ≡ gatewayWords → length u ≡ 128
+          → (o : Timed) → CommonSettles (noticeT2s n) (part 0 128 ws) u o → Meets (Told (Noticed o)) (step gw call) ws (putMid 0 128 ws u) []
+      unfolding carry
+      database-taken m n ne u len lu o h =
+          let f : Timers → Timers = noticeT2s (onlyLevel level) in
+          let k : CommonSettles f (part 0 128 ws) u o = subst (λ (x : Levels). CommonSettles (noticeT2s x) (part 0 128 ws) u o) ne h in
+          let next = subst (λ (x : Common). commonOf u ≡ settledBy f x) (common-at ws) (k .common) in
+          let out = subst (λ (x : Common). Noticed o ≡ noticeOf f x) (common-at ws) (ap Noticed (k .outcome)) in
+          along (sym (judged (Tell (settledBy f (gw .common)) (Told (noticeOf f (gw .common)))) (sym (in-restarting {m = gw .common .timers .mode} (Decline NotRestarting) _ (rw (← common-at ws) m)))))
+          (record {
+            answer = ap Told out;
+            reply = refl;
+            next = common-put ws u len lu ∙ ap (withCommon gw) next;
+            kept = λ x z. absurd (let y : _≡_ {A = ℕ} 0 1 = cc in omega arith);
+          })
+
+  -- circuits that wait for T1
+  pub waits : (k : ℕ) (low : Lowest) → k ≡ countRuns (cs .timers .t1s) → low ≡ firstRuns (cs .timers .t1s) 1 → Meets (Told (Waits k low)) (step gw (Over Waiting)) ws ws []
+  unfolding step judge carry gatewayOf
+  waits k low e f = record { answer = λ i. Told (Waits (e i) (f i)); reply = refl; next = refl; kept = λ x y. refl }
+
+pub lapsed-at : (ws : List ℕ) (clock i : ℕ) → i < 8 → (any : Bool) (t : List ℕ) → Swept (expiredBy clock) (tableOf (part (roomPlace i) (roomPlace i + 64 - roomPlace i) ws)) (tableOf t) any
+    → length ws ≡ gatewayWords → length t ≡ roomPlace i + 64 - roomPlace i
+    → (any ≡ lapsed clock (getD (gatewayOf ws .rooms) i noRoom))
+    × (gatewayOf (putMid (roomPlace i) (roomPlace i + 64 - roomPlace i) ws t) ≡ withRooms (gatewayOf ws) (set (gatewayOf ws .rooms) i (swept clock (getD (gatewayOf ws .rooms) i noRoom))))
+lapsed-at ws clock i lt any t s len lt64 =
+    let e = room-at ws i lt in (
+      s .any ∙ ap (anyExpired clock) e,
+      room-put ws t len i lt lt64 ∙ ap (λ (x : List Slot). withRooms (gatewayOf ws) (set (gatewayOf ws .rooms) i (record { slots = x }))) (s .left ∙ ap (expired clock) e),
+    )
+
+pub length-bits : (m : ℕ) → length (bits m) ≡ 8
+unfolding bitsOf
+length-bits m = refl
+
+-- ---- a list gathered beside one that is changed in place
+
+module _ {A B : Type 0} (d : A) (p : A → B) (m : List B) (t : List A) (i : ℕ) where
+  pub gather-step : (x : B) (v : A) → i < length m → i < length t → x ≡ p (getD t i d)
+      → take (i + 1) (set m i x) ++ map p (drop (i + 1) (set t i v)) ≡ take i m ++ map p (drop i t)
+  gather-step x v lm lt e =
+      rw (e, add-one i, take-suc-set m i (p (getD t i d)) lm, drop-set-lt (suc i) t i v (omega arith), drop-cons t i d lt)
+      (append-snoc (take i m) (p (getD t i d)) (map p (drop (suc i) t)))
+
+  pub gather-end : length m ≤ i → length t ≤ i → m ≡ take i m ++ map p (drop i t)
+  gather-end lm lt = rw (take-all i m lm, drop-of-length-le t lt) (sym (append-nil m))

@@ -1,0 +1,60 @@
+use Rattle.gateway.proofs.CallLaws.{lapsed-at}
+use borrow.Rule.Slice.PartMut.{mid-len}
+use Rattle.gateway.proofs.WordLaws.{along, refuses, refuses-all, choice, no-circuit, a-circuit}
+use Rattle.gateway.specs.Words.{gatewayOf}
+use Rattle.common.specs.Common.{InRange}
+use Rattle.hello.specs.declared.refusal.Refusal.the-variants.{NoCircuit, NotRestarting, ClockBack}
+use Prim.Native.Nat.{ℕ, _+_, _-_, _*_, _≤_}
+use native.Mathlib.Omega.{arith}
+use mathlib.Core.Path.{_≡_, refl, ap, sym, subst, _∙_}
+use borrow.Author.Needs.{needs}
+use Rattle.gateway.proofs.ticks.sweep_room.Statement.{statement}
+use Rattle.gateway.proofs.ticks.sweep_room.Tie as tie
+use Rattle.gateway.proofs.ticks.sweep_room.Reads as reads
+use Rattle.gateway.proofs.ticks.sweep_room.Lts as lts
+use Rattle.table.proofs.sweep.expire.Reads as expire-reads
+
+mul-a : tie.Need-mul-a
+mul-a c = search needs
+
+add-a : tie.Need-add-a
+add-a c = search needs
+
+add-expire : tie.Need-add-expire
+add-expire c = search needs
+
+mul-expire : tie.Need-mul-expire
+mul-expire c = search needs
+
+sub-expire : tie.Need-sub-expire
+sub-expire c = search needs
+
+part-expire-start : tie.Need-part-expire-start
+part-expire-start c = search needs
+
+part-expire-end : tie.Need-part-expire-end
+part-expire-end c = search needs
+
+expire-requires : tie.Need-expire-requires
+expire-requires c κs = search needs
+
+same-length : tie.Need-same-length
+same-length c = search needs
+
+returns : tie.Need-returns
+returns c = let s = c .before .before .before .before .before in let a = s .args in let x = c .before .before .expire in let at = 128 + 64 * a .i in lapsed-at (a .gateway .now) (a .clock) (a .i) (s .pre .1) _ (x .last .0) (x .ensures) (s .pre .0) (x .kept .0 ∙ mid-len at (at + 64) (a .gateway .now) (omega (arith, s .pre .0)))
+
+pub sweep-room-spec : {M : Type 1} → statement M
+sweep-room-spec =
+    tie.close
+    (tie.spec
+    mul-a
+    add-a
+    add-expire
+    mul-expire
+    sub-expire
+    part-expire-start
+    part-expire-end
+    expire-requires
+    same-length
+    returns)

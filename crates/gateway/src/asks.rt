@@ -1,0 +1,109 @@
+// What is asked of a gateway: a record, the link metric, the next hello's flags, the circuits that wait for T1. Nothing is changed.
+use adjacency::record::Adjacency;
+use adjacency::record::Key;
+use adjacency::step::has_level;
+use common::words::Chosen;
+use common::words::circuit_of;
+use common_calls::calls::count_waiting;
+use common_calls::calls::lowest_waiting;
+use common_calls::calls::next_flags;
+use hello::header::CircuitKind;
+use hello::levels::Levels;
+use hello::refusal::Refusal;
+use metric::link_metric;
+use model::answers::Looked;
+use model::answers::Metric;
+use model::answers::NextFlags;
+use model::answers::Waiting;
+use room_calls::keys::key_on;
+use settings::circuit::Circuit;
+use table::place::found;
+use table::search::first_state;
+ghost use mathlib.Core.Path.{_≡_};
+ghost use mathlib.Core.List.{[]};
+ghost use Prim.Native.Nat.{_<_, _≤_};
+ghost use lib.ListN.{length};
+ghost use Rattle.model.specs.Answers.{Told, lookedOf, metricOf, flagsOf, waitingOf};
+ghost use Rattle.model.specs.Answers.{Looked as LookedFact};
+ghost use Rattle.model.specs.Step.{asksLevel, lookUp, lift, step, At, Over, LookUp, LinkMetric, NextHello};
+ghost use Rattle.model.specs.Step.{Waiting as Waits};
+ghost use Rattle.gateway.specs.Words.{gatewayWords, gatewayOf, Meets};
+
+fn asks_level(kind: CircuitKind, levels: Levels, level: u8) -> bool
+    ensures { λ r. ⌜ r ≡ asksLevel kind levels level ⌝ }
+{
+    match kind {
+        CircuitKind::Lan => has_level(levels, level),
+        CircuitKind::P2p => true,
+    }
+}
+
+fn looked_at(stood: Adjacency) -> Looked
+    ensures { λ r. ⌜ lookedOf r ≡ Told (LookedFact stood) ⌝ }
+{
+    match stood {
+        Adjacency::Absent => Looked::Nothing,
+        Adjacency::Present(state) => Looked::Found(state),
+    }
+}
+
+fn look_on(gateway: &[u64], n: u8, s: Circuit, key: Key) -> Looked
+    requires { ⌜ (length (now gateway) ≡ gatewayWords) × (0 < n) × (n ≤ 8) ⌝ }
+    ensures { λ r. ⌜ Meets (lookedOf r) (lift (gatewayOf (now (gateway .entry))) n (lookUp s key)) (now (gateway .entry)) (now (gateway .entry)) [] ⌝ }
+{
+    let kind = s.kind;
+    let levels = s.levels;
+    let level = key.level;
+    if asks_level(kind, levels, level) {
+        let own = key_on(kind, key);
+        let a = 128 + 64 * (n as usize - 1);
+        let stood = found(&gateway[a..a + 64], own);
+        return looked_at(stood);
+    }
+    Looked::Refused(Refusal::NoCircuit)
+}
+
+// The record with a key on a circuit.
+pub fn look_in(gateway: &[u64], n: u8, key: Key) -> Looked
+    requires { ⌜ length (now gateway) ≡ gatewayWords ⌝ }
+    ensures { λ r. ⌜ Meets (lookedOf r) (step (gatewayOf (now (gateway .entry))) (At n (LookUp key))) (now (gateway .entry)) (now (gateway .entry)) [] ⌝ }
+{
+    let Chosen::Known(s) = circuit_of(&gateway[0..128], n) else {
+        return Looked::Refused(Refusal::NoCircuit);
+    };
+    look_on(gateway, n, s, key)
+}
+
+pub fn metric_in(gateway: &[u64], n: u8) -> Metric
+    requires { ⌜ length (now gateway) ≡ gatewayWords ⌝ }
+    ensures { λ r. ⌜ Meets (metricOf r) (step (gatewayOf (now (gateway .entry))) (At n LinkMetric)) (now (gateway .entry)) (now (gateway .entry)) [] ⌝ }
+{
+    let Chosen::Known(s) = circuit_of(&gateway[0..128], n) else {
+        return Metric::Refused(Refusal::NoCircuit);
+    };
+    let kind = s.kind;
+    let a = 128 + 64 * (n as usize - 1);
+    let stood = first_state(&gateway[a..a + 64]);
+    Metric::Link(link_metric(kind, s.metric, stood))
+}
+
+pub fn flags_in(gateway: &[u64], n: u8) -> NextFlags
+    requires { ⌜ length (now gateway) ≡ gatewayWords ⌝ }
+    ensures { λ r. ⌜ Meets (flagsOf r) (step (gatewayOf (now (gateway .entry))) (At n NextHello)) (now (gateway .entry)) (now (gateway .entry)) [] ⌝ }
+{
+    let Chosen::Known(_) = circuit_of(&gateway[0..128], n) else {
+        return NextFlags::Refused(Refusal::NoCircuit);
+    };
+    let i = n as usize - 1;
+    let flags = next_flags(&gateway[0..128], i);
+    NextFlags::Next(flags)
+}
+
+pub fn waiting_in(gateway: &[u64]) -> Waiting
+    requires { ⌜ length (now gateway) ≡ gatewayWords ⌝ }
+    ensures { λ r. ⌜ Meets (waitingOf r) (step (gatewayOf (now (gateway .entry))) (Over Waits)) (now (gateway .entry)) (now (gateway .entry)) [] ⌝ }
+{
+    let count = count_waiting(&gateway[0..128]);
+    let lowest = lowest_waiting(&gateway[0..128]);
+    Waiting { count, lowest }
+}

@@ -1,0 +1,84 @@
+// Tick and release: records removed, and the timers moved (document 01, "Marks and holding time" and "Timers while Restarting").
+use common::words::Chosen;
+use common::words::circuit_of;
+use common::words::clock_of;
+use common::words::count_of;
+use hello::refusal::Refusal;
+use model::answers::Released;
+use model::answers::Ticked;
+use table::sweep::expire;
+use table::sweep::release;
+use timer_parts::mask::put_bit;
+use timers::outcome::Outcome;
+ghost use mathlib.Core.Path.{_≡_};
+ghost use mathlib.Core.List.{[], map};
+ghost use Prim.Native.Nat.{_<_};
+ghost use lib.ListN.{length, getD, set};
+ghost use Rattle.timer_parts.specs.Mask.{bits};
+ghost use Rattle.model.specs.Answers.{tickedOf, releasedOf};
+ghost use Rattle.model.specs.Gateway.{withRooms, noRoom};
+ghost use Rattle.model.specs.Step.{swept, lapsed, step, At, Over, Tick, Release};
+ghost use Rattle.gateway.specs.Words.{gatewayWords, gatewayOf, Meets};
+
+// Circuit i (from 0): whether a record went.
+fn sweep_room(gateway: &mut [u64], i: usize, clock: u32) -> bool
+    requires { ⌜ (length (now gateway) ≡ gatewayWords) × (i < 8) ⌝ }
+    ensures { λ r. ⌜ (r ≡ lapsed clock (getD (gatewayOf (now (gateway .entry)) .rooms) i noRoom)) × (gatewayOf (now (gateway .exit)) ≡ withRooms (gatewayOf (now (gateway .entry))) (set (gatewayOf (now (gateway .entry)) .rooms) i (swept clock (getD (gatewayOf (now (gateway .entry)) .rooms) i noRoom)))) ⌝ }
+{
+    let a = 128 + 64 * i;
+    expire(&mut gateway[a..a + 64], clock as u64)
+}
+
+// Every circuit: the mask of those that lost a record.
+fn sweep_rooms(gateway: &mut [u64], clock: u32) -> u8
+    requires { ⌜ length (now gateway) ≡ gatewayWords ⌝ }
+    ensures { λ r. ⌜ (bits r ≡ map (lapsed clock) (gatewayOf (now (gateway .entry)) .rooms)) × (gatewayOf (now (gateway .exit)) ≡ withRooms (gatewayOf (now (gateway .entry))) (map (swept clock) (gatewayOf (now (gateway .entry)) .rooms))) ⌝ }
+{
+    let mut marks = 0u8;
+    let mut i = 0;
+    while i < 8 {
+        let m = sweep_room(gateway, i, clock);
+        marks = put_bit(marks, i, m);
+        i += 1;
+    }
+    marks
+}
+
+// Refusal 10, or the tick. Memory that was never set up has no circuit: there a tick does nothing.
+pub fn tick_in(gateway: &mut [u64], clock: u32) -> Ticked
+    requires { ⌜ length (now gateway) ≡ gatewayWords ⌝ }
+    ensures { λ r. ⌜ Meets (tickedOf r) (step (gatewayOf (now (gateway .entry))) (Over (Tick clock))) (now (gateway .entry)) (now (gateway .exit)) [] ⌝ }
+{
+    if count_of(&gateway[0..128]) == 0 {
+        return Ticked::Done {
+            marks: 0,
+            hellos: 0,
+            outcome: Outcome::Idle,
+        };
+    }
+    if clock < clock_of(&gateway[0..128]) {
+        return Ticked::Refused(Refusal::ClockBack);
+    }
+    let marks = sweep_rooms(gateway, clock);
+    let x = common_calls::calls::tick(&mut gateway[0..128], clock);
+    let hellos = x.hellos;
+    let outcome = x.outcome;
+    Ticked::Done {
+        marks,
+        hellos,
+        outcome,
+    }
+}
+
+// Refusal 1, or the circuit's Planned records go.
+pub fn release_in(gateway: &mut [u64], n: u8) -> Released
+    requires { ⌜ length (now gateway) ≡ gatewayWords ⌝ }
+    ensures { λ r. ⌜ Meets (releasedOf r) (step (gatewayOf (now (gateway .entry))) (At n Release)) (now (gateway .entry)) (now (gateway .exit)) [] ⌝ }
+{
+    let Chosen::Known(_) = circuit_of(&gateway[0..128], n) else {
+        return Released::Refused(Refusal::NoCircuit);
+    };
+    let a = 128 + 64 * (n as usize - 1);
+    release(&mut gateway[a..a + 64]);
+    Released::Done
+}
