@@ -1,0 +1,238 @@
+-- The bad neighbour's own LAN in two runs: the records of every other MAC are the same by key. A shared call keeps it so until a run
+-- answers 9, and so does one of its own frames in one run alone; and in the mode Running a call on a circuit leaves the common part as
+-- it was. Callers: Near. None opens the frame's decoding, the state step, the reply's octets, line 1's order or the timers.
+use Prim.Native.Nat.{ℕ, _-_}
+use mathlib.Core.Path.{_≡_, refl, sym, ap, _∙_}
+use mathlib.Core.Logic.{_≢_}
+use mathlib.Core.Bool.{Bool, true, false, cond, true≢false, false≢true}
+use mathlib.Core.List.{List, []}
+use lib.ListN.{length}
+use lib.Dec.{ltb, eqb}
+use borrow.Author.Tests.{eqb-true, eqb-false}
+use Rattle.tlv.proofs.BoolLaws.{by-test}
+use Rattle.hello.specs.Hello.{helloRead}
+use Rattle.hello.specs.declared.header.CircuitKind.the-variants.{Lan}
+use Rattle.hello.specs.declared.read.Hello.{Hello}
+use Rattle.hello.specs.declared.read.Read.{Read}
+use Rattle.hello.specs.declared.read.Read.the-variants.{Refused as Unread, Accepted as ReadAs}
+use Rattle.hello.specs.declared.refusal.Refusal.{Refusal}
+use Rattle.hello.specs.declared.refusal.Refusal.the-variants.{NoCircuit, ReplyRoom, WrongSource, NoRoom, NotRestarting}
+use Rattle.adjacency.specs.React.{reactOf}
+use Rattle.adjacency.specs.Step.{hasLevel, wrongSource}
+use Rattle.adjacency.specs.declared.marks.Acknowledgement.{Acknowledgement}
+use Rattle.adjacency.specs.declared.marks.Line.{Line}
+use Rattle.adjacency.specs.declared.react.Reaction.{Reaction}
+use Rattle.adjacency.specs.declared.react.Reaction.the-variants.{Refused as Declined, Accepted}
+use Rattle.adjacency.specs.declared.record.Adjacency.{Adjacency}
+use Rattle.adjacency.specs.declared.record.Adjacency.the-variants.{Absent, Present}
+use Rattle.adjacency.specs.declared.record.Key.{Key}
+use Rattle.adjacency.specs.declared.record.State.{State}
+use Rattle.slots.specs.Slots.{sameKey, plannedState}
+use Rattle.slots.specs.declared.slot.Slot.{Slot}
+use Rattle.table.specs.Table.{find, crowded, sweep}
+use Rattle.table.specs.Gather.{gather}
+use Rattle.table.proofs.TableLaws.{sameKey-eq, sameKey-mac, find-is, gather-sweep, gather-put-other, gather-put-same}
+use Rattle.timers.specs.Timers.{Timers}
+use Rattle.timers.specs.declared.head.Mode.the-variants.{Running}
+use Rattle.timers.proofs.TimersLaws.{heard-running}
+use Rattle.settings.specs.declared.circuit.Circuit.{Circuit}
+use Rattle.common.specs.Common.{Common, withTimers}
+use Rattle.room_calls.specs.Seat.{keyOn, keyIn, ifRoom, decided, kept}
+use Rattle.model.specs.Gateway.{Room}
+use Rattle.model.specs.Receive.{Acted, refuse, hereOf, saidOf, accepted, settle, seated, checked, readIn, receive}
+use Rattle.model.specs.Step.{Local, Receive, Release, CsnpComplete, LookUp, LinkMetric, NextHello}
+use Rattle.model.specs.Step.{csnpComplete, asksLevel, lookUp, linkMetricOf, nextHello, act}
+use Rattle.model.specs.Claim.{Neighbour, isSent, isNine, unordered, comparedThere}
+
+-- the records of every MAC but m are the same
+pub record Beside (m : ℕ) (t₁ t₂ : List Slot) : Type 0 where
+  pub at : (k : Key) → k .mac ≢ m → gather k t₁ ≡ gather k t₂
+
+pub beside-refl : (m : ℕ) (t : List Slot) → Beside m t t
+beside-refl m t = record { at = λ k h. refl }
+
+pub beside-sym : {m : ℕ} {t₁ t₂ : List Slot} → Beside m t₁ t₂ → Beside m t₂ t₁
+beside-sym b = record { at = λ k h. sym (b .at k h) }
+
+pub beside-trans : {m : ℕ} {t₁ t₂ t₃ : List Slot} → Beside m t₁ t₂ → Beside m t₂ t₃ → Beside m t₁ t₃
+beside-trans b c = record { at = λ k h. b .at k h ∙ c .at k h }
+
+pub beside-find : {m : ℕ} {t₁ t₂ : List Slot} → Beside m t₁ t₂ → (k : Key) → k .mac ≢ m → find k t₁ ≡ find k t₂
+beside-find {t₁} {t₂} b k h = cc (find-is k t₁, find-is k t₂, b .at k h)
+
+pub beside-sweep : {m : ℕ} {t₁ t₂ : List Slot} (p : State → Bool) → Beside m t₁ t₂ → Beside m (sweep p t₁) (sweep p t₂)
+beside-sweep {t₁} {t₂} p b = record { at = λ k h. cc (gather-sweep p k t₁, gather-sweep p k t₂, b .at k h) }
+
+-- the same record is kept in both
+beside-kept : {m : ℕ} {t₁ t₂ : List Slot} (k : Key) (a : Adjacency) → crowded k t₁ ≡ false → crowded k t₂ ≡ false → Beside m t₁ t₂
+    → Beside m (kept k a t₁) (kept k a t₂)
+unfolding kept
+beside-kept k Absent e₁ e₂ b = b
+beside-kept {t₁} {t₂} k (Present s) e₁ e₂ b =
+    record {
+      at = λ j h.
+          let p = b .at j h in
+          by-test (sameKey j k) (λ e. let q = sameKey-eq j k e in cc (gather-put-same k s t₁ e₁, gather-put-same k s t₂ e₂))
+          (λ e. cc (gather-put-other j k s t₁ e, gather-put-other j k s t₂ e));
+    }
+
+-- a record of the MAC m is kept: nothing is changed beside it
+kept-beside : {m : ℕ} (k : Key) (a : Adjacency) (t : List Slot) → k .mac ≡ m → Beside m (kept k a t) t
+unfolding kept
+kept-beside {m} k Absent t e = beside-refl m t
+kept-beside k (Present s) t e =
+    record { at = λ j h. gather-put-other j k s t (by-test (sameKey j k) (λ q. absurd (h (sameKey-mac j k q ∙ e))) (λ q. q)) }
+
+-- what two calls on the circuit must have in common
+pub record Same (b : Neighbour) (l : Local) (x y : Acted) : Type 0 where
+  pub room : Beside (b .mac) (x .room .slots) (y .room .slots)
+  pub answer : comparedThere b l (x .answer) ≡ comparedThere b l (y .answer)
+  pub reply : x .reply ≡ y .reply
+
+-- on a LAN a frame's key has the source MAC
+key-mac : (s : Circuit) (mac : ℕ) (h : Hello) → s .kind ≡ Lan → keyIn (s .kind) mac h .mac ≡ mac
+unfolding keyOn
+key-mac s mac h lan = rw (lan, keyOn)
+
+-- ---- the bad neighbour's frame, in one run
+
+module _ (n : ℕ) (s : Circuit) (mac : ℕ) (lan : s .kind ≡ Lan) (buf : List ℕ) (c : Common) (r : Room) where
+  settle-its : (h : Hello) (k : Key) (a : Reaction) → k .mac ≡ mac → Beside mac (settle n s h k buf a c r .room .slots) (r .slots)
+  unfolding settle refuse accepted
+  settle-its h k (Declined x) e = beside-refl mac (r .slots)
+  settle-its h k (Accepted after reply line) e = kept-beside k after (r .slots) e
+
+  checked-its : (h : Hello) → Beside mac (checked n s mac buf h c r .room .slots) (r .slots)
+  unfolding checked seated refuse
+  checked-its h =
+      by-test (wrongSource (s .levels) (c .system) h) (λ e. rw e (beside-refl mac (r .slots)))
+      (λ e. rw e (settle-its h _ _ (key-mac s mac h lan)))
+
+  read-its : (d : Read) → Beside mac (readIn n s mac buf d c r .room .slots) (r .slots)
+  unfolding readIn refuse
+  read-its (Unread x) = beside-refl mac (r .slots)
+  read-its (ReadAs h) = checked-its h
+
+  receive-its : (frame : List ℕ) → Beside mac (receive n s mac frame buf c r .room .slots) (r .slots)
+  unfolding receive refuse
+  receive-its frame =
+      by-test (ltb (length buf) 11) (λ e. rw e (beside-refl mac (r .slots)))
+      (λ e. rw e (read-its (helloRead (s .kind) (s .mac) frame)))
+
+pub act-its : (b : Neighbour) (n : ℕ) (s : Circuit) (l : Local) (c : Common) (r : Room) → s .kind ≡ Lan → isSent b l ≡ true
+    → Beside (b .mac) (act n s l c r .room .slots) (r .slots)
+unfolding act isSent
+act-its b n s (Receive mac frame buf) c r lan e = rw (← eqb-true mac (b .mac) e) (receive-its n s mac lan buf c r frame)
+act-its b n s Release c r lan e = absurd (false≢true e)
+act-its b n s (CsnpComplete level) c r lan e = absurd (false≢true e)
+act-its b n s (LookUp k) c r lan e = absurd (false≢true e)
+act-its b n s LinkMetric c r lan e = absurd (false≢true e)
+act-its b n s NextHello c r lan e = absurd (false≢true e)
+
+-- ---- a shared call, in both runs
+
+-- a run that answers 9 is not asked
+not-nine : (buf : List ℕ) (c : Common) (r : Room) → isNine (refuse buf NoRoom c r .answer) ≡ false → ⊥
+unfolding refuse isNine
+not-nine buf c r e = true≢false e
+
+module _ (b : Neighbour) (n : ℕ) (s : Circuit) (mac : ℕ) (frame buf : List ℕ) (c : Common) (r₁ r₂ : Room)
+    (near : Beside (b .mac) (r₁ .slots) (r₂ .slots)) where
+  abbrev Both : Acted → Acted → Type 0
+  Both x y = isNine (x .answer) ≡ false → isNine (y .answer) ≡ false → Same b (Receive mac frame buf) x y
+
+  both-refuse : (x : Refusal) → Both (refuse buf x c r₁) (refuse buf x c r₂)
+  unfolding refuse
+  both-refuse x h₁ h₂ = record { room = near; answer = refl; reply = refl }
+
+  both-accepted : (h : Hello) (k : Key) (after : Adjacency) (reply : Acknowledgement) (line : Line)
+      → crowded k (r₁ .slots) ≡ false → crowded k (r₂ .slots) ≡ false
+      → Both (accepted n s h k buf after reply line c r₁) (accepted n s h k buf after reply line c r₂)
+  unfolding accepted comparedThere unordered
+  both-accepted h k after reply line e₁ e₂ h₁ h₂ = record { room = beside-kept k after e₁ e₂ near; answer = refl; reply = refl }
+
+  settle-both : (h : Hello) (k : Key) (a : Reaction)
+      → Both (settle n s h k buf (ifRoom (crowded k (r₁ .slots)) a) c r₁) (settle n s h k buf (ifRoom (crowded k (r₂ .slots)) a) c r₂)
+  unfolding settle ifRoom
+  settle-both h k (Declined x) = both-refuse x
+  settle-both h k (Accepted after reply line) =
+      by-test (crowded k (r₁ .slots)) (λ e₁. rw e₁ (λ h₁ h₂. absurd (not-nine buf c r₁ h₁)))
+      (λ e₁.
+      by-test (crowded k (r₂ .slots)) (λ e₂. rw e₂ (λ h₁ h₂. absurd (not-nine buf c r₂ h₂)))
+      (λ e₂. rw (e₁, e₂) (both-accepted h k after reply line e₁ e₂)))
+
+  seated-both : s .kind ≡ Lan → mac ≢ b .mac → (h : Hello) → Both (seated n s mac buf h c r₁) (seated n s mac buf h c r₂)
+  unfolding seated decided
+  seated-both lan other h =
+      let k : Key = keyIn (s .kind) mac h in
+      rw (beside-find near k (λ e. other (sym (key-mac s mac h lan) ∙ e))) (settle-both h k (reactOf (hereOf c s) h (find k (r₂ .slots))))
+
+  read-both : s .kind ≡ Lan → mac ≢ b .mac → (d : Read) → Both (readIn n s mac buf d c r₁) (readIn n s mac buf d c r₂)
+  unfolding readIn checked
+  read-both lan other (Unread x) = both-refuse x
+  read-both lan other (ReadAs h) =
+      by-test (wrongSource (s .levels) (c .system) h) (λ e. rw e (both-refuse WrongSource)) (λ e. rw e (seated-both lan other h))
+
+  receive-both : s .kind ≡ Lan → mac ≢ b .mac → Both (receive n s mac frame buf c r₁) (receive n s mac frame buf c r₂)
+  unfolding receive
+  receive-both lan other =
+      by-test (ltb (length buf) 11) (λ e. rw e (both-refuse ReplyRoom))
+      (λ e. rw e (read-both lan other (helloRead (s .kind) (s .mac) frame)))
+
+-- in the mode Running the notice is refused, by the level
+csnp-refused : (n : ℕ) (s : Circuit) (level : ℕ) (c : Common) (r : Room) → c .timers .mode ≡ Running
+    → csnpComplete n s level c r ≡ refuse [] (cond (hasLevel (s .levels) level) NotRestarting NoCircuit) c r
+unfolding csnpComplete
+csnp-refused n s level c r run = by-test (hasLevel (s .levels) level) (λ e. cc) (λ e. cc)
+
+look-both : (b : Neighbour) (s : Circuit) (k : Key) (c : Common) (r₁ r₂ : Room) → s .kind ≡ Lan → Beside (b .mac) (r₁ .slots) (r₂ .slots)
+    → Same b (LookUp k) (lookUp s k c r₁) (lookUp s k c r₂)
+unfolding lookUp refuse comparedThere keyOn
+look-both b s k c r₁ r₂ lan near =
+    by-test (asksLevel (s .kind) (s .levels) (k .level))
+    (λ e.
+    rw (e, lan)
+    (record {
+      room = near;
+      answer = by-test (eqb (k .mac) (b .mac)) (λ q. cc) (λ q. cc (beside-find near k (eqb-false _ _ q)));
+      reply = refl;
+    }))
+    (λ e. rw e (record { room = near; answer = refl; reply = refl }))
+
+pub act-both : (b : Neighbour) (n : ℕ) (s : Circuit) (l : Local) (c : Common) (r₁ r₂ : Room) → c .timers .mode ≡ Running → s .kind ≡ Lan
+    → isSent b l ≡ false → Beside (b .mac) (r₁ .slots) (r₂ .slots) → isNine (act n s l c r₁ .answer) ≡ false
+    → isNine (act n s l c r₂ .answer) ≡ false → Same b l (act n s l c r₁) (act n s l c r₂)
+unfolding act isSent comparedThere refuse linkMetricOf nextHello
+act-both b n s (Receive mac frame buf) c r₁ r₂ run lan e near h₁ h₂ =
+    receive-both b n s mac frame buf c r₁ r₂ near lan (eqb-false _ _ e) h₁ h₂
+act-both b n s Release c r₁ r₂ run lan e near h₁ h₂ = record { room = beside-sweep plannedState near; answer = refl; reply = refl }
+act-both b n s (CsnpComplete level) c r₁ r₂ run lan e near h₁ h₂ =
+    rw (csnp-refused n s level c r₁ run, csnp-refused n s level c r₂ run) (record { room = near; answer = refl; reply = refl })
+act-both b n s (LookUp k) c r₁ r₂ run lan e near h₁ h₂ = look-both b s k c r₁ r₂ lan near
+act-both b n s LinkMetric c r₁ r₂ run lan e near h₁ h₂ = record { room = near; answer = cc; reply = refl }
+act-both b n s NextHello c r₁ r₂ run lan e near h₁ h₂ = record { room = near; answer = refl; reply = refl }
+
+-- ---- the common part, in the mode Running
+
+module _ (n : ℕ) (s : Circuit) (c : Common) (r : Room) (run : c .timers .mode ≡ Running) where
+  settle-common : (h : Hello) (k : Key) (buf : List ℕ) (a : Reaction) → settle n s h k buf a c r .common ≡ c
+  unfolding settle refuse accepted
+  settle-common h k buf (Declined x) = refl
+  settle-common h k buf (Accepted after reply line) =
+      ap (λ (t : Timers). withTimers t c) (heard-running (c .timers) run (c .clock) (n - 1) (s .levels) (saidOf c s h) .0)
+
+  read-common : (mac : ℕ) (buf : List ℕ) (d : Read) → readIn n s mac buf d c r .common ≡ c
+  unfolding readIn checked seated refuse
+  read-common mac buf (Unread x) = refl
+  read-common mac buf (ReadAs h) =
+      by-test (wrongSource (s .levels) (c .system) h) (λ e. rw e) (λ e. rw e (settle-common h _ buf _))
+
+  pub act-common : (l : Local) → act n s l c r .common ≡ c
+  unfolding act receive refuse lookUp linkMetricOf nextHello
+  act-common (Receive mac frame buf) =
+      by-test (ltb (length buf) 11) (λ e. rw e) (λ e. rw e (read-common mac buf (helloRead (s .kind) (s .mac) frame)))
+  act-common Release = refl
+  act-common (CsnpComplete level) = rw (csnp-refused n s level c r run)
+  act-common (LookUp k) = by-test (asksLevel (s .kind) (s .levels) (k .level)) (λ e. rw e) (λ e. rw e)
+  act-common LinkMetric = refl
+  act-common NextHello = refl

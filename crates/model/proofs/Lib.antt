@@ -1,0 +1,4 @@
+pub mod Lists
+pub mod Beside
+pub mod Near
+pub mod Isolation

@@ -1,0 +1,285 @@
+-- How near two runs stay: the invariant of demand 3, kept by every call. Callers: Isolation.
+use Prim.Native.Nat.{ℕ, zero, suc}
+use mathlib.Core.Path.{_≡_, refl, sym, ap, _∙_, subst}
+use mathlib.Core.Logic.{_≢_}
+use mathlib.Core.Bool.{Bool, true, false, not, _&&_, true≢false, false≢true}
+use mathlib.Core.List.{List, map}
+use lib.ListN.{length, length-map}
+use lib.Dec.{ltb, eqb}
+use borrow.Author.Tests.{eqb-true, eqb-false, eq-eqb}
+use Rattle.tlv.proofs.BoolLaws.{by-test}
+use Rattle.hello.specs.declared.header.CircuitKind.{CircuitKind}
+use Rattle.hello.specs.declared.header.CircuitKind.the-variants.{Lan, P2p}
+use Rattle.hello.specs.declared.refusal.Refusal.{Refusal}
+use Rattle.adjacency.specs.Step.{hasLevel}
+use Rattle.slots.specs.Slots.{expiredBy}
+use Rattle.table.specs.Table.{find, sweep, anyOf}
+use Rattle.timers.specs.Timers.{toT3}
+use Rattle.timers.specs.declared.head.Mode.the-variants.{Running}
+use Rattle.timers.specs.declared.outcome.Outcome.{Outcome as Timed}
+use Rattle.timers.proofs.TimersLaws.{mode-running}
+use Rattle.settings.specs.Settings.{enabledLevels}
+use Rattle.settings.specs.declared.circuit.Circuit.{Circuit}
+use Rattle.common.specs.Common.{Common, circuitOf}
+use Rattle.common.specs.declared.words.Chosen.{Chosen}
+use Rattle.common.specs.declared.words.Chosen.the-variants.{Known, Unknown}
+use Rattle.model.specs.Answers.{Answer}
+use Rattle.model.specs.Gateway.{Room, Gateway, numbered, renew, noRoom, roomOf, recordAt}
+use Rattle.model.specs.Receive.{Acted}
+use Rattle.model.specs.Step.{Local, Global, Tick, DatabaseComplete, Waiting, Call, At, Over, Outcome, act, lift, on}
+use Rattle.model.specs.Step.{Judged, Decline, Sweep, Tell, noneOf, tickOf, databaseOf, judge, swept, lapsed, carry, step}
+use Rattle.model.specs.Claim.{Neighbour, isSent, isIts, isLan, isThere, still, Sight, unmarked, compared, Agree}
+use Rattle.model.proofs.Lists.{renew-both, length-renew, renew-numbered, numbered-map, ext-numbered}
+use Rattle.model.proofs.Beside.{Beside, beside-refl, beside-sym, beside-trans, beside-find, beside-sweep, Same, act-its, act-both, act-common}
+
+-- s₁ and s₂: the promise for its LAN stands in each run
+pub record Near (b : Neighbour) (s₁ s₂ : Bool) (g₁ g₂ : Gateway) : Type 0 where
+  pub mode : g₁ .common .timers .mode ≡ Running
+  pub common : g₁ .common ≡ g₂ .common
+  pub lan₁ : s₁ ≡ true → isLan (circuitOf (g₁ .common) (b .circuit)) ≡ true
+  pub lan₂ : s₂ ≡ true → isLan (circuitOf (g₂ .common) (b .circuit)) ≡ true
+  pub size : length (g₁ .rooms) ≡ length (g₂ .rooms)
+  pub elsewhere : (n : ℕ) → n ≢ b .circuit → roomOf g₁ n ≡ roomOf g₂ n
+  pub own : s₁ ≡ true → s₂ ≡ true → Beside (b .mac) (roomOf g₁ (b .circuit) .slots) (roomOf g₂ (b .circuit) .slots)
+
+pub near-sym : {b : Neighbour} {s₁ s₂ : Bool} {g₁ g₂ : Gateway} → Near b s₁ s₂ g₁ g₂ → Near b s₂ s₁ g₂ g₁
+near-sym n =
+    record {
+      mode = rw (n .common) at (n .mode);
+      common = sym (n .common);
+      lan₁ = n .lan₂;
+      lan₂ = n .lan₁;
+      size = sym (n .size);
+      elsewhere = λ i h. sym (n .elsewhere i h);
+      own = λ h₁ h₂. beside-sym (n .own h₂ h₁);
+    }
+
+-- ---- the promise for its LAN
+
+and-left : (s e : Bool) → s && e ≡ true → s ≡ true
+and-left true e h = refl
+and-left false e h = h
+
+and-false : (s : Bool) → s && false ≡ false
+and-false true = refl
+and-false false = refl
+
+-- a run in which the promise still stands did not answer 9
+stood : (s e f : Bool) → s && not (e && f) ≡ true → e ≡ true → f ≡ false
+stood s e false h q = refl
+stood s e true h q = absurd (false≢true (sym (and-false s) ∙ sym (ap (λ (x : Bool). s && not (x && true)) q) ∙ h))
+
+lan-kind : (s : Circuit) (k : CircuitKind) → s .kind ≡ k → isLan (Known s) ≡ true → k ≡ Lan
+unfolding isLan
+lan-kind s Lan e h = refl
+lan-kind s P2p e h = absurd (false≢true (rw e at h))
+
+-- ---- what is compared
+
+abbrev sight : Neighbour → Bool → Call → Outcome → Sight
+sight b s c o = record { call = c; stands = still b s c (o .answer); outcome = o }
+
+pub record Kept (b : Neighbour) (s₁ s₂ : Bool) (c : Call) (x y : Outcome) : Type 0 where
+  pub agree : Agree b (sight b s₁ c x) (sight b s₂ c y)
+  pub near : Near b (still b s₁ c (x .answer)) (still b s₂ c (y .answer)) (x .next) (y .next)
+
+-- the records follow from nearness
+kept-of-near : (b : Neighbour) (s₁ s₂ : Bool) (c : Call) (x y : Outcome)
+    → Near b (still b s₁ c (x .answer)) (still b s₂ c (y .answer)) (x .next) (y .next)
+    → (isThere b c ≡ false → (compared b c (x .answer) ≡ compared b c (y .answer)) × (x .reply ≡ y .reply))
+    → (still b s₁ c (x .answer) ≡ true → still b s₂ c (y .answer) ≡ true
+    → (compared b c (x .answer) ≡ compared b c (y .answer)) × (x .reply ≡ y .reply))
+    → Kept b s₁ s₂ c x y
+unfolding recordAt
+kept-of-near b s₁ s₂ c x y n away there =
+    record {
+      agree = record {
+        call = refl;
+        records = λ i k h. ap (λ (r : Room). find k (r .slots)) (n .elsewhere i h);
+        answer = λ h. away h .0;
+        reply = λ h. away h .1;
+        own-records = λ h₁ h₂ k h. beside-find (n .own h₁ h₂) k h;
+        own-answer = λ h₁ h₂. there h₁ h₂ .0;
+        own-reply = λ h₁ h₂. there h₁ h₂ .1;
+      };
+      near = n;
+    }
+
+-- ---- what a call that names no circuit leaves as it was, in the mode Running
+
+data Steady (c : Common) : Judged → Type 0 where
+  declined : {x : Refusal} → Steady c (Decline x)
+  sweeping : {clock : ℕ} {d : Common} {hellos : List Bool} {o : Timed} → d .timers .mode ≡ Running → d .circuits ≡ c .circuits
+      → Steady c (Sweep clock d hellos o)
+  telling : {d : Common} {a : Answer} → d .timers .mode ≡ Running → d .circuits ≡ c .circuits → Steady c (Tell d a)
+
+judge-steady : (c : Common) (w : Global) → c .timers .mode ≡ Running → Steady c (judge c w)
+unfolding judge tickOf databaseOf
+judge-steady c (Tick clock) run =
+    by-test (noneOf (c .circuits)) (λ h. rw h (telling run refl))
+    (λ h.
+    by-test (ltb clock (c .clock)) (λ e. rw (h, e) declined)
+    (λ e. rw (h, e) (sweeping (mode-running (c .timers) run (toT3 (c .lengths) clock)) refl)))
+judge-steady c (DatabaseComplete level) run =
+    by-test (hasLevel (enabledLevels (c .circuits)) level) (λ h. rw (h, run) declined) (λ h. rw h declined)
+judge-steady c Waiting run = telling run refl
+
+circuitOf-same : (c d : Common) → d .circuits ≡ c .circuits → (n : ℕ) → circuitOf d n ≡ circuitOf c n
+unfolding circuitOf
+circuitOf-same c d e zero = refl
+circuitOf-same c d e (suc i) = cc
+
+-- ---- a tick's sweep
+
+swept-at : (clock : ℕ) (rs : List Room) (n : ℕ) → numbered (map (swept clock) rs) n noRoom ≡ swept clock (numbered rs n noRoom)
+unfolding sweep
+swept-at clock rs n = numbered-map (swept clock) rs n noRoom
+
+lapsed-at : (clock : ℕ) (rs : List Room) (n : ℕ) → numbered (map (lapsed clock) rs) n false ≡ lapsed clock (numbered rs n noRoom)
+unfolding anyOf
+lapsed-at clock rs n = numbered-map (lapsed clock) rs n noRoom
+
+-- the marks, but for one circuit
+marks-same : (clock b : ℕ) (r₁ r₂ : List Room) → length r₁ ≡ length r₂
+    → ((n : ℕ) → n ≢ b → numbered r₁ n noRoom ≡ numbered r₂ n noRoom)
+    → renew (map (lapsed clock) r₁) b false ≡ renew (map (lapsed clock) r₂) b false
+marks-same clock b r₁ r₂ e h =
+    let m : length (map (lapsed clock) r₁) ≡ length (map (lapsed clock) r₂) = cc (length-map r₁ (lapsed clock), length-map r₂ (lapsed clock)) in
+    ext-numbered false _ _ (cc (length-renew (map (lapsed clock) r₁) b false, length-renew (map (lapsed clock) r₂) b false))
+    (λ j.
+    renew-both (λ x y. x ≡ y) false false false refl (map (lapsed clock) r₁) (map (lapsed clock) r₂) b j m
+    (λ q. cc (lapsed-at clock r₁ j, lapsed-at clock r₂ j, h j (λ p. q (sym p)))) (λ q. refl))
+
+-- ---- every call
+
+module _ (b : Neighbour) (s₁ s₂ : Bool) (g₁ g₂ : Gateway) (n : Near b s₁ s₂ g₁ g₂) where
+  mode₂ : g₂ .common .timers .mode ≡ Running
+  mode₂ = near-sym n .mode
+
+  -- one room is renewed in both
+  set-near : (z₁ z₂ : Bool) → (z₁ ≡ true → s₁ ≡ true) → (z₂ ≡ true → s₂ ≡ true) → (c₁ c₂ : Common) → c₁ ≡ g₁ .common → c₂ ≡ g₂ .common
+      → (i : ℕ) (r₁ r₂ : Room) → (i ≢ b .circuit → r₁ ≡ r₂)
+      → (i ≡ b .circuit → z₁ ≡ true → z₂ ≡ true → Beside (b .mac) (r₁ .slots) (r₂ .slots))
+      → Near b z₁ z₂ (record { common = c₁; rooms = renew (g₁ .rooms) i r₁ }) (record { common = c₂; rooms = renew (g₂ .rooms) i r₂ })
+  set-near z₁ z₂ w₁ w₂ c₁ c₂ e₁ e₂ i r₁ r₂ away there =
+      record {
+        mode = rw e₁ (n .mode);
+        common = e₁ ∙ n .common ∙ sym e₂;
+        lan₁ = λ h. rw e₁ (n .lan₁ (w₁ h));
+        lan₂ = λ h. rw e₂ (n .lan₂ (w₂ h));
+        size = cc (length-renew (g₁ .rooms) i r₁, length-renew (g₂ .rooms) i r₂, n .size);
+        elsewhere = λ j h.
+            renew-both (λ x y. x ≡ y) noRoom r₁ r₂ refl (g₁ .rooms) (g₂ .rooms) i j (n .size) (λ q. n .elsewhere j h) (λ q. away (rw q h));
+        own = λ h₁ h₂.
+            renew-both (λ x y. Beside (b .mac) (x .slots) (y .slots)) noRoom r₁ r₂ (beside-refl _ _) (g₁ .rooms) (g₂ .rooms) i (b .circuit)
+            (n .size) (λ q. n .own (w₁ h₁) (w₂ h₂)) (λ q. there q h₁ h₂);
+      }
+
+  -- the common part is changed alike in both
+  common-near : (z₁ z₂ : Bool) → (z₁ ≡ true → s₁ ≡ true) → (z₂ ≡ true → s₂ ≡ true) → (c₁ c₂ : Common) → c₁ ≡ c₂
+      → c₁ .timers .mode ≡ Running → c₁ .circuits ≡ g₁ .common .circuits
+      → Near b z₁ z₂ (record { common = c₁; rooms = g₁ .rooms }) (record { common = c₂; rooms = g₂ .rooms })
+  common-near z₁ z₂ w₁ w₂ c₁ c₂ e m q =
+      let k₁ : circuitOf c₁ (b .circuit) ≡ circuitOf (g₁ .common) (b .circuit) = circuitOf-same (g₁ .common) c₁ q (b .circuit) in
+      let k₂ : circuitOf c₂ (b .circuit) ≡ circuitOf (g₂ .common) (b .circuit) = cc (e, n .common) in
+      record {
+        mode = m;
+        common = e;
+        lan₁ = λ h. rw k₁ (n .lan₁ (w₁ h));
+        lan₂ = λ h. rw k₂ (n .lan₂ (w₂ h));
+        size = n .size;
+        elsewhere = n .elsewhere;
+        own = λ h₁ h₂. n .own (w₁ h₁) (w₂ h₂);
+      }
+
+  -- nothing is changed
+  same-near : (z₁ z₂ : Bool) → (z₁ ≡ true → s₁ ≡ true) → (z₂ ≡ true → s₂ ≡ true) → Near b z₁ z₂ g₁ g₂
+  same-near z₁ z₂ w₁ w₂ = common-near z₁ z₂ w₁ w₂ (g₁ .common) (g₂ .common) (n .common) (n .mode) refl
+
+  -- a call on another circuit
+  away-on : (i : ℕ) (l : Local) → i ≢ b .circuit → (q : Chosen) → Kept b s₁ s₂ (At i l) (on g₁ i l q) (on g₂ i l q)
+  unfolding on lift
+  away-on i l h Unknown = kept-of-near b s₁ s₂ _ _ _ (same-near _ _ (and-left _ _) (and-left _ _)) (λ e. (refl, refl)) (λ h₁ h₂. (refl, refl))
+  away-on i l h (Known s) =
+      let same : act i s l (g₁ .common) (roomOf g₁ i) ≡ act i s l (g₂ .common) (roomOf g₂ i) = cc (n .common, n .elsewhere i h) in
+      let answers = ap (λ (a : Acted). compared b (At i l) (a .answer)) same in
+      let replies = ap (λ (a : Acted). a .reply) same in
+      kept-of-near b s₁ s₂ _ _ _
+      (set-near _ _ (and-left _ _) (and-left _ _) _ _ (act-common i s _ _ (n .mode) l) (act-common i s _ _ mode₂ l) i _ _
+      (λ e. ap (λ (a : Acted). a .room) same) (λ e. absurd (h e)))
+      (λ e. (answers, replies)) (λ h₁ h₂. (answers, replies))
+
+  -- a shared call on its circuit
+  own-on : (l : Local) → isSent b l ≡ false → (q : Chosen) → (s₁ ≡ true → isLan q ≡ true)
+      → Kept b s₁ s₂ (At (b .circuit) l) (on g₁ (b .circuit) l q) (on g₂ (b .circuit) l q)
+  unfolding on lift compared isThere
+  own-on l e Unknown lan = kept-of-near b s₁ s₂ _ _ _ (same-near _ _ (and-left _ _) (and-left _ _)) (λ e. (refl, refl)) (λ h₁ h₂. (refl, refl))
+  own-on l e (Known s) lan =
+      let i : ℕ = b .circuit in
+      let yes = eq-eqb i i refl in
+      let r₁ = roomOf g₁ i in
+      let r₂ = roomOf g₂ i in
+      let both : still b s₁ (At i l) (on g₁ i l (Known s) .answer) ≡ true → still b s₂ (At i l) (on g₂ i l (Known s) .answer) ≡ true
+      → Same b l (act i s l (g₁ .common) r₁) (act i s l (g₂ .common) r₂) =
+      rw (← n .common)
+      (λ h₁ h₂.
+      act-both b i s l (g₁ .common) r₁ r₂ (n .mode) (lan-kind s _ refl (lan (and-left s₁ _ h₁))) e
+      (n .own (and-left s₁ _ h₁) (and-left s₂ _ h₂)) (stood s₁ (eqb i i) _ h₁ yes) (stood s₂ (eqb i i) _ h₂ yes)) in
+      kept-of-near b s₁ s₂ _ _ _
+      (set-near _ _ (and-left _ _) (and-left _ _) _ _ (act-common i s _ _ (n .mode) l) (act-common i s _ _ mode₂ l) i _ _
+      (λ h. absurd (h refl)) (λ q h₁ h₂. both h₁ h₂ .room))
+      (λ h. absurd (true≢false (sym yes ∙ h))) (λ h₁ h₂. rw yes (both h₁ h₂ .answer, both h₁ h₂ .reply))
+
+  -- its frame, in the first run alone
+  its-on : (l : Local) → isSent b l ≡ true → (q : Chosen) → (s₁ ≡ true → isLan q ≡ true)
+      → Near b (still b s₁ (At (b .circuit) l) (on g₁ (b .circuit) l q .answer)) s₂ (on g₁ (b .circuit) l q .next) g₂
+  unfolding on lift
+  its-on l e Unknown lan = same-near _ _ (and-left _ _) (λ h. h)
+  its-on l e (Known s) lan =
+      let i : ℕ = b .circuit in
+      let o : Outcome = on g₁ i l (Known s) in
+      subst (λ (rs : List Room). Near b (still b s₁ (At i l) (o .answer)) s₂ (o .next) (record { common = g₂ .common; rooms = rs }))
+      (renew-numbered (g₂ .rooms) i noRoom)
+      (set-near _ s₂ (and-left _ _) (λ h. h) _ _ (act-common i s _ _ (n .mode) l) refl i _ (roomOf g₂ i)
+      (λ h. absurd (h refl))
+      (λ q h₁ h₂.
+      beside-trans (act-its b i s l (g₁ .common) (roomOf g₁ i) (lan-kind s _ refl (lan (and-left s₁ _ h₁))) e) (n .own (and-left s₁ _ h₁) h₂)))
+
+  -- a call that names no circuit
+  carry-kept : (w : Global) (d : Judged) → Steady (g₁ .common) d → Kept b s₁ s₂ (Over w) (carry g₁ d) (carry g₂ d)
+  unfolding carry isThere compared unmarked
+  carry-kept w d declined = kept-of-near b s₁ s₂ _ _ _ (same-near _ _ (and-left _ _) (and-left _ _)) (λ e. (refl, refl)) (λ h₁ h₂. (refl, refl))
+  carry-kept w d (telling m q) =
+      kept-of-near b s₁ s₂ _ _ _ (common-near _ _ (and-left _ _) (and-left _ _) _ _ refl m q) (λ e. (refl, refl)) (λ h₁ h₂. (refl, refl))
+  carry-kept w d (sweeping {clock} m q) =
+      let c = common-near _ _ (and-left s₁ _) (and-left s₂ _) _ _ refl m q in
+      let marks = marks-same clock (b .circuit) (g₁ .rooms) (g₂ .rooms) (n .size) (n .elsewhere) in
+      kept-of-near b s₁ s₂ _ _ _
+      (record {
+        mode = m;
+        common = refl;
+        lan₁ = c .lan₁;
+        lan₂ = c .lan₂;
+        size = cc (length-map (g₁ .rooms) (swept clock), length-map (g₂ .rooms) (swept clock), n .size);
+        elsewhere = λ i h. cc (swept-at clock (g₁ .rooms) i, swept-at clock (g₂ .rooms) i, n .elsewhere i h);
+        own = λ h₁ h₂.
+            rw (swept-at clock (g₁ .rooms) (b .circuit), swept-at clock (g₂ .rooms) (b .circuit))
+            (beside-sweep (expiredBy clock) (c .own h₁ h₂));
+      })
+      (λ e. (cc, refl)) (λ h₁ h₂. (cc, refl))
+
+  pub step-kept : (c : Call) → isIts b c ≡ false → Kept b s₁ s₂ c (step g₁ c) (step g₂ c)
+  unfolding step isIts
+  step-kept (Over w) e =
+      rw (ap (λ (c : Common). judge c w) (sym (n .common))) (carry-kept w (judge (g₁ .common) w) (judge-steady (g₁ .common) w (n .mode)))
+  step-kept (At i l) e =
+      rw (ap (λ (c : Common). circuitOf c i) (sym (n .common)))
+      (by-test (eqb i (b .circuit)) (λ h. rw (eqb-true i (b .circuit) h) (own-on l (cc) (circuitOf (g₁ .common) (b .circuit)) (n .lan₁)))
+      (λ h. away-on i l (eqb-false i (b .circuit) h) (circuitOf (g₁ .common) i)))
+
+  pub its-near : (c : Call) → isIts b c ≡ true → Near b (still b s₁ c (step g₁ c .answer)) s₂ (step g₁ c .next) g₂
+  unfolding step isIts
+  its-near (At i l) e =
+      let its : isSent b l ≡ true = by-test (eqb i (b .circuit)) (λ h. cc) (λ h. cc) in
+      rw (eqb-true i (b .circuit) (and-left _ (isSent b l) e)) (its-on l its (circuitOf (g₁ .common) (b .circuit)) (n .lan₁))
+  its-near (Over w) e = absurd (false≢true e)
