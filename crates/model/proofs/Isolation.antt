@@ -59,14 +59,14 @@ setup-is s g hellos e = by-test (settingsOk s) (λ h. cc) (λ h. cc)
 
 setup-running : (s : Settings) → s .mode ≡ Running → newGateway s .common .timers .mode ≡ Running
 unfolding newGateway setupCommon started startHead
-setup-running s run = rw run
+setup-running s h = rw h
 
 pub isolation : Isolation
-isolation s g hellos run e b xs ys h =
+isolation s g hellos r e b xs ys h =
     agreeing (alike b xs ys h) _ _ g g
     (record {
-      mode = rw (setup-is s g hellos e) (setup-running s run);
       common = refl;
+      mode = rw (setup-is s g hellos e) (setup-running s r);
       lan₁ = λ l. l;
       lan₂ = λ l. l;
       size = refl;

@@ -34,8 +34,8 @@ use Rattle.model.proofs.Beside.{Beside, beside-refl, beside-sym, beside
 
 -- s₁ and s₂: the promise for its LAN stands in each run
 pub record Near (b : Neighbour) (s₁ s₂ : Bool) (g₁ g₂ : Gateway) : Type 0 where
-  pub mode : g₁ .common .timers .mode ≡ Running
   pub common : g₁ .common ≡ g₂ .common
+  pub mode : g₁ .common .timers .mode ≡ Running
   pub lan₁ : s₁ ≡ true → isLan (circuitOf (g₁ .common) (b .circuit)) ≡ true
   pub lan₂ : s₂ ≡ true → isLan (circuitOf (g₂ .common) (b .circuit)) ≡ true
   pub size : length (g₁ .rooms) ≡ length (g₂ .rooms)
@@ -45,8 +45,8 @@ pub record Near (b : Neighbour) (s₁ s₂ : Bool) (g₁ g₂ : Gateway) : Type 
 pub near-sym : {b : Neighbour} {s₁ s₂ : Bool} {g₁ g₂ : Gateway} → Near b s₁ s₂ g₁ g₂ → Near b s₂ s₁ g₂ g₁
 near-sym n =
     record {
-      mode = rw (n .common) at (n .mode);
       common = sym (n .common);
+      mode = rw (n .common) at (n .mode);
       lan₁ = n .lan₂;
       lan₂ = n .lan₁;
       size = sym (n .size);
@@ -163,8 +163,8 @@ module _ (b : Neighbour) (s₁ s₂ : Bool) (g₁ g₂ : Gateway) (n : Near b s�
       → Near b z₁ z₂ (record { common = c₁; rooms = renew (g₁ .rooms) i r₁ }) (record { common = c₂; rooms = renew (g₂ .rooms) i r₂ })
   set-near z₁ z₂ w₁ w₂ c₁ c₂ e₁ e₂ i r₁ r₂ away there =
       record {
-        mode = rw e₁ (n .mode);
         common = e₁ ∙ n .common ∙ sym e₂;
+        mode = rw e₁ (n .mode);
         lan₁ = λ h. rw e₁ (n .lan₁ (w₁ h));
         lan₂ = λ h. rw e₂ (n .lan₂ (w₂ h));
         size = cc (length-renew (g₁ .rooms) i r₁, length-renew (g₂ .rooms) i r₂, n .size);
@@ -183,8 +183,8 @@ module _ (b : Neighbour) (s₁ s₂ : Bool) (g₁ g₂ : Gateway) (n : Near b s�
       let k₁ : circuitOf c₁ (b .circuit) ≡ circuitOf (g₁ .common) (b .circuit) = circuitOf-same (g₁ .common) c₁ q (b .circuit) in
       let k₂ : circuitOf c₂ (b .circuit) ≡ circuitOf (g₂ .common) (b .circuit) = cc (e, n .common) in
       record {
-        mode = m;
         common = e;
+        mode = m;
         lan₁ = λ h. rw k₁ (n .lan₁ (w₁ h));
         lan₂ = λ h. rw k₂ (n .lan₂ (w₂ h));
         size = n .size;
@@ -197,17 +197,22 @@ module _ (b : Neighbour) (s₁ s₂ : Bool) (g₁ g₂ : Gateway) (n : Near b s�
   same-near z₁ z₂ w₁ w₂ = common-near z₁ z₂ w₁ w₂ (g₁ .common) (g₂ .common) (n .common) (n .mode) refl
 
   -- a call on another circuit
+  lift-away : (i : ℕ) (f : Common → Room → Acted) → i ≢ b .circuit
+      → (lift g₁ i f .answer ≡ lift g₂ i f .answer) × (lift g₁ i f .reply ≡ lift g₂ i f .reply)
+  unfolding lift
+  lift-away i f h = (cc (n .common, n .elsewhere i h), cc (n .common, n .elsewhere i h))
+
   away-on : (i : ℕ) (l : Local) → i ≢ b .circuit → (q : Chosen) → Kept b s₁ s₂ (At i l) (on g₁ i l q) (on g₂ i l q)
   unfolding on lift
   away-on i l h Unknown = kept-of-near b s₁ s₂ _ _ _ (same-near _ _ (and-left _ _) (and-left _ _)) (λ e. (refl, refl)) (λ h₁ h₂. (refl, refl))
   away-on i l h (Known s) =
-      let same : act i s l (g₁ .common) (roomOf g₁ i) ≡ act i s l (g₂ .common) (roomOf g₂ i) = cc (n .common, n .elsewhere i h) in
-      let answers = ap (λ (a : Acted). compared b (At i l) (a .answer)) same in
-      let replies = ap (λ (a : Acted). a .reply) same in
+      let room : act i s l (g₁ .common) (roomOf g₁ i) .room ≡ act i s l (g₂ .common) (roomOf g₂ i) .room = cc (n .common, n .elsewhere i h) in
+      let k = lift-away i (act i s l) h in
+      let answer = ap (compared b (At i l)) (k .0) in
       kept-of-near b s₁ s₂ _ _ _
-      (set-near _ _ (and-left _ _) (and-left _ _) _ _ (act-common i s _ _ (n .mode) l) (act-common i s _ _ mode₂ l) i _ _
-      (λ e. ap (λ (a : Acted). a .room) same) (λ e. absurd (h e)))
-      (λ e. (answers, replies)) (λ h₁ h₂. (answers, replies))
+      (set-near _ _ (and-left _ _) (and-left _ _) _ _ (act-common i s _ _ (n .mode) l) (act-common i s _ _ mode₂ l) i _ _ (λ e. room)
+      (λ e. absurd (h e)))
+      (λ e. (answer, k .1)) (λ h₁ h₂. (answer, k .1))
 
   -- a shared call on its circuit
   own-on : (l : Local) → isSent b l ≡ false → (q : Chosen) → (s₁ ≡ true → isLan q ≡ true)
@@ -256,8 +261,8 @@ module _ (b : Neighbour) (s₁ s₂ : Bool) (g₁ g₂ : Gateway) (n : Near b s�
       let marks = marks-same clock (b .circuit) (g₁ .rooms) (g₂ .rooms) (n .size) (n .elsewhere) in
       kept-of-near b s₁ s₂ _ _ _
       (record {
-        mode = m;
         common = refl;
+        mode = m;
         lan₁ = c .lan₁;
         lan₂ = c .lan₂;
         size = cc (length-map (g₁ .rooms) (swept clock), length-map (g₂ .rooms) (swept clock), n .size);
