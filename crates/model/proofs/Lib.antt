@@ -2,3 +2,4 @@ pub mod Lists
 pub mod Beside
 pub mod Near
 pub mod Isolation
+pub mod SampleRuns

@@ -3,3 +3,4 @@ pub mod Gateway
 pub mod Receive
 pub mod Step
 pub mod Claim
+pub mod SampleRuns
