@@ -257,14 +257,21 @@ pub length-bits : (m : ℕ) → length (bits m) ≡ 8
 unfolding bitsOf
 length-bits m = refl
 
--- ---- a list gathered beside one that is changed in place
+pub same-call : {a : Answer} (g : Gateway) {c c′ : Call} {ws ws′ b′ : List ℕ} → c ≡ c′ → Meets a (step g c) ws ws′ b′ → Meets a (step g c′) ws ws′ b′
+same-call g e m = rw (← e) m
+
+-- ---- a list gathered beside another, and beside one that is changed in place
 
 module _ {A B : Type 0} (d : A) (p : A → B) (m : List B) (t : List A) (i : ℕ) where
-  pub gather-step : (x : B) (v : A) → i < length m → i < length t → x ≡ p (getD t i d)
-      → take (i + 1) (set m i x) ++ map p (drop (i + 1) (set t i v)) ≡ take i m ++ map p (drop i t)
-  gather-step x v lm lt e =
-      rw (e, add-one i, take-suc-set m i (p (getD t i d)) lm, drop-set-lt (suc i) t i v (omega arith), drop-cons t i d lt)
+  pub copy-step : (x : B) → i < length m → i < length t → x ≡ p (getD t i d)
+      → take (i + 1) (set m i x) ++ map p (drop (i + 1) t) ≡ take i m ++ map p (drop i t)
+  copy-step x lm lt e =
+      rw (e, add-one i, take-suc-set m i (p (getD t i d)) lm, drop-cons t i d lt)
       (append-snoc (take i m) (p (getD t i d)) (map p (drop (suc i) t)))
 
-  pub gather-end : length m ≤ i → length t ≤ i → m ≡ take i m ++ map p (drop i t)
-  gather-end lm lt = rw (take-all i m lm, drop-of-length-le t lt) (sym (append-nil m))
+  pub gather-step : (x : B) (v : A) → i < length m → i < length t → x ≡ p (getD t i d)
+      → take (i + 1) (set m i x) ++ map p (drop (i + 1) (set t i v)) ≡ take i m ++ map p (drop i t)
+  gather-step x v lm lt e = rw (drop-set-lt (i + 1) t i v (omega arith)) (copy-step x lm lt e)
+
+pub gather-end : {A B : Type 0} (p : A → B) (m : List B) (t : List A) (i : ℕ) → length m ≤ i → length t ≤ i → m ≡ take i m ++ map p (drop i t)
+gather-end p m t i lm lt = rw (take-all i m lm, drop-of-length-le t lt) (sym (append-nil m))

@@ -1,3 +1,4 @@
 pub mod WordLaws
 pub mod FrameLaws
 pub mod CallLaws
+pub mod SetupLaws

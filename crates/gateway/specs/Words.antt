@@ -4,6 +4,8 @@ use mathlib.Core.Path.{_≡_}
 use mathlib.Core.List.{List}
 use lib.ListN.{take, drop}
 use Rattle.hello.specs.declared.refusal.Refusal.{Refusal}
+use Rattle.tlv.specs.Octets.{big}
+use Rattle.adjacency.specs.declared.record.Key.{Key}
 use Rattle.slots.specs.Slots.{tabulate, tableOf}
 use Rattle.common.specs.Words.{commonWords}
 use Rattle.common.specs.Common.{commonOf}
@@ -32,6 +34,10 @@ roomAt ws i = record { slots = tableOf (part (roomPlace i) 64 ws) }
 -- any words mean some gateway
 unfoldable pub gatewayOf : List ℕ → Gateway
 gatewayOf ws = record { common = commonOf (part 0 128 ws); rooms = tabulate (roomAt ws) 8 }
+
+-- a key as a caller gives it, with a System ID and a MAC of six octets
+abbrev pub keyGiven : ℕ → List ℕ → List ℕ → Key
+keyGiven level system mac = record { level = level; system = big 6 system 0; mac = big 6 mac 0 }
 
 -- What a call on the words ws is to do, a being its answer: answer, reply buffer and gateway at exit are the outcome's, and a refusal leaves
 -- every word as it was.

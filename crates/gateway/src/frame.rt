@@ -168,7 +168,13 @@ fn read_in(
 }
 
 // Refusal 1.
-fn receive_in(gateway: &mut [u64], n: u8, source: &[u8], frame: &[u8], reply: &mut [u8]) -> Received
+pub fn receive_in(
+    gateway: &mut [u64],
+    n: u8,
+    source: &[u8],
+    frame: &[u8],
+    reply: &mut [u8],
+) -> Received
     requires { ⌜ (length (now gateway) ≡ gatewayWords) × (length (now source) ≡ 6) ⌝ }
     ensures { λ r. ⌜ Meets (receivedOf r) (step (gatewayOf (now (gateway .entry))) (At n (Receive (big 6 (now (source .entry)) 0) (now (frame .entry)) (now (reply .entry))))) (now (gateway .entry)) (now (gateway .exit)) (now (reply .exit)) ⌝ }
 {

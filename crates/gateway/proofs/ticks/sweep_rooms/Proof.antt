@@ -59,8 +59,8 @@ same-length c = c .before .loop .inv .1 ∙ sym (c .before .before .before .pre)
 
 returns : tie.Need-returns Inv-loop μ-loop
 returns c = let l = c .before .loop in let t = c .before .before .before .args .clock in let g = gatewayOf (l .gateway) in let lr = length-rooms (l .gateway) in let lb = length-bits (l .marks) in (
-  gather-end noRoom (lapsed t) (bits (l .marks)) (g .rooms) (l .i) (omega arith) (omega arith) ∙ l .inv .2,
-  ap (withRooms g) (gather-end noRoom (swept t) (g .rooms) (g .rooms) (l .i) (omega arith) (omega arith)) ∙ l .inv .3,
+  gather-end (lapsed t) (bits (l .marks)) (g .rooms) (l .i) (omega arith) (omega arith) ∙ l .inv .2,
+  ap (withRooms g) (gather-end (swept t) (g .rooms) (g .rooms) (l .i) (omega arith) (omega arith)) ∙ l .inv .3,
 )
 
 pub sweep-rooms-spec : {M : Type 1} → statement M

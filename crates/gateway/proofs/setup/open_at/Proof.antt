@@ -1,0 +1,56 @@
+use Rattle.gateway.proofs.SetupLaws.{opened}
+use borrow.Rule.Slice.PartMut.{mid-len}
+use mathlib.Core.Path.{_≡_, refl, ap, sym, subst, _∙_}
+use native.Mathlib.Omega.{arith}
+use Prim.Native.Nat.{ℕ, _+_, _*_}
+use borrow.Author.Needs.{needs}
+use Rattle.gateway.proofs.setup.open_at.Statement.{statement}
+use Rattle.gateway.proofs.setup.open_at.Tie as tie
+use Rattle.gateway.proofs.setup.open_at.Reads as reads
+use Rattle.gateway.proofs.setup.open_at.Lts as lts
+use Rattle.table.proofs.room.open_room.Reads as open-room-reads
+
+mul-a : tie.Need-mul-a
+mul-a c = search needs
+
+add-a : tie.Need-add-a
+add-a c = search needs
+
+add-open-room : tie.Need-add-open-room
+add-open-room c = search needs
+
+mul-open-room : tie.Need-mul-open-room
+mul-open-room c = search needs
+
+sub-open-room : tie.Need-sub-open-room
+sub-open-room c = search needs
+
+part-open-room-start : tie.Need-part-open-room-start
+part-open-room-start c = search needs
+
+part-open-room-end : tie.Need-part-open-room-end
+part-open-room-end c = search needs
+
+open-room-requires : tie.Need-open-room-requires
+open-room-requires c κs = search needs
+
+same-length : tie.Need-same-length
+same-length c = search needs
+
+returns : tie.Need-returns
+returns c = let s = c .before .before .before .before .before in let a = s .args in let x = c .before .before .open-room in let at = 128 + 64 * a .i in opened (a .gateway .now) (x .last .0) (a .i) (a .s) (s .pre .0) (s .pre .1) (x .kept .0 ∙ mid-len at (at + 64) (a .gateway .now) (omega (arith, s .pre .0))) (x .ensures)
+
+pub open-at-spec : {M : Type 1} → statement M
+open-at-spec =
+    tie.close
+    (tie.spec
+    mul-a
+    add-a
+    add-open-room
+    mul-open-room
+    sub-open-room
+    part-open-room-start
+    part-open-room-end
+    open-room-requires
+    same-length
+    returns)

@@ -1,0 +1,21 @@
+use Prim.Native.Nat.{ℕ}
+use mathlib.Core.Path.{_≡_, refl, ap, sym, subst, _∙_}
+use borrow.Author.Needs.{needs}
+use Rattle.gateway.proofs.setup.settings_given.Statement.{statement}
+use Rattle.gateway.proofs.setup.settings_given.Tie as tie
+use Rattle.gateway.proofs.setup.settings_given.Reads as reads
+use Rattle.gateway.proofs.setup.settings_given.Lts as lts
+use Rattle.gateway.proofs.setup.circuits_given.Reads as circuits-given-reads
+use Rattle.gateway.proofs.setup.number.Reads as number-reads
+
+number-requires : tie.Need-number-requires
+number-requires c κs = search needs
+
+circuits-given-requires : tie.Need-circuits-given-requires
+circuits-given-requires c κs = search needs
+
+returns : tie.Need-returns
+returns c = let e = c .before .number .ensures in let cs = c .circuits-given .ensures in let s = c .before .before .before .before .before .args .s in λ i. record { system = e i; lengths = s .lengths; clock = s .clock; mode = s .mode; count = s .count; circuits = cs i }
+
+pub settings-given-spec : {M : Type 1} → statement M
+settings-given-spec = tie.close (tie.spec number-requires circuits-given-requires returns)

@@ -1,0 +1,64 @@
+-- Setup in lent words: the settings as a caller gives them, with MACs and the System ID of six octets, and what setup is to do
+-- (document 01, "What the gateway holds").
+use Prim.Native.Nat.{ℕ}
+use mathlib.Core.Path.{_≡_}
+use mathlib.Core.Bool.{Bool}
+use mathlib.Core.List.{List, map}
+use Rattle.tlv.specs.Octets.{big}
+use Rattle.hello.specs.declared.refusal.Refusal.{Refusal}
+use Rattle.timer_parts.specs.Mask.{bits}
+use Rattle.settings.specs.declared.circuit.Circuit.{Circuit}
+use Rattle.settings.specs.declared.setup.Settings.{Settings}
+use Rattle.model.specs.declared.answers.SetUp.{SetUp}
+use Rattle.model.specs.declared.answers.SetUp.the-variants.{Refused as RefusedSetUp, Done}
+use Rattle.model.specs.Gateway.{Gateway, Setup, Declined, Started}
+use Rattle.gateway.specs.declared.config.GatewaySettings.{GatewaySettings}
+use Rattle.gateway.specs.declared.config.CircuitSettings.{CircuitSettings}
+use Rattle.gateway.specs.Words.{gatewayOf}
+
+abbrev pub circuitGiven : CircuitSettings → Circuit
+circuitGiven s =
+    record {
+      kind = s .kind;
+      levels = s .levels;
+      mac = big 6 (s .mac) 0;
+      priority = s .priority;
+      hold = s .hold;
+      metric = s .metric;
+      id = s .id;
+    }
+
+abbrev pub settingsGiven : GatewaySettings → Settings
+settingsGiven s =
+    record {
+      system = big 6 (s .system) 0;
+      lengths = s .lengths;
+      clock = s .clock;
+      mode = s .mode;
+      count = s .count;
+      circuits = map circuitGiven (s .circuits);
+    }
+
+-- setup's answer: its refusal, or the circuits whose hello is ordered
+pub data Report : Type 0 where
+  Denied : Refusal → Report
+  Begun : (hellos : List Bool) → Report
+
+abbrev pub reportOf : SetUp → Report
+reportOf (RefusedSetUp x) = Denied x
+reportOf (Done hellos) = Begun (bits hellos)
+
+abbrev pub reportIn : Setup → Report
+reportIn (Declined x) = Denied x
+reportIn (Started g hellos) = Begun hellos
+
+-- "refused (12) and no gateway results": what stood before stands
+abbrev pub startedIn : Gateway → Setup → Gateway
+startedIn before (Declined x) = before
+startedIn before (Started g hellos) = g
+
+-- What setup on the words ws is to do, o being its outcome: a refusal leaves every word as it was.
+pub record SetsUp (o : Setup) (ws ws′ : List ℕ) (r : SetUp) : Type 0 where
+  pub answer : reportOf r ≡ reportIn o
+  pub next : gatewayOf ws′ ≡ startedIn (gatewayOf ws) o
+  pub kept : (x : Refusal) → reportOf r ≡ Denied x → ws′ ≡ ws

@@ -1,0 +1,113 @@
+// Setup (document 01, "What the gateway holds"): every setting is checked before a word is written.
+use crate::config::CircuitSettings;
+use crate::config::GatewaySettings;
+use common_setup::setup::set_up;
+use hello::refusal::Refusal;
+use model::answers::SetUp;
+use settings::circuit::Circuit;
+use settings::setup::Settings;
+use settings::setup::are_settings_ok;
+use table::room::open_room;
+use tlv::octets::six;
+ghost use mathlib.Core.Path.{_≡_};
+ghost use mathlib.Core.List.{map};
+ghost use Prim.Native.Nat.{_<_};
+ghost use lib.ListN.{length, set};
+ghost use Rattle.tlv.specs.Octets.{big};
+ghost use Rattle.model.specs.Gateway.{withRooms, newRoom, setup};
+ghost use Rattle.gateway.specs.Words.{gatewayWords, gatewayOf};
+ghost use Rattle.gateway.specs.Setup.{circuitGiven, settingsGiven, SetsUp};
+
+// A System ID or a MAC.
+fn number(octets: [u8; 6]) -> u64
+    ensures { λ r. ⌜ r ≡ big 6 octets 0 ⌝ }
+{
+    six(&octets, 0)
+}
+
+fn circuit_given(s: CircuitSettings) -> Circuit
+    ensures { λ r. ⌜ r ≡ circuitGiven s ⌝ }
+{
+    let kind = s.kind;
+    let levels = s.levels;
+    let octets = s.mac;
+    let mac = number(octets);
+    Circuit {
+        kind,
+        levels,
+        mac,
+        priority: s.priority,
+        hold: s.hold,
+        metric: s.metric,
+        id: s.id,
+    }
+}
+
+fn circuits_given(all: [CircuitSettings; 8]) -> [Circuit; 8]
+    ensures { λ r. ⌜ r ≡ map circuitGiven all ⌝ }
+{
+    let first = circuit_given(all[0]);
+    let mut read = [first; 8];
+    let mut i = 0;
+    while i < 8 {
+        let one = all[i];
+        read[i] = circuit_given(one);
+        i += 1;
+    }
+    read
+}
+
+pub fn settings_given(s: GatewaySettings) -> Settings
+    ensures { λ r. ⌜ r ≡ settingsGiven s ⌝ }
+{
+    let octets = s.system;
+    let lengths = s.lengths;
+    let mode = s.mode;
+    let all = s.circuits;
+    let system = number(octets);
+    let circuits = circuits_given(all);
+    Settings {
+        system,
+        lengths,
+        clock: s.clock,
+        mode,
+        count: s.count,
+        circuits,
+    }
+}
+
+// Circuit i (from 0): no record stands there.
+fn open_at(gateway: &mut [u64], i: usize, s: Circuit)
+    requires { ⌜ (length (now gateway) ≡ gatewayWords) × (i < 8) ⌝ }
+    ensures { λ _. ⌜ gatewayOf (now (gateway .exit)) ≡ withRooms (gatewayOf (now (gateway .entry))) (set (gatewayOf (now (gateway .entry)) .rooms) i (newRoom s)) ⌝ }
+{
+    let kind = s.kind;
+    let a = 128 + 64 * i;
+    open_room(&mut gateway[a..a + 64], kind);
+}
+
+fn open_rooms(gateway: &mut [u64], all: [Circuit; 8])
+    requires { ⌜ length (now gateway) ≡ gatewayWords ⌝ }
+    ensures { λ _. ⌜ gatewayOf (now (gateway .exit)) ≡ withRooms (gatewayOf (now (gateway .entry))) (map newRoom all) ⌝ }
+{
+    let mut i = 0;
+    while i < 8 {
+        let one = all[i];
+        open_at(gateway, i, one);
+        i += 1;
+    }
+}
+
+// Refusal 12, or a new gateway, whatever the words were.
+pub fn set_up_in(gateway: &mut [u64], s: Settings) -> SetUp
+    requires { ⌜ length (now gateway) ≡ gatewayWords ⌝ }
+    ensures { λ r. ⌜ SetsUp (setup s) (now (gateway .entry)) (now (gateway .exit)) r ⌝ }
+{
+    let all = s.circuits;
+    if are_settings_ok(s) {
+        let hellos = set_up(&mut gateway[0..128], s);
+        open_rooms(gateway, all);
+        return SetUp::Done(hellos);
+    }
+    SetUp::Refused(Refusal::BadSetting)
+}
