@@ -1,0 +1,201 @@
+-- What holds of every gateway from setup on, told room by room; that setup gives it; and how rooms are found after a call.
+use Prim.Native.Nat.{ℕ, zero, suc, _+_, _≤_, _<_, min}
+use native.Mathlib.Omega.{arith}
+use mathlib.Core.Path.{_≡_, refl, sym, ap, _∙_}
+use mathlib.Core.Bool.{Bool, true, false, true≢false, _&&_}
+use mathlib.Core.List.{List, [], _∷_, map}
+use lib.ListN.{length, getD, set, take, length-take}
+use lib.Seq.{getD-take}
+use lib.Dec.{ltb}
+use borrow.Author.Tests.{ltb-true, leb-true}
+use Rattle.tlv.proofs.BoolLaws.{by-test}
+use Rattle.adjacency.specs.Record.{expiryOf}
+use Rattle.adjacency.specs.declared.record.Key.{Key}
+use Rattle.adjacency.specs.declared.record.State.{State}
+use Rattle.slots.specs.Slots.{expiredBy}
+use Rattle.slots.specs.declared.slot.Slot.{Slot}
+use Rattle.table.specs.Table.{crowded, put, sweep, expired}
+use Rattle.table.specs.Gather.{gather}
+use Rattle.settings.specs.Settings.{between, every, circuitOk, circuitsOf, lengthsOk, settingsOk, someOn}
+use Rattle.settings.specs.declared.circuit.Circuit.{Circuit}
+use Rattle.settings.specs.declared.setup.Settings.{Settings}
+use Rattle.settings.proofs.SettingsLaws.{between-true, count-in-range}
+use Rattle.common.specs.Common.{Common, circuitOf, setupCommon, startOf}
+use Rattle.common.specs.Words.{circuitIn}
+use Rattle.common.specs.declared.words.Chosen.{Chosen}
+use Rattle.common.specs.declared.words.Chosen.the-variants.{Known, Unknown}
+use Rattle.model.specs.Gateway.{Room, Gateway, numbered, renew, noRoom, roomOf, newRoom, newGateway, Setup, Declined, Started, setup}
+use Rattle.model.specs.Step.{swept}
+use Rattle.invariants.specs.Invariants.{Each, end, Quiet, roomFor}
+use Rattle.invariants.proofs.QuietLaws.{started-quiet}
+use Rattle.invariants.proofs.RoomLaws.{each-put, each-sweep, Bare, bare-each, bare-gather, empty-bare, places, empty-places, places-put, places-sweep, single-sweep, single-put}
+use Rattle.invariants.proofs.ReactLaws.{Span}
+
+-- ---- a room
+
+-- a circuit's places, and no record where there is no circuit
+pub data Size : Chosen → List Slot → Type 0 where
+  places-of : {s : Circuit} {t : List Slot} → places t ≡ roomFor (s .kind) → Size (Known s) t
+  none-of : {t : List Slot} → Bare t → Size Unknown t
+
+pub record RoomOk (x : Chosen) (clock : ℕ) (t : List Slot) : Type 0 where
+  pub spans : Each (λ s. Span clock (expiryOf s)) t
+  pub single : (k : Key) → length (gather k t) ≤ 1
+  pub size : Size x t
+
+-- no record: any clock
+module _ (t : List Slot) (b : Bare t) where
+  single-bare : (k : Key) → length (gather k t) ≤ 1
+  single-bare k = rw (bare-gather k t b) (omega arith)
+
+  bare-ok : (x : Chosen) (clock : ℕ) → Size x t → RoomOk x clock t
+  bare-ok x clock z = record { spans = bare-each t b; single = single-bare; size = z }
+
+-- a record put
+pub room-put : (s : Circuit) (clock : ℕ) (t : List Slot) (k : Key) (v : State) → RoomOk (Known s) clock t → crowded k t ≡ false
+    → Span clock (expiryOf v) → RoomOk (Known s) clock (put k v t)
+room-put s clock t k v ok free span =
+    record {
+      spans = each-put k v span t (ok .spans);
+      single = λ j. single-put t (ok .single) j k v free;
+      size = by (ok .size);
+    }
+  where
+    by : Size (Known s) t → Size (Known s) (put k v t)
+    by (places-of e) = places-of (places-put k v t ∙ e)
+
+-- a sweep at a clock that may have moved on
+size-sweep : (x : Chosen) (p : State → Bool) (t : List Slot) → Size x t → Size x (sweep p t)
+size-sweep (Known s) p t (places-of e) = places-of (places-sweep p t ∙ e)
+size-sweep Unknown p t (none-of b) = none-of (each-sweep p (λ s e q. q) t b)
+
+pub room-sweep : (x : Chosen) (old clock : ℕ) (p : State → Bool) (t : List Slot)
+    → ((s : State) → p s ≡ false → Span old (expiryOf s) → Span clock (expiryOf s)) → RoomOk x old t → RoomOk x clock (sweep p t)
+room-sweep x old clock p t f ok =
+    record {
+      spans = each-sweep p f t (ok .spans);
+      single = λ k. single-sweep t (ok .single) k p;
+      size = size-sweep x p t (ok .size);
+    }
+
+-- ---- the gateway
+
+pub record Holds (g : Gateway) : Type 0 where
+  pub quiet : Quiet (g .common .timers)
+  pub hold : (n : ℕ) (s : Circuit) → circuitOf (g .common) n ≡ Known s → s .hold ≤ 65535
+  pub rooms : (n : ℕ) → RoomOk (circuitOf (g .common) n) (g .common .clock) (roomOf g n .slots)
+
+-- ---- rooms after a call
+
+-- one room renewed
+set-all : (P : ℕ → Room → Type 0) (l : List Room) (i : ℕ) (v : Room) → ((m : ℕ) → P m (getD l m noRoom)) → P i v
+    → (m : ℕ) → P m (getD (set l i v) m noRoom)
+set-all P [] i v h p m = h m
+set-all P (x ∷ l) zero v h p zero = p
+set-all P (x ∷ l) zero v h p (suc m) = h (suc m)
+set-all P (x ∷ l) (suc i) v h p zero = h zero
+set-all P (x ∷ l) (suc i) v h p (suc m) = set-all (λ k. P (suc k)) l i v (λ k. h (suc k)) p m
+
+pub renew-all : (P : ℕ → Room → Type 0) (l : List Room) (n : ℕ) (v : Room) → ((m : ℕ) → P m (numbered l m noRoom)) → P n v
+    → (m : ℕ) → P m (numbered (renew l n v) m noRoom)
+unfolding numbered renew
+renew-all P l zero v h p m = h m
+renew-all P l (suc i) v h p zero = h zero
+renew-all P l (suc i) v h p (suc m) = set-all (λ k. P (suc k)) l i v (λ k. h (suc k)) p m
+
+-- a room with a place is there
+set-same : (l : List Room) (i : ℕ) (v : Room) → 0 < places (getD l i noRoom .slots) → getD (set l i v) i noRoom ≡ v
+unfolding places
+set-same [] i v h = absurd (omega arith)
+set-same (x ∷ l) zero v h = refl
+set-same (x ∷ l) (suc i) v h = set-same l i v h
+
+pub renew-same : (l : List Room) (n : ℕ) (v : Room) → 0 < places (numbered l n noRoom .slots) → numbered (renew l n v) n noRoom ≡ v
+unfolding numbered renew places
+renew-same l zero v h = absurd (omega arith)
+renew-same l (suc i) v h = set-same l i v h
+
+-- all rooms swept
+swept-getD : (clock : ℕ) (l : List Room) (i : ℕ) → getD (map (swept clock) l) i noRoom ≡ swept clock (getD l i noRoom)
+unfolding sweep
+swept-getD clock [] i = refl
+swept-getD clock (r ∷ l) zero = refl
+swept-getD clock (r ∷ l) (suc i) = swept-getD clock l i
+
+pub swept-at : (clock : ℕ) (l : List Room) (n : ℕ) → numbered (map (swept clock) l) n noRoom ≡ swept clock (numbered l n noRoom)
+unfolding numbered sweep
+swept-at clock l zero = refl
+swept-at clock l (suc i) = swept-getD clock l i
+
+-- ---- setup
+
+and-both : (a b : Bool) → (a && b) ≡ true → (a ≡ true) × (b ≡ true)
+and-both true b e = (refl, e)
+and-both false b e = absurd (true≢false (sym e))
+
+every-at : {A : Type 0} (p : A → Bool) (l : List A) (i : ℕ) (d : A) → every p l ≡ true → i < length l → p (getD l i d) ≡ true
+unfolding every
+every-at p [] i d e lt = absurd (omega arith)
+every-at p (x ∷ l) zero d e lt = and-both (p x) (every p l) e .0
+every-at p (x ∷ l) (suc i) d e lt = every-at p l i d (and-both (p x) (every p l) e .1) (omega arith)
+
+circuit-hold : (c : Circuit) → circuitOk c ≡ true → c .hold ≤ 65535
+unfolding circuitOk
+circuit-hold c e =
+    let a = and-both (someOn (c .levels)) _ e .1 in
+    let b = and-both (between 0 (c .priority) 127) _ a .1 in
+    let d = and-both (between 1 (c .hold) 65535) _ b .0 in
+    between-true 1 (c .hold) 65535 d .1
+
+new-at : (l : List Circuit) (i : ℕ) (d : Circuit) → i < length l → getD (map newRoom l) i noRoom ≡ newRoom (getD l i d)
+new-at [] i d lt = absurd (omega arith)
+new-at (c ∷ l) zero d lt = refl
+new-at (c ∷ l) (suc i) d lt = new-at l i d (omega arith)
+
+new-bare : (l : List Circuit) (i : ℕ) → Bare (getD (map newRoom l) i noRoom .slots)
+new-bare [] i = end
+new-bare (c ∷ l) zero = empty-bare (c .kind)
+new-bare (c ∷ l) (suc i) = new-bare l i
+
+module _ (s : Settings) (ok : settingsOk s ≡ true) where
+  circuits-ok : every circuitOk (circuitsOf s) ≡ true
+  unfolding settingsOk
+  circuits-ok =
+      let a = and-both (between 1 (s .count) 8) _ ok .1 in
+      and-both (every circuitOk (circuitsOf s)) _ a .0
+
+  new-hold : (n : ℕ) (c : Circuit) → circuitOf (setupCommon s) n ≡ Known c → c .hold ≤ 65535
+  unfolding circuitOf setupCommon
+  new-hold zero c e = absurd (let z : _≡_ {A = ℕ} 0 1 = cc in omega arith)
+  new-hold (suc i) c e =
+      by-test (ltb i (length (circuitsOf s)))
+      (λ a.
+      let z : getD (circuitsOf s) i (circuitIn 0 0 0) ≡ c = cc in
+      rw (← z) (circuit-hold (getD (circuitsOf s) i (circuitIn 0 0 0)) (every-at circuitOk (circuitsOf s) i (circuitIn 0 0 0) circuits-ok (ltb-true _ _ a))))
+      (λ a. absurd (let z : _≡_ {A = ℕ} 0 1 = cc in omega arith))
+
+  new-places : (i : ℕ) → i < length (circuitsOf s)
+      → places (getD (map newRoom (s .circuits)) i noRoom .slots) ≡ roomFor (getD (circuitsOf s) i (circuitIn 0 0 0) .kind)
+  new-places i lt =
+      let below : (i < s .count) × (i < length (s .circuits)) = (omega (arith, length-take (s .count) (s .circuits)), omega (arith, length-take (s .count) (s .circuits))) in
+      rw (new-at (s .circuits) i (circuitIn 0 0 0) (below .1), getD-take (s .count) (s .circuits) i (circuitIn 0 0 0) (below .0))
+      (empty-places (getD (s .circuits) i (circuitIn 0 0 0) .kind))
+
+  new-room : (n : ℕ) → RoomOk (circuitOf (setupCommon s) n) (s .clock) (numbered (map newRoom (s .circuits)) n noRoom .slots)
+  unfolding circuitOf setupCommon numbered
+  new-room zero = bare-ok [] end Unknown (s .clock) (none-of end)
+  new-room (suc i) =
+      let b = new-bare (s .circuits) i in
+      by-test (ltb i (length (circuitsOf s)))
+      (λ a. rw a (bare-ok _ b (Known (getD (circuitsOf s) i (circuitIn 0 0 0))) (s .clock) (places-of (new-places i (ltb-true _ _ a)))))
+      (λ a. rw a (bare-ok _ b Unknown (s .clock) (none-of b)))
+
+  pub new-holds : Holds (newGateway s)
+  unfolding newGateway setupCommon
+  new-holds = record { quiet = started-quiet (startOf s); hold = new-hold; rooms = new-room }
+
+pub setup-holds : (s : Settings) (g : Gateway) (hellos : List Bool) → setup s ≡ Started g hellos → Holds g
+unfolding setup
+setup-holds s g hellos e =
+    by-test (settingsOk s) (λ a. let z : newGateway s ≡ g = cc in rw (← z) (new-holds s a))
+    (λ a. absurd (let z : _≡_ {A = ℕ} 0 1 = cc in omega arith))

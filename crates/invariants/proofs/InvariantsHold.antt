@@ -1,0 +1,131 @@
+-- The four invariants follow from what holds of the gateway after any list of calls.
+use Prim.Native.Nat.{ℕ, zero, suc, _+_, _≤_, _<_}
+use native.Mathlib.Omega.{arith}
+use mathlib.Core.Path.{_≡_, refl, sym, ap, _∙_}
+use mathlib.Core.Bool.{Bool, true, false}
+use mathlib.Core.List.{List, [], _∷_, map}
+use lib.ListN.{length}
+use lib.Dec.{ltb}
+use borrow.Author.Tests.{leb-false, le-ltb}
+use Rattle.tlv.proofs.BoolLaws.{by-test}
+use Rattle.restart_tlv.specs.declared.writer.Ack.{Ack}
+use Rattle.hello.specs.Hello.{helloRead}
+use Rattle.hello.specs.declared.header.CircuitKind.{CircuitKind}
+use Rattle.hello.specs.declared.header.CircuitKind.the-variants.{Lan, P2p}
+use Rattle.hello.specs.declared.read.Hello.{Hello}
+use Rattle.hello.specs.declared.read.Read.the-variants.{Accepted}
+use Rattle.adjacency.specs.Record.{expiryOf}
+use Rattle.adjacency.specs.declared.marks.Acknowledgement.the-variants.{Send}
+use Rattle.adjacency.specs.declared.record.State.{State}
+use Rattle.adjacency.specs.declared.record.Key.{Key}
+use Rattle.slots.specs.Slots.{expiredBy}
+use Rattle.slots.specs.declared.slot.Slot.{Slot}
+use Rattle.table.specs.Table.{find, expired}
+use Rattle.timers.specs.declared.outcome.Outcome.{Outcome as Timed}
+use Rattle.settings.specs.declared.circuit.Circuit.{Circuit}
+use Rattle.common.specs.Common.{Common, circuitOf}
+use Rattle.common.specs.declared.words.Chosen.{Chosen}
+use Rattle.common.specs.declared.words.Chosen.the-variants.{Known, Unknown}
+use Rattle.room_calls.specs.Seat.{keyIn}
+use Rattle.model.specs.declared.answers.Orders.{Orders}
+use Rattle.model.specs.Answers.{Received, Ticked}
+use Rattle.model.specs.Gateway.{Room, Gateway, noRoom, numbered, renew, roomOf, recordAt}
+use Rattle.model.specs.Receive.{Acted, receive}
+use Rattle.model.specs.Step.{Call, At, Over, Receive, Tick, Outcome, act, lift, on, noneOf, tickOf, judge, swept, carry, step}
+use Rattle.invariants.specs.Invariants.{after, Octets, Fits, AllFit, none, more, Each, records, roomFor, Tells, TrueTime, TrueReplies, Swept, TickSweeps, Bounded, Quiet, Invariant, Invariants}
+use Rattle.invariants.proofs.RoomLaws.{each-sweep, bare-each, bare-records, places, records-places}
+use Rattle.invariants.proofs.ReactLaws.{Span}
+use Rattle.invariants.proofs.GatewayLaws.{Size, places-of, none-of, RoomOk, Holds, renew-same, swept-at, setup-holds}
+use Rattle.invariants.proofs.ReceiveLaws.{ActOk, ReplyOk, Said, receive-ok, receive-reply}
+use Rattle.invariants.proofs.StepLaws.{step-holds}
+
+-- ---- rooms
+
+known-records : (s : Circuit) (t : List Slot) → Size (Known s) t → records t ≤ roomFor (s .kind)
+known-records s t (places-of e) = omega (arith, records-places t)
+
+unknown-records : (t : List Slot) → Size Unknown t → records t ≡ 0
+unknown-records t (none-of b) = bare-records t b
+
+unknown-each : {P : State → Type 0} (t : List Slot) → Size Unknown t → Each P t
+unknown-each t (none-of b) = bare-each t b
+
+room-for : (kind : CircuitKind) → 0 < roomFor kind
+room-for Lan = omega arith
+room-for P2p = omega arith
+
+known-places : (s : Circuit) (t : List Slot) → Size (Known s) t → 0 < places t
+known-places s t (places-of e) = rw e (room-for (s .kind))
+
+none-length : (l : List Circuit) → noneOf l ≡ true → length l ≡ 0
+unfolding noneOf
+none-length [] e = refl
+none-length (x ∷ l) e = cc
+
+none-known : (c : Common) → noneOf (c .circuits) ≡ true → (n : ℕ) → circuitOf c n ≡ Unknown
+unfolding circuitOf
+none-known c e zero = refl
+none-known c e (suc i) = rw (le-ltb i (length (c .circuits)) (omega (arith, none-length (c .circuits) e))) refl
+
+module _ (g : Gateway) (h : Holds g) where
+  bounded : Bounded g
+  bounded =
+      record {
+        within = λ n s e. known-records s (roomOf g n .slots) (rw e at (h .rooms n .size));
+        past = λ n e. unknown-records (roomOf g n .slots) (rw e at (h .rooms n .size));
+        single = λ n k. h .rooms n .single k;
+      }
+
+  -- ---- ticks
+
+  left-above : (clock n : ℕ) → Each (λ s. clock < expiryOf s) (expired clock (roomOf g n .slots))
+  left-above clock n = each-sweep (expiredBy clock) (λ s e q. leb-false (expiryOf s) clock e) (roomOf g n .slots) (h .rooms n .spans)
+
+  tick-sweeps : TickSweeps g
+  unfolding step judge tickOf carry
+  tick-sweeps =
+      record {
+        sweeps = λ clock marks hellos o e.
+            by-test (noneOf (g .common .circuits))
+            (λ a. rw a (record { above = λ n. unknown-each (roomOf g n .slots) (rw (none-known (g .common) a n) at (h .rooms n .size)) }))
+            (λ a. by-test (ltb clock (g .common .clock))
+            (λ b. absurd (let z : _≡_ {A = ℕ} 0 1 = cc in omega arith))
+            (λ b. rw (a, b) (record { above = λ n. rw (swept-at clock (g .rooms) n) (left-above clock n) })));
+      }
+
+  -- ---- replies
+
+  module _ (n mac : ℕ) (frame buffer : List ℕ) (s : Circuit) (j : Hello) where
+    reply-true : (o : Orders) (ack : Ack) (time : ℕ) → Octets frame
+        → circuitOf (g .common) n ≡ Known s → helloRead (s .kind) (s .mac) frame ≡ Accepted j
+        → step g (At n (Receive mac frame buffer)) .answer ≡ Received o → o .reply ≡ Send ack time
+        → TrueTime (step g (At n (Receive mac frame buffer))) n (keyIn (s .kind) mac j) time
+    unfolding step on lift act recordAt
+    reply-true o ack time f e r a q =
+        let ok : RoomOk (Known s) (g .common .clock) (roomOf g n .slots) = rw e at (h .rooms n) in
+        let done : ActOk (g .common) s (receive n s mac frame buffer (g .common) (roomOf g n)) = receive-ok (g .common) s (roomOf g n) (h .hold n s e) ok n mac buffer frame f in
+        let w = receive-reply (g .common) s (roomOf g n) (h .hold n s e) ok n mac buffer j frame f r .said o ack time (rw e at a) q in
+        rw e
+        (record {
+          octets = w .octets;
+          fits = w .fits;
+          tells =
+              rw (renew-same (g .rooms) n (receive n s mac frame buffer (g .common) (roomOf g n) .room) (known-places s (roomOf g n .slots) (ok .size)), done .common .clock)
+              (w .tells);
+        })
+
+  true-replies : TrueReplies g
+  true-replies = record { time = λ n mac frame buffer s j o ack time. reply-true n mac frame buffer s j o ack time }
+
+  holds-invariant : Invariant g
+  holds-invariant = record { replies = true-replies; ticks = tick-sweeps; rooms = bounded; t1s = h .quiet }
+
+-- ---- any list of calls
+
+after-holds : (g : Gateway) (cs : List Call) → Holds g → AllFit cs → Holds (after g cs)
+unfolding after
+after-holds g [] h none = h
+after-holds g (c ∷ cs) h (more f fs) = after-holds (step g c .next) cs (step-holds g c h f) fs
+
+pub invariants : Invariants
+invariants s g hellos e cs fs = holds-invariant (after g cs) (after-holds g cs (setup-holds s g hellos e) fs)

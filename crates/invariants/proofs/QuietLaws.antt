@@ -1,0 +1,81 @@
+-- In the mode Running no T1 runs: setup starts none there, and no call's step on the timers starts one.
+use Prim.Native.Nat.{ℕ}
+use mathlib.Core.Path.{_≡_, refl, sym, _∙_}
+use mathlib.Core.Bool.{true, false}
+use mathlib.Core.List.{List, [], _∷_, map}
+use Rattle.tlv.proofs.BoolLaws.{by-test}
+use Rattle.hello.specs.declared.levels.Levels.{Levels}
+use Rattle.timer_parts.specs.Mask.{bitsOf}
+use Rattle.timer_parts.specs.T1.{stopT1}
+use Rattle.timer_parts.specs.T2.{anyT2}
+use Rattle.timer_parts.specs.T3.{expiresT3}
+use Rattle.timer_parts.specs.declared.heard.Heard.{Heard}
+use Rattle.timer_parts.specs.declared.t1.Lengths.{Lengths}
+use Rattle.timer_parts.specs.declared.t1.T1.{T1}
+use Rattle.timers.specs.Timers.{Timers, withT1s, withT2s, withT3, anyRuns, atT1, tickT1s, expireT2s, cancelT2s, tickT3, over, finish, closed, settled, toT3, heardIn, csnpIn, noticeT2s}
+use Rattle.timers.specs.Calls.{startHead, startT1, startHellos, started}
+use Rattle.timers.specs.declared.calls.Start.{Start}
+use Rattle.timers.specs.declared.head.Mode.{Mode}
+use Rattle.timers.specs.declared.head.Mode.the-variants.{Running, Restarting}
+use Rattle.timers.proofs.TimersLaws.{settled-running, in-restarting}
+use Rattle.invariants.specs.Invariants.{Quiet}
+
+stopped : (l : List T1) → anyRuns (map stopT1 l) ≡ false
+unfolding anyRuns stopT1
+stopped [] = refl
+stopped (t ∷ ts) = stopped ts
+
+-- setup
+started-by : (s : Start) (m : Mode) → s .mode ≡ m → started s .mode ≡ Running → anyRuns (started s .t1s) ≡ false
+unfolding started startHead startHellos startT1 anyRuns bitsOf
+started-by s Running p e = rw p refl
+started-by s Restarting p e = let h : _≡_ {A = Mode} Restarting Running = rw p at e in cc
+
+pub started-quiet : (s : Start) → Quiet (started s)
+started-quiet s = record { none = started-by s (s .mode) refl }
+
+-- ---- the end of every call
+
+over-quiet : (t : Timers) → Quiet (over t)
+unfolding over
+over-quiet t = record { none = λ e. stopped (t .t1s) }
+
+finish-quiet : (t : Timers) → t .mode ≡ Restarting → Quiet (finish t)
+unfolding finish
+finish-quiet t m =
+    by-test (anyT2 (t .t2s)) (λ a. rw a (record { none = λ e. cc })) (λ a. rw a (over-quiet t))
+
+module _ (f : Timers → Timers) (t : Timers) (keeps : f t .mode ≡ t .mode) where
+  closed-quiet : t .mode ≡ Restarting → Quiet (closed f t)
+  unfolding closed cancelT2s withT2s
+  closed-quiet m = finish-quiet (cancelT2s (f t)) (keeps ∙ m)
+
+  by-mode : (m : Mode) → t .mode ≡ m → Quiet t → Quiet (settled f t)
+  unfolding settled
+  by-mode Running e q = rw (settled-running t e f .0) q
+  by-mode Restarting e q = rw (← in-restarting t (closed f t) e) (closed-quiet e)
+
+  pub settled-quiet : Quiet t → Quiet (settled f t)
+  settled-quiet q = by-mode (t .mode) refl q
+
+-- ---- each call's own step keeps the mode
+
+tickT3-mode : (clock : ℕ) (t : Timers) → tickT3 clock t .mode ≡ t .mode
+unfolding tickT3 withT1s withT3
+tickT3-mode clock t = by-test (expiresT3 clock (t .t2s) (t .t3)) (λ e. rw e refl) (λ e. rw e refl)
+
+pub toT3-mode : (s : Lengths) (clock : ℕ) (t : Timers) → toT3 s clock t .mode ≡ t .mode
+unfolding toT3 cancelT2s expireT2s tickT1s withT1s withT2s
+toT3-mode s clock t = tickT3-mode clock (cancelT2s (expireT2s clock (tickT1s s clock t)))
+
+pub heardIn-mode : (clock i : ℕ) (l : Levels) (d : Heard) (t : Timers) → heardIn clock i l d t .mode ≡ t .mode
+unfolding heardIn atT1 withT1s withT3
+heardIn-mode clock i l d t = refl
+
+pub csnpIn-mode : (i : ℕ) (l n : Levels) (t : Timers) → csnpIn i l n t .mode ≡ t .mode
+unfolding csnpIn atT1 withT1s
+csnpIn-mode i l n t = refl
+
+pub noticeT2s-mode : (n : Levels) (t : Timers) → noticeT2s n t .mode ≡ t .mode
+unfolding noticeT2s withT2s
+noticeT2s-mode n t = refl

@@ -1,0 +1,206 @@
+-- Receive, by its stages: the timers stay quiet, the room stays in order, and a reply tells the time to the expiry of the record that stands
+-- afterwards.
+use Prim.Native.Nat.{ℕ, _+_, _-_, _≤_}
+use native.Mathlib.Omega.{arith}
+use mathlib.Core.Path.{_≡_, refl, sym, ap, _∙_}
+use mathlib.Core.Bool.{Bool, true, false}
+use mathlib.Core.List.{List, [], _∷_, _++_, append-assoc}
+use lib.ListN.{length, drop}
+use lib.Dec.{ltb}
+use Rattle.tlv.specs.Octets.{big, octetsOf}
+use Rattle.tlv.proofs.BoolLaws.{by-test}
+use Rattle.tlv.proofs.OctetsLaws.{big-octetsOf}
+use Rattle.restart_tlv.specs.Restart.{ackFlag, restartOctets}
+use Rattle.restart_tlv.specs.declared.writer.Ack.{Ack}
+use Rattle.hello.specs.Hello.{helloRead}
+use Rattle.hello.specs.declared.read.Hello.{Hello}
+use Rattle.hello.specs.declared.read.Read.{Read}
+use Rattle.hello.specs.declared.read.Read.the-variants.{Refused as Unread, Accepted as ReadAs}
+use Rattle.hello.specs.declared.refusal.Refusal.{Refusal}
+use Rattle.adjacency.specs.Record.{expiryOf}
+use Rattle.adjacency.specs.Step.{wrongSource}
+use Rattle.adjacency.specs.React.{timeIn, timesOf, reactOf}
+use Rattle.adjacency.specs.declared.marks.Acknowledgement.{Acknowledgement}
+use Rattle.adjacency.specs.declared.marks.Acknowledgement.the-variants.{Nothing, Send}
+use Rattle.adjacency.specs.declared.marks.Line.{Line}
+use Rattle.adjacency.specs.declared.react.Reaction.{Reaction}
+use Rattle.adjacency.specs.declared.react.Reaction.the-variants.{Refused as DeclinedBy, Accepted}
+use Rattle.adjacency.specs.declared.record.Adjacency.{Adjacency}
+use Rattle.adjacency.specs.declared.record.Adjacency.the-variants.{Absent, Present}
+use Rattle.adjacency.specs.declared.record.Key.{Key}
+use Rattle.adjacency.specs.declared.record.State.{State}
+use Rattle.slots.specs.declared.slot.Slot.{Slot}
+use Rattle.table.specs.Table.{find, put, crowded}
+use Rattle.table.proofs.TableLaws.{find-put-same}
+use Rattle.timers.specs.Timers.{Timers, settled, heardIn}
+use Rattle.settings.specs.declared.circuit.Circuit.{Circuit}
+use Rattle.common.specs.Common.{Common, withTimers}
+use Rattle.common.specs.declared.words.Chosen.the-variants.{Known}
+use Rattle.room_calls.specs.Seat.{keyIn, ifRoom, decided, kept, written}
+use Rattle.model.specs.declared.answers.Orders.{Orders}
+use Rattle.model.specs.Answers.{Answer, Received}
+use Rattle.model.specs.Gateway.{Room}
+use Rattle.model.specs.Receive.{Acted, refuse, hereOf, saidOf, accepted, settle, seated, checked, readIn, receive}
+use Rattle.invariants.specs.Invariants.{Each, Quiet, Tells, Octets}
+use Rattle.invariants.proofs.QuietLaws.{settled-quiet, heardIn-mode}
+use Rattle.invariants.proofs.RoomLaws.{each-find}
+use Rattle.invariants.proofs.ReactLaws.{Span, SpanIn, Short, Replies, Fair, refused as unfair, accepted as fair, react-fair}
+use Rattle.invariants.proofs.HelloBounds.{Brief, refused as unread, accepted as brief, brief-read}
+use Rattle.invariants.proofs.GatewayLaws.{RoomOk, room-put}
+
+-- ---- what a call on a circuit leaves
+
+-- the circuits and the clock stay, and no T1 starts
+pub record Keeps (c d : Common) : Type 0 where
+  pub circuits : d .circuits ≡ c .circuits
+  pub clock : d .clock ≡ c .clock
+  pub quiet : Quiet (c .timers) → Quiet (d .timers)
+
+pub keeps-same : (c : Common) → Keeps c c
+keeps-same c = record { circuits = refl; clock = refl; quiet = λ q. q }
+
+pub keeps-settled : (c : Common) (f : Timers → Timers) → f (c .timers) .mode ≡ c .timers .mode → Keeps c (withTimers (settled f (c .timers)) c)
+keeps-settled c f e = record { circuits = refl; clock = refl; quiet = λ q. settled-quiet f (c .timers) e q }
+
+pub record ActOk (c : Common) (s : Circuit) (a : Acted) : Type 0 where
+  pub common : Keeps c (a .common)
+  pub room : RoomOk (Known s) (c .clock) (a .room .slots)
+
+-- a reply's Remaining Time, of the record with the key k afterwards
+pub record Said (clock : ℕ) (k : Key) (a : Acted) (time : ℕ) : Type 0 where
+  pub octets : big 2 (a .reply) 3 ≡ time
+  pub fits : time ≤ 65535
+  pub tells : Tells (find k (a .room .slots)) clock time
+
+pub record ReplyOk (clock : ℕ) (k : Key) (a : Acted) : Type 0 where
+  pub said : (o : Orders) (ack : Ack) (time : ℕ) → a .answer ≡ Received o → o .reply ≡ Send ack time → Said clock k a time
+
+-- the reply's octets 4 and 5
+written-time : (system : ℕ) (ack : Ack) (time : ℕ) (b : List ℕ) → time ≤ 65535 → big 2 (written system (Send ack time) b) 3 ≡ time
+unfolding written restartOctets
+written-time system ack time b h =
+    rw (append-assoc (octetsOf 2 time) (octetsOf 6 system) (drop 11 b))
+    (big-octetsOf 2 time (omega arith) (211 ∷ 9 ∷ ackFlag ack ∷ []) (octetsOf 6 system ++ drop 11 b))
+
+-- refusals 8 and 9 are given, or the frame's effect fits the room
+data Sound (clock : ℕ) (k : Key) (t : List Slot) : Reaction → Type 0 where
+  refused : {x : Refusal} → Sound clock k t (DeclinedBy x)
+  sound : {after : Adjacency} {reply : Acknowledgement} {line : Line} → crowded k t ≡ false → SpanIn clock after → Replies clock after reply
+      → (after ≡ Absent → find k t ≡ Absent) → Sound clock k t (Accepted after reply line)
+
+room-sound : (clock : ℕ) (k : Key) (t : List Slot) (a : Reaction) → Fair clock (find k t) a → Sound clock k t (ifRoom (crowded k t) a)
+unfolding ifRoom
+room-sound clock k t (DeclinedBy x) unfair = refused
+room-sound clock k t (Accepted after reply line) (fair span told gone) =
+    by-test (crowded k t) (λ e. rw e refused) (λ e. rw e (sound e span told gone))
+
+module _ (c : Common) (s : Circuit) (r : Room) (hold : s .hold ≤ 65535) (ok : RoomOk (Known s) (c .clock) (r .slots)) where
+  -- ---- the record that stands before
+
+  found-span : (k : Key) (a : Adjacency) → find k (r .slots) ≡ a → SpanIn (c .clock) a
+  found-span k Absent e = tt
+  found-span k (Present v) e = each-find k v (r .slots) (ok .spans) e
+
+  decided-sound : (k : Key) (h : Hello) → h .hold ≤ 65535 → timeIn (h .restart) ≤ 65535
+      → Sound (c .clock) k (r .slots) (decided (hereOf c s) k h (r .slots))
+  unfolding decided
+  decided-sound k h p q =
+      room-sound (c .clock) k (r .slots) (reactOf (hereOf c s) h (find k (r .slots)))
+      (react-fair (hereOf c s) h (find k (r .slots)) (record { hold = p; configured = hold; remaining = q }) (found-span k (find k (r .slots)) refl))
+
+  -- ---- the stages
+
+  pub refuse-ok : (b : List ℕ) (x : Refusal) → ActOk c s (refuse b x c r)
+  unfolding refuse
+  refuse-ok b x = record { common = keeps-same c; room = ok }
+
+  kept-ok : (k : Key) (after : Adjacency) → crowded k (r .slots) ≡ false → SpanIn (c .clock) after
+      → RoomOk (Known s) (c .clock) (kept k after (r .slots))
+  unfolding kept
+  kept-ok k Absent free span = ok
+  kept-ok k (Present v) free span = room-put s (c .clock) (r .slots) k v ok free span
+
+  module _ (n : ℕ) (h : Hello) (k : Key) (b : List ℕ) where
+    accepted-ok : (after : Adjacency) (reply : Acknowledgement) (line : Line) → crowded k (r .slots) ≡ false → SpanIn (c .clock) after
+        → ActOk c s (accepted n s h k b after reply line c r)
+    unfolding accepted
+    accepted-ok after reply line free span =
+        record {
+          common = keeps-settled c (heardIn (c .clock) (n - 1) (s .levels) (saidOf c s h)) (heardIn-mode (c .clock) (n - 1) (s .levels) (saidOf c s h) (c .timers));
+          room = kept-ok k after free span;
+        }
+
+    settle-ok : (a : Reaction) → Sound (c .clock) k (r .slots) a → ActOk c s (settle n s h k b a c r)
+    unfolding settle
+    settle-ok (DeclinedBy x) refused = refuse-ok b x
+    settle-ok (Accepted after reply line) (sound free span told gone) = accepted-ok after reply line free span
+
+  module _ (n mac : ℕ) (b : List ℕ) where
+    checked-ok : (h : Hello) → h .hold ≤ 65535 → timeIn (h .restart) ≤ 65535 → ActOk c s (checked n s mac b h c r)
+    unfolding checked seated
+    checked-ok h p q =
+        let k = keyIn (s .kind) mac h in
+        by-test (wrongSource (s .levels) (c .system) h) (λ e. rw e (refuse-ok b _))
+        (λ e. rw e (settle-ok n h k b (decided (hereOf c s) k h (r .slots)) (decided-sound k h p q)))
+
+    read-ok : (x : Read) → Brief x → ActOk c s (readIn n s mac b x c r)
+    unfolding readIn
+    read-ok (Unread x) unread = refuse-ok b x
+    read-ok (ReadAs h) (brief p q) = checked-ok h p q
+
+    pub receive-ok : (frame : List ℕ) → Octets frame → ActOk c s (receive n s mac frame b c r)
+    unfolding receive
+    receive-ok frame f =
+        by-test (ltb (length b) 11) (λ e. rw e (refuse-ok b _))
+        (λ e. rw e (read-ok (helloRead (s .kind) (s .mac) frame) (brief-read (s .mac) (s .kind) frame f)))
+
+  -- ---- the reply
+
+  refuse-reply : (k : Key) (b : List ℕ) (x : Refusal) → ReplyOk (c .clock) k (refuse b x c r)
+  unfolding refuse
+  refuse-reply k b x = record { said = λ o ack time e f. absurd (let z : _≡_ {A = ℕ} 0 1 = cc in omega arith) }
+
+  -- what is found is what was put; where none was, none stood
+  kept-found : (k : Key) (after : Adjacency) → crowded k (r .slots) ≡ false → (after ≡ Absent → find k (r .slots) ≡ Absent)
+      → find k (kept k after (r .slots)) ≡ after
+  unfolding kept
+  kept-found k Absent free gone = gone refl
+  kept-found k (Present v) free gone = find-put-same k v (r .slots) free
+
+  module _ (n : ℕ) (h : Hello) (k : Key) (b : List ℕ) where
+    accepted-reply : (after : Adjacency) (reply : Acknowledgement) (line : Line) → Replies (c .clock) after reply
+        → find k (kept k after (r .slots)) ≡ after → ReplyOk (c .clock) k (accepted n s h k b after reply line c r)
+    unfolding accepted
+    accepted-reply after reply line told found =
+        record {
+          said = λ o ack time e f.
+              let w : reply ≡ Send ack time = cc in
+              let z : Replies (c .clock) after (Send ack time) = rw w at told in
+              record { octets = rw w (written-time (h .system) ack time b (z .0)); fits = z .0; tells = rw found (z .1) };
+        }
+
+    settle-reply : (a : Reaction) → Sound (c .clock) k (r .slots) a → ReplyOk (c .clock) k (settle n s h k b a c r)
+    unfolding settle
+    settle-reply (DeclinedBy x) refused = refuse-reply k b x
+    settle-reply (Accepted after reply line) (sound free span told gone) =
+        accepted-reply after reply line told (kept-found k after free gone)
+
+  module _ (n mac : ℕ) (b : List ℕ) where
+    checked-reply : (h : Hello) → h .hold ≤ 65535 → timeIn (h .restart) ≤ 65535 → ReplyOk (c .clock) (keyIn (s .kind) mac h) (checked n s mac b h c r)
+    unfolding checked seated
+    checked-reply h p q =
+        let k = keyIn (s .kind) mac h in
+        by-test (wrongSource (s .levels) (c .system) h) (λ e. rw e (refuse-reply k b _))
+        (λ e. rw e (settle-reply n h k b (decided (hereOf c s) k h (r .slots)) (decided-sound k h p q)))
+
+    read-reply : (h : Hello) (x : Read) → x ≡ ReadAs h → Brief x → ReplyOk (c .clock) (keyIn (s .kind) mac h) (readIn n s mac b x c r)
+    unfolding readIn
+    read-reply h (Unread x) e unread = absurd (let z : _≡_ {A = ℕ} 0 1 = cc in omega arith)
+    read-reply h (ReadAs j) e (brief p q) = let z : j ≡ h = cc in rw (← z) (checked-reply j p q)
+
+    pub receive-reply : (h : Hello) (frame : List ℕ) → Octets frame → helloRead (s .kind) (s .mac) frame ≡ ReadAs h
+        → ReplyOk (c .clock) (keyIn (s .kind) mac h) (receive n s mac frame b c r)
+    unfolding receive
+    receive-reply h frame f j =
+        by-test (ltb (length b) 11) (λ e. rw e (refuse-reply (keyIn (s .kind) mac h) b _))
+        (λ e. rw e (read-reply h (helloRead (s .kind) (s .mac) frame) j (brief-read (s .mac) (s .kind) frame f)))

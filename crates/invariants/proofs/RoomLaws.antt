@@ -1,0 +1,177 @@
+-- What a record put into a room and a sweep of a room keep: a property of each record, the number of places, and one record to a key.
+use Prim.Native.Nat.{ℕ, zero, suc, _+_, _≤_, _<_}
+use native.Mathlib.Omega.{arith}
+use mathlib.Core.Path.{_≡_, refl, sym, ap, _∙_}
+use mathlib.Core.Bool.{Bool, true, false, cond}
+use mathlib.Core.List.{List, [], _∷_}
+use lib.ListN.{length}
+use lib.Dec.{eqb}
+use Rattle.tlv.proofs.BoolLaws.{by-test}
+use Rattle.hello.specs.declared.header.CircuitKind.{CircuitKind}
+use Rattle.hello.specs.declared.header.CircuitKind.the-variants.{Lan, P2p}
+use Rattle.adjacency.specs.declared.record.Adjacency.the-variants.{Absent, Present}
+use Rattle.adjacency.specs.declared.record.State.{State}
+use Rattle.adjacency.specs.declared.record.Key.{Key}
+use Rattle.slots.specs.Slots.{sameKey, tabulate, isHeld}
+use Rattle.slots.specs.declared.slot.Slot.{Slot}
+use Rattle.slots.specs.declared.slot.Slot.the-variants.{Free, Held, Closed}
+use Rattle.table.specs.Table.{find, has, crowded, replace, insert, put, sweep, emptyPlace, emptyRoom}
+use Rattle.table.specs.Gather.{gather, rest, keep}
+use Rattle.table.proofs.TableLaws.{sameKey-eq, gather-sweep, gather-put-same, gather-put-other}
+use Rattle.invariants.specs.Invariants.{Each, end, free, held, closed, records, roomFor}
+
+-- ---- a property of each record
+
+module _ {P : State → Type 0} (k : Key) (v : State) (p : P v) where
+  each-replace : (t : List Slot) → Each P t → Each P (replace k v t)
+  unfolding replace
+  each-replace [] end = end
+  each-replace (Free ∷ t) (free e) = free (each-replace t e)
+  each-replace (Held r ∷ t) (held q e) =
+      let z = each-replace t e in
+      by-test (sameKey k (r .key)) (λ a. rw a (held p e)) (λ a. rw a (held q z))
+  each-replace (Closed ∷ t) (closed e) = closed (each-replace t e)
+
+  each-insert : (t : List Slot) → Each P t → Each P (insert k v t)
+  unfolding insert
+  each-insert [] end = end
+  each-insert (Free ∷ t) (free e) = held p e
+  each-insert (Held r ∷ t) (held q e) = held q (each-insert t e)
+  each-insert (Closed ∷ t) (closed e) = closed (each-insert t e)
+
+  pub each-put : (t : List Slot) → Each P t → Each P (put k v t)
+  unfolding put
+  each-put t e = by-test (has k t) (λ a. rw a (each-replace t e)) (λ a. rw a (each-insert t e))
+
+-- of those that a sweep leaves its test is false
+pub each-sweep : {P Q : State → Type 0} (p : State → Bool) → ((s : State) → p s ≡ false → P s → Q s) → (t : List Slot) → Each P t
+    → Each Q (sweep p t)
+unfolding sweep
+each-sweep p f [] end = end
+each-sweep p f (Free ∷ t) (free e) = free (each-sweep p f t e)
+each-sweep p f (Held r ∷ t) (held q e) =
+    let z = each-sweep p f t e in
+    by-test (p (r .state)) (λ a. rw a (free z)) (λ a. rw a (held (f (r .state) a q) z))
+each-sweep p f (Closed ∷ t) (closed e) = closed (each-sweep p f t e)
+
+pub each-map : {P Q : State → Type 0} → ((s : State) → P s → Q s) → (t : List Slot) → Each P t → Each Q t
+each-map f [] end = end
+each-map f (Free ∷ t) (free e) = free (each-map f t e)
+each-map f (Held r ∷ t) (held q e) = held (f (r .state) q) (each-map f t e)
+each-map f (Closed ∷ t) (closed e) = closed (each-map f t e)
+
+pub each-find : {P : State → Type 0} (k : Key) (s : State) (t : List Slot) → Each P t → find k t ≡ Present s → P s
+unfolding find
+each-find k s [] end e = absurd (let z : _≡_ {A = ℕ} 0 1 = cc in omega arith)
+each-find k s (Free ∷ t) (free h) e = each-find k s t h e
+each-find {P} k s (Held r ∷ t) (held q h) e =
+    by-test (sameKey k (r .key)) (λ a. let z : r .state ≡ s = cc in rw (← z) q) (λ a. each-find k s t h (rw a at e))
+each-find k s (Closed ∷ t) (closed h) e = each-find k s t h e
+
+-- ---- no record
+
+abbrev pub Bare : List Slot → Type 0
+Bare t = Each (λ s. ⊥) t
+
+pub bare-each : {P : State → Type 0} (t : List Slot) → Bare t → Each P t
+bare-each t e = each-map (λ s x. absurd x) t e
+
+pub bare-records : (t : List Slot) → Bare t → records t ≡ 0
+unfolding records
+bare-records [] end = refl
+bare-records (Free ∷ t) (free e) = bare-records t e
+bare-records (Held r ∷ t) (held q e) = absurd q
+bare-records (Closed ∷ t) (closed e) = bare-records t e
+
+pub bare-gather : (k : Key) (t : List Slot) → Bare t → gather k t ≡ []
+unfolding gather
+bare-gather k [] end = refl
+bare-gather k (Free ∷ t) (free e) = bare-gather k t e
+bare-gather k (Held r ∷ t) (held q e) = absurd q
+bare-gather k (Closed ∷ t) (closed e) = bare-gather k t e
+
+bare-tabulate : (f : ℕ → Slot) → ((i : ℕ) → isHeld (f i) ≡ false) → (n : ℕ) → Bare (tabulate f n)
+bare-tabulate f h zero = end
+bare-tabulate f h (suc n) = by (f zero) (h zero) (bare-tabulate (λ i. f (suc i)) (λ i. h (suc i)) n)
+  where
+    by : (s : Slot) → isHeld s ≡ false → {t : List Slot} → Bare t → Bare (s ∷ t)
+    by Free e b = free b
+    by (Held r) e b = absurd (let z : _≡_ {A = ℕ} 0 1 = cc in omega arith)
+    by Closed e b = closed b
+
+place-bare : (kind : CircuitKind) (i : ℕ) → isHeld (emptyPlace kind i) ≡ false
+place-bare Lan i = refl
+place-bare P2p i = by-test (eqb i 0) (λ a. rw a refl) (λ a. rw a refl)
+
+pub empty-bare : (kind : CircuitKind) → Bare (emptyRoom kind)
+unfolding emptyRoom
+empty-bare kind = bare-tabulate (emptyPlace kind) (place-bare kind) 16
+
+-- ---- the places that are not closed
+
+unfoldable pub places : List Slot → ℕ
+places [] = 0
+places (Free ∷ t) = suc (places t)
+places (Held r ∷ t) = suc (places t)
+places (Closed ∷ t) = places t
+
+pub records-places : (t : List Slot) → records t ≤ places t
+unfolding records places
+records-places [] = omega arith
+records-places (Free ∷ t) = omega (arith, records-places t)
+records-places (Held r ∷ t) = omega (arith, records-places t)
+records-places (Closed ∷ t) = records-places t
+
+pub empty-places : (kind : CircuitKind) → places (emptyRoom kind) ≡ roomFor kind
+unfolding emptyRoom places
+empty-places Lan = refl
+empty-places P2p = refl
+
+module _ (k : Key) (v : State) where
+  places-replace : (t : List Slot) → places (replace k v t) ≡ places t
+  unfolding places replace
+  places-replace [] = refl
+  places-replace (Free ∷ t) = ap suc (places-replace t)
+  places-replace (Held r ∷ t) = let z = places-replace t in by-test (sameKey k (r .key)) (λ a. cc) (λ a. cc)
+  places-replace (Closed ∷ t) = places-replace t
+
+  places-insert : (t : List Slot) → places (insert k v t) ≡ places t
+  unfolding places insert
+  places-insert [] = refl
+  places-insert (Free ∷ t) = refl
+  places-insert (Held r ∷ t) = ap suc (places-insert t)
+  places-insert (Closed ∷ t) = places-insert t
+
+  pub places-put : (t : List Slot) → places (put k v t) ≡ places t
+  unfolding put
+  places-put t = by-test (has k t) (λ a. rw a (places-replace t)) (λ a. rw a (places-insert t))
+
+pub places-sweep : (p : State → Bool) (t : List Slot) → places (sweep p t) ≡ places t
+unfolding places sweep
+places-sweep p [] = refl
+places-sweep p (Free ∷ t) = ap suc (places-sweep p t)
+places-sweep p (Held r ∷ t) = let z = places-sweep p t in by-test (p (r .state)) (λ a. cc) (λ a. cc)
+places-sweep p (Closed ∷ t) = places-sweep p t
+
+-- ---- one record to a key
+
+length-keep : (p : State → Bool) (l : List State) → length (keep p l) ≤ length l
+unfolding keep
+length-keep p [] = omega arith
+length-keep p (s ∷ l) =
+    let z = length-keep p l in by-test (p s) (λ a. rw a (omega arith)) (λ a. rw a (omega arith))
+
+length-rest : (v : State) (l : List State) → length l ≤ 1 → length (v ∷ rest l) ≤ 1
+unfolding rest
+length-rest v [] h = omega arith
+length-rest v (s ∷ l) h = h
+
+module _ (t : List Slot) (h : (k : Key) → length (gather k t) ≤ 1) (k : Key) where
+  pub single-sweep : (p : State → Bool) → length (gather k (sweep p t)) ≤ 1
+  single-sweep p = rw (gather-sweep p k t) (omega (arith, length-keep p (gather k t), h k))
+
+  pub single-put : (j : Key) (v : State) → crowded j t ≡ false → length (gather k (put j v t)) ≤ 1
+  single-put j v c =
+      by-test (sameKey k j)
+      (λ a. let e : k ≡ j = sameKey-eq k j a in rw (e, gather-put-same j v t c) (length-rest v (gather j t) (h j)))
+      (λ a. rw (gather-put-other k j v t a) (h k))
