@@ -1,30 +1,29 @@
 -- What holds of every gateway from setup on, told room by room; that setup gives it; and how rooms are found after a call.
-use Prim.Native.Nat.{ℕ, zero, suc, _+_, _≤_, _<_, min}
+use Prim.Native.Nat.{ℕ, zero, suc, _≤_, _<_}
 use native.Mathlib.Omega.{arith}
-use mathlib.Core.Path.{_≡_, refl, sym, ap, _∙_}
+use mathlib.Core.Path.{_≡_, refl, sym, _∙_}
 use mathlib.Core.Bool.{Bool, true, false, true≢false, _&&_}
 use mathlib.Core.List.{List, [], _∷_, map}
-use lib.ListN.{length, getD, set, take, length-take}
+use lib.ListN.{length, getD, set, length-take}
 use lib.Seq.{getD-take}
 use lib.Dec.{ltb}
-use borrow.Author.Tests.{ltb-true, leb-true}
+use borrow.Author.Tests.{ltb-true}
 use Rattle.tlv.proofs.BoolLaws.{by-test}
 use Rattle.adjacency.specs.Record.{expiryOf}
 use Rattle.adjacency.specs.declared.record.Key.{Key}
 use Rattle.adjacency.specs.declared.record.State.{State}
-use Rattle.slots.specs.Slots.{expiredBy}
 use Rattle.slots.specs.declared.slot.Slot.{Slot}
-use Rattle.table.specs.Table.{crowded, put, sweep, expired}
+use Rattle.table.specs.Table.{crowded, put, sweep}
 use Rattle.table.specs.Gather.{gather}
-use Rattle.settings.specs.Settings.{between, every, circuitOk, circuitsOf, lengthsOk, settingsOk, someOn}
+use Rattle.settings.specs.Settings.{between, every, circuitOk, circuitsOf, settingsOk, someOn}
 use Rattle.settings.specs.declared.circuit.Circuit.{Circuit}
 use Rattle.settings.specs.declared.setup.Settings.{Settings}
-use Rattle.settings.proofs.SettingsLaws.{between-true, count-in-range}
-use Rattle.common.specs.Common.{Common, circuitOf, setupCommon, startOf}
+use Rattle.settings.proofs.SettingsLaws.{between-true}
+use Rattle.common.specs.Common.{circuitOf, setupCommon, startOf}
 use Rattle.common.specs.Words.{circuitIn}
 use Rattle.common.specs.declared.words.Chosen.{Chosen}
 use Rattle.common.specs.declared.words.Chosen.the-variants.{Known, Unknown}
-use Rattle.model.specs.Gateway.{Room, Gateway, numbered, renew, noRoom, roomOf, newRoom, newGateway, Setup, Declined, Started, setup}
+use Rattle.model.specs.Gateway.{Room, Gateway, numbered, renew, noRoom, roomOf, newRoom, newGateway, Started, setup}
 use Rattle.model.specs.Step.{swept}
 use Rattle.invariants.specs.Invariants.{Each, end, Quiet, roomFor}
 use Rattle.invariants.proofs.QuietLaws.{started-quiet}

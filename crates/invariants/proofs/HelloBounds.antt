@@ -1,15 +1,13 @@
 -- What a read hello brings is at most two octets long: its Holding Time, and the Remaining Time of its Restart TLV.
-use Prim.Native.Nat.{ℕ, zero, suc, _+_, _≤_, _<_, _^_}
+use Prim.Native.Nat.{ℕ, zero, suc, _+_, _≤_}
 use native.Mathlib.Omega.{arith}
-use mathlib.Core.Path.{_≡_, refl, sym}
-use mathlib.Core.Bool.{Bool, true, false}
 use mathlib.Core.List.{List, [], _∷_}
-use lib.ListN.{length, getD, take, drop, List·getD-eq-default, length-take}
+use lib.ListN.{length, take, drop, List·getD-eq-default, length-take}
 use lib.Seq.{getD-take, getD-drop}
 use lib.Dec.{leb, ltb, eqb}
 use borrow.Author.Tests.{ltb-true, ltb-false}
 use Rattle.tlv.specs.Octets.{octet, big}
-use Rattle.tlv.specs.Tlv.{Tlv, Tlvs, tlvsUp, tlvs, ofType, valueAt, nextAt, unless, cutAt}
+use Rattle.tlv.specs.Tlv.{Tlv, tlvsUp, tlvs, ofType, valueAt, nextAt, unless, cutAt}
 use Rattle.tlv.specs.declared.tlvs.Found.{Found}
 use Rattle.tlv.specs.declared.tlvs.Found.the-variants.{At, Nothing}
 use Rattle.tlv.proofs.BoolLaws.{by-test}
@@ -17,7 +15,7 @@ use Rattle.tlv.proofs.OctetsLaws.{big-lt}
 use Rattle.restart_tlv.specs.Flags.{counted, invalid, needsTime}
 use Rattle.restart_tlv.specs.Restart.{timeOf, restartWith, restartIn}
 use Rattle.hello.specs.Header.{layoutOf, headerOf, notHello, badLength, pduLength}
-use Rattle.hello.specs.Hello.{ofKind, ruleFault, helloOf, tlvsRead, pduRead, layoutRead, helloRead}
+use Rattle.hello.specs.Hello.{ofKind, ruleFault, tlvsRead, pduRead, layoutRead, helloRead}
 use Rattle.hello.specs.declared.header.CircuitKind.{CircuitKind}
 use Rattle.hello.specs.declared.header.Layout.{Layout}
 use Rattle.hello.specs.declared.header.Selected.{Selected}

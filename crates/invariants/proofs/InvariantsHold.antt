@@ -1,9 +1,9 @@
 -- The four invariants follow from what holds of the gateway after any list of calls.
-use Prim.Native.Nat.{ℕ, zero, suc, _+_, _≤_, _<_}
+use Prim.Native.Nat.{ℕ, zero, suc, _≤_, _<_}
 use native.Mathlib.Omega.{arith}
-use mathlib.Core.Path.{_≡_, refl, sym, ap, _∙_}
-use mathlib.Core.Bool.{Bool, true, false}
-use mathlib.Core.List.{List, [], _∷_, map}
+use mathlib.Core.Path.{_≡_, refl}
+use mathlib.Core.Bool.{Bool, true}
+use mathlib.Core.List.{List, [], _∷_}
 use lib.ListN.{length}
 use lib.Dec.{ltb}
 use borrow.Author.Tests.{leb-false, le-ltb}
@@ -17,26 +17,23 @@ use Rattle.hello.specs.declared.read.Read.the-variants.{Accepted}
 use Rattle.adjacency.specs.Record.{expiryOf}
 use Rattle.adjacency.specs.declared.marks.Acknowledgement.the-variants.{Send}
 use Rattle.adjacency.specs.declared.record.State.{State}
-use Rattle.adjacency.specs.declared.record.Key.{Key}
 use Rattle.slots.specs.Slots.{expiredBy}
 use Rattle.slots.specs.declared.slot.Slot.{Slot}
-use Rattle.table.specs.Table.{find, expired}
+use Rattle.table.specs.Table.{expired}
 use Rattle.timers.specs.declared.outcome.Outcome.{Outcome as Timed}
 use Rattle.settings.specs.declared.circuit.Circuit.{Circuit}
 use Rattle.common.specs.Common.{Common, circuitOf}
-use Rattle.common.specs.declared.words.Chosen.{Chosen}
 use Rattle.common.specs.declared.words.Chosen.the-variants.{Known, Unknown}
 use Rattle.room_calls.specs.Seat.{keyIn}
 use Rattle.model.specs.declared.answers.Orders.{Orders}
 use Rattle.model.specs.Answers.{Received, Ticked}
-use Rattle.model.specs.Gateway.{Room, Gateway, noRoom, numbered, renew, roomOf, recordAt}
-use Rattle.model.specs.Receive.{Acted, receive}
-use Rattle.model.specs.Step.{Call, At, Over, Receive, Tick, Outcome, act, lift, on, noneOf, tickOf, judge, swept, carry, step}
-use Rattle.invariants.specs.Invariants.{after, Octets, Fits, AllFit, none, more, Each, records, roomFor, Tells, TrueTime, TrueReplies, Swept, TickSweeps, Bounded, Quiet, Invariant, Invariants}
+use Rattle.model.specs.Gateway.{Gateway, roomOf, recordAt}
+use Rattle.model.specs.Receive.{receive}
+use Rattle.model.specs.Step.{Call, At, Over, Receive, Tick, act, lift, on, noneOf, tickOf, judge, carry, step}
+use Rattle.invariants.specs.Invariants.{after, Octets, AllFit, none, more, Each, records, roomFor, TrueTime, TrueReplies, Swept, TickSweeps, Bounded, Invariant, Invariants}
 use Rattle.invariants.proofs.RoomLaws.{each-sweep, bare-each, bare-records, places, records-places}
-use Rattle.invariants.proofs.ReactLaws.{Span}
 use Rattle.invariants.proofs.GatewayLaws.{Size, places-of, none-of, RoomOk, Holds, renew-same, swept-at, setup-holds}
-use Rattle.invariants.proofs.ReceiveLaws.{ActOk, ReplyOk, Said, receive-ok, receive-reply}
+use Rattle.invariants.proofs.ReceiveLaws.{ActOk, receive-ok, receive-reply}
 use Rattle.invariants.proofs.StepLaws.{step-holds}
 
 -- ---- rooms
@@ -81,17 +78,18 @@ module _ (g : Gateway) (h : Holds g) where
   left-above : (clock n : ℕ) → Each (λ s. clock < expiryOf s) (expired clock (roomOf g n .slots))
   left-above clock n = each-sweep (expiredBy clock) (λ s e q. leb-false (expiryOf s) clock e) (roomOf g n .slots) (h .rooms n .spans)
 
-  tick-sweeps : TickSweeps g
+  tick-above : (clock : ℕ) (marks hellos : List Bool) (o : Timed) → step g (Over (Tick clock)) .answer ≡ Ticked marks hellos o
+      → Swept (step g (Over (Tick clock)) .next)
   unfolding step judge tickOf carry
-  tick-sweeps =
-      record {
-        sweeps = λ clock marks hellos o e.
-            by-test (noneOf (g .common .circuits))
-            (λ a. rw a (record { above = λ n. unknown-each (roomOf g n .slots) (rw (none-known (g .common) a n) at (h .rooms n .size)) }))
-            (λ a. by-test (ltb clock (g .common .clock))
-            (λ b. absurd (let z : _≡_ {A = ℕ} 0 1 = cc in omega arith))
-            (λ b. rw (a, b) (record { above = λ n. rw (swept-at clock (g .rooms) n) (left-above clock n) })));
-      }
+  tick-above clock marks hellos o e =
+      by-test (noneOf (g .common .circuits))
+      (λ a. rw a (record { above = λ n. unknown-each (roomOf g n .slots) (rw (none-known (g .common) a n) at (h .rooms n .size)) }))
+      (λ a. by-test (ltb clock (g .common .clock))
+      (λ b. absurd (let z : _≡_ {A = ℕ} 0 1 = cc in omega arith))
+      (λ b. rw (a, b) (record { above = λ n. rw (swept-at clock (g .rooms) n) (left-above clock n) })))
+
+  tick-sweeps : TickSweeps g
+  tick-sweeps = record { sweeps = tick-above }
 
   -- ---- replies
 

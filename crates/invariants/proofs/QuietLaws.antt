@@ -1,7 +1,7 @@
 -- In the mode Running no T1 runs: setup starts none there, and no call's step on the timers starts one.
 use Prim.Native.Nat.{ℕ}
-use mathlib.Core.Path.{_≡_, refl, sym, _∙_}
-use mathlib.Core.Bool.{true, false}
+use mathlib.Core.Path.{_≡_, refl, _∙_}
+use mathlib.Core.Bool.{false}
 use mathlib.Core.List.{List, [], _∷_, map}
 use Rattle.tlv.proofs.BoolLaws.{by-test}
 use Rattle.hello.specs.declared.levels.Levels.{Levels}

@@ -2,7 +2,6 @@
 use Prim.Native.Nat.{ℕ, _+_, _-_, _≤_}
 use native.Mathlib.Omega.{arith}
 use mathlib.Core.Path.{_≡_, refl}
-use mathlib.Core.Bool.{Bool, true, false}
 use Rattle.tlv.proofs.BoolLaws.{by-test}
 use Rattle.hello.specs.declared.read.Hello.{Hello}
 use Rattle.hello.specs.declared.read.Link.{Link}
@@ -11,9 +10,9 @@ use Rattle.hello.specs.declared.refusal.Refusal.{Refusal}
 use Rattle.hello.specs.declared.three_way.State.{State as Said}
 use Rattle.hello.specs.declared.three_way.State.the-variants.{Up as SaidUp, Initializing, Down}
 use Rattle.adjacency.specs.Record.{phaseOf, markOf, expiryOf}
-use Rattle.adjacency.specs.Step.{wrongNeighbor, wrongCircuit, lanStep, p2pStep, asInit, linkStep, keptUp, stepOf}
+use Rattle.adjacency.specs.Step.{wrongNeighbor, wrongCircuit, p2pStep, asInit, linkStep, keptUp, stepOf}
 use Rattle.adjacency.specs.Marks.{expiryBy, markBy, replyBy}
-use Rattle.adjacency.specs.React.{timeIn, timesOf, stateAs, dataBy, remainingIn, acceptedBy, lineIn, reactOf}
+use Rattle.adjacency.specs.React.{timesOf, stateAs, dataBy, remainingIn, acceptedBy, lineIn, reactOf}
 use Rattle.adjacency.specs.declared.marks.Acknowledgement.{Acknowledgement}
 use Rattle.adjacency.specs.declared.marks.Acknowledgement.the-variants.{Nothing, Send}
 use Rattle.adjacency.specs.declared.marks.Line.{Line}
@@ -28,7 +27,6 @@ use Rattle.adjacency.specs.declared.record.Mark.{Mark}
 use Rattle.adjacency.specs.declared.record.Mark.the-variants.{Clear, Restart, Planned}
 use Rattle.adjacency.specs.declared.record.Phase.{Phase}
 use Rattle.adjacency.specs.declared.record.Phase.the-variants.{Gone, Init as InitPhase, Up as UpPhase}
-use Rattle.adjacency.specs.declared.record.State.{State}
 use Rattle.adjacency.specs.declared.record.State.the-variants.{Init, Up}
 use Rattle.adjacency.specs.declared.step.Here.{Here}
 use Rattle.invariants.specs.Invariants.{Tells}

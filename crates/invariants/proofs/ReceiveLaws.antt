@@ -2,8 +2,8 @@
 -- afterwards.
 use Prim.Native.Nat.{ℕ, _+_, _-_, _≤_}
 use native.Mathlib.Omega.{arith}
-use mathlib.Core.Path.{_≡_, refl, sym, ap, _∙_}
-use mathlib.Core.Bool.{Bool, true, false}
+use mathlib.Core.Path.{_≡_, refl}
+use mathlib.Core.Bool.{false}
 use mathlib.Core.List.{List, [], _∷_, _++_, append-assoc}
 use lib.ListN.{length, drop}
 use lib.Dec.{ltb}
@@ -17,20 +17,18 @@ use Rattle.hello.specs.declared.read.Hello.{Hello}
 use Rattle.hello.specs.declared.read.Read.{Read}
 use Rattle.hello.specs.declared.read.Read.the-variants.{Refused as Unread, Accepted as ReadAs}
 use Rattle.hello.specs.declared.refusal.Refusal.{Refusal}
-use Rattle.adjacency.specs.Record.{expiryOf}
 use Rattle.adjacency.specs.Step.{wrongSource}
-use Rattle.adjacency.specs.React.{timeIn, timesOf, reactOf}
+use Rattle.adjacency.specs.React.{timeIn, reactOf}
 use Rattle.adjacency.specs.declared.marks.Acknowledgement.{Acknowledgement}
-use Rattle.adjacency.specs.declared.marks.Acknowledgement.the-variants.{Nothing, Send}
+use Rattle.adjacency.specs.declared.marks.Acknowledgement.the-variants.{Send}
 use Rattle.adjacency.specs.declared.marks.Line.{Line}
 use Rattle.adjacency.specs.declared.react.Reaction.{Reaction}
 use Rattle.adjacency.specs.declared.react.Reaction.the-variants.{Refused as DeclinedBy, Accepted}
 use Rattle.adjacency.specs.declared.record.Adjacency.{Adjacency}
 use Rattle.adjacency.specs.declared.record.Adjacency.the-variants.{Absent, Present}
 use Rattle.adjacency.specs.declared.record.Key.{Key}
-use Rattle.adjacency.specs.declared.record.State.{State}
 use Rattle.slots.specs.declared.slot.Slot.{Slot}
-use Rattle.table.specs.Table.{find, put, crowded}
+use Rattle.table.specs.Table.{find, crowded}
 use Rattle.table.proofs.TableLaws.{find-put-same}
 use Rattle.timers.specs.Timers.{Timers, settled, heardIn}
 use Rattle.settings.specs.declared.circuit.Circuit.{Circuit}
@@ -38,13 +36,13 @@ use Rattle.common.specs.Common.{Common, withTimers}
 use Rattle.common.specs.declared.words.Chosen.the-variants.{Known}
 use Rattle.room_calls.specs.Seat.{keyIn, ifRoom, decided, kept, written}
 use Rattle.model.specs.declared.answers.Orders.{Orders}
-use Rattle.model.specs.Answers.{Answer, Received}
+use Rattle.model.specs.Answers.{Received}
 use Rattle.model.specs.Gateway.{Room}
 use Rattle.model.specs.Receive.{Acted, refuse, hereOf, saidOf, accepted, settle, seated, checked, readIn, receive}
-use Rattle.invariants.specs.Invariants.{Each, Quiet, Tells, Octets}
+use Rattle.invariants.specs.Invariants.{Quiet, Tells, Octets}
 use Rattle.invariants.proofs.QuietLaws.{settled-quiet, heardIn-mode}
 use Rattle.invariants.proofs.RoomLaws.{each-find}
-use Rattle.invariants.proofs.ReactLaws.{Span, SpanIn, Short, Replies, Fair, refused as unfair, accepted as fair, react-fair}
+use Rattle.invariants.proofs.ReactLaws.{SpanIn, Replies, Fair, refused as unfair, accepted as fair, react-fair}
 use Rattle.invariants.proofs.HelloBounds.{Brief, refused as unread, accepted as brief, brief-read}
 use Rattle.invariants.proofs.GatewayLaws.{RoomOk, room-put}
 

@@ -1,15 +1,15 @@
 -- What a record put into a room and a sweep of a room keep: a property of each record, the number of places, and one record to a key.
-use Prim.Native.Nat.{ℕ, zero, suc, _+_, _≤_, _<_}
+use Prim.Native.Nat.{ℕ, zero, suc, _≤_}
 use native.Mathlib.Omega.{arith}
-use mathlib.Core.Path.{_≡_, refl, sym, ap, _∙_}
-use mathlib.Core.Bool.{Bool, true, false, cond}
+use mathlib.Core.Path.{_≡_, refl, ap}
+use mathlib.Core.Bool.{Bool, false}
 use mathlib.Core.List.{List, [], _∷_}
 use lib.ListN.{length}
 use lib.Dec.{eqb}
 use Rattle.tlv.proofs.BoolLaws.{by-test}
 use Rattle.hello.specs.declared.header.CircuitKind.{CircuitKind}
 use Rattle.hello.specs.declared.header.CircuitKind.the-variants.{Lan, P2p}
-use Rattle.adjacency.specs.declared.record.Adjacency.the-variants.{Absent, Present}
+use Rattle.adjacency.specs.declared.record.Adjacency.the-variants.{Present}
 use Rattle.adjacency.specs.declared.record.State.{State}
 use Rattle.adjacency.specs.declared.record.Key.{Key}
 use Rattle.slots.specs.Slots.{sameKey, tabulate, isHeld}

@@ -1,35 +1,35 @@
 -- Every call keeps what holds of a gateway: the calls on a circuit by what they do to the common part and to their room, the others by what
 -- they come to.
-use Prim.Native.Nat.{ℕ, zero, suc, _+_, _-_, _≤_, _<_}
+use Prim.Native.Nat.{ℕ, zero, suc, _-_, _≤_}
 use native.Mathlib.Omega.{arith}
 use mathlib.Core.Path.{_≡_, refl, sym, ap, _∙_}
-use mathlib.Core.Bool.{Bool, true, false}
-use mathlib.Core.List.{List, [], _∷_, map}
-use lib.ListN.{length}
+use mathlib.Core.Bool.{Bool, false}
+use mathlib.Core.List.{List, []}
 use lib.Dec.{ltb}
-use borrow.Author.Tests.{ltb-false, leb-false, le-ltb}
+use borrow.Author.Tests.{ltb-false, leb-false}
 use Rattle.tlv.proofs.BoolLaws.{by-test}
 use Rattle.hello.specs.declared.refusal.Refusal.{Refusal}
 use Rattle.adjacency.specs.Duty.{onlyLevel}
 use Rattle.adjacency.specs.Record.{expiryOf}
 use Rattle.adjacency.specs.Step.{hasLevel}
+use Rattle.adjacency.specs.declared.record.Key.{Key}
 use Rattle.adjacency.specs.declared.record.State.{State}
 use Rattle.slots.specs.Slots.{plannedState, expiredBy}
-use Rattle.timers.specs.Timers.{Timers, inMode, settled, ticked, toT3, csnpIn, noticeT2s}
+use Rattle.timers.specs.Timers.{inMode, toT3, csnpIn, noticeT2s}
 use Rattle.timers.specs.declared.head.Mode.{Mode}
 use Rattle.timers.specs.declared.head.Mode.the-variants.{Running, Restarting}
 use Rattle.timers.specs.declared.outcome.Outcome.{Outcome as Timed}
 use Rattle.settings.specs.Settings.{enabledLevels}
 use Rattle.settings.specs.declared.circuit.Circuit.{Circuit}
-use Rattle.common.specs.Common.{Common, withClock, withTimers, circuitOf}
+use Rattle.common.specs.Common.{Common, withClock, circuitOf}
 use Rattle.common.specs.declared.words.Chosen.{Chosen}
 use Rattle.common.specs.declared.words.Chosen.the-variants.{Known, Unknown}
-use Rattle.model.specs.Answers.{Answer, Told}
+use Rattle.model.specs.Answers.{Answer}
 use Rattle.model.specs.Gateway.{Room, Gateway, noRoom, numbered, renew, roomOf}
 use Rattle.model.specs.Receive.{Acted}
-use Rattle.model.specs.Step.{Local, Receive, Release, CsnpComplete, LookUp, LinkMetric, NextHello, Global, Tick, DatabaseComplete, Waiting, Call, At, Over, asksLevel, csnpComplete, lookUp, linkMetricOf, nextHello, act, lift, on, Judged, Decline, Sweep, Tell, noneOf, tickOf, databaseOf, judge, swept, carry, step}
-use Rattle.invariants.specs.Invariants.{Quiet, Octets, Fits}
-use Rattle.invariants.proofs.QuietLaws.{settled-quiet, toT3-mode, csnpIn-mode, noticeT2s-mode}
+use Rattle.model.specs.Step.{Local, Receive, Release, CsnpComplete, LookUp, LinkMetric, NextHello, Global, Tick, DatabaseComplete, Waiting, Call, At, Over, asksLevel, csnpComplete, lookUp, linkMetricOf, nextHello, act, lift, on, Judged, Decline, Sweep, Tell, noneOf, tickOf, databaseOf, judge, carry, step}
+use Rattle.invariants.specs.Invariants.{Octets, Fits}
+use Rattle.invariants.proofs.QuietLaws.{toT3-mode, csnpIn-mode, noticeT2s-mode}
 use Rattle.invariants.proofs.ReactLaws.{Span}
 use Rattle.invariants.proofs.GatewayLaws.{RoomOk, room-sweep, Holds, renew-all, swept-at}
 use Rattle.invariants.proofs.ReceiveLaws.{Keeps, keeps-same, keeps-settled, ActOk, refuse-ok, receive-ok}
@@ -51,7 +51,7 @@ module _ (n : ℕ) (c : Common) (s : Circuit) (r : Room) (hold : s .hold ≤ 655
       (record { common = keeps-settled c f (csnpIn-mode (n - 1) (s .levels) (onlyLevel level) (c .timers)); room = ok })))
       (λ e. rw e (refuse-ok c s r hold ok [] _))
 
-  look-ok : (k : Rattle.adjacency.specs.declared.record.Key.Key) → ActOk c s (lookUp s k c r)
+  look-ok : (k : Key) → ActOk c s (lookUp s k c r)
   unfolding lookUp
   look-ok k =
       by-test (asksLevel (s .kind) (s .levels) (k .level)) (λ e. rw e (record { common = keeps-same c; room = ok }))

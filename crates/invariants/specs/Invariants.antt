@@ -45,6 +45,7 @@ after g (c ∷ cs) = after (step g c .next) cs
 abbrev pub Octets : List ℕ → Type 0
 Octets s = (i : ℕ) → octet s i < 256
 
+-- .. of a call that lends one, and of every call of a list
 pub record Fits (c : Call) : Type 0 where
   pub frame : (n mac : ℕ) (frame buffer : List ℕ) → c ≡ At n (Receive mac frame buffer) → Octets frame
 
@@ -70,7 +71,7 @@ records (Closed ∷ t) = records t
 
 -- ---- document 01, "Marks and holding time": "The reply is 11 octets: .. Remaining Time = expiry less clock (0 if no record stands)"
 
--- the time from the clock to the expiry of the record, if one stands
+-- the time from the clock to the expiry of the record; 0 if none stands
 abbrev pub Tells : Adjacency → ℕ → ℕ → Type 0
 Tells Absent clock time = time ≡ 0
 Tells (Present s) clock time = expiryOf s ≡ clock + time
