@@ -3,3 +3,4 @@ pub mod Beside
 pub mod Near
 pub mod Isolation
 pub mod SampleRuns
+pub mod RefusalLaws

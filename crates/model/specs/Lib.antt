@@ -2,5 +2,6 @@ pub mod Answers
 pub mod Gateway
 pub mod Receive
 pub mod Step
+pub mod Refusals
 pub mod Claim
 pub mod SampleRuns

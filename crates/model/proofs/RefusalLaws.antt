@@ -1,0 +1,146 @@
+-- Demand 1, proved of the step: stage by stage, an answer that is a refusal comes with all as it was.
+use Prim.Native.Nat.{ℕ}
+use native.Mathlib.Omega.{arith}
+use mathlib.Core.Path.{_≡_, refl, ap, sym, _∙_}
+use mathlib.Core.Bool.{Bool, true, false, cond}
+use mathlib.Core.List.{List, []}
+use lib.ListN.{length}
+use lib.Dec.{ltb}
+use Rattle.tlv.proofs.BoolLaws.{by-test}
+use Rattle.hello.specs.Hello.{helloRead}
+use Rattle.hello.specs.declared.read.Hello.{Hello}
+use Rattle.hello.specs.declared.read.Read.{Read}
+use Rattle.hello.specs.declared.read.Read.the-variants.{Refused as Unread, Accepted as ReadAs}
+use Rattle.hello.specs.declared.refusal.Refusal.{Refusal}
+use Rattle.hello.specs.declared.refusal.Refusal.the-variants.{ReplyRoom, WrongSource, NoCircuit, ClockBack, NotRestarting}
+use Rattle.adjacency.specs.Step.{wrongSource, hasLevel}
+use Rattle.adjacency.specs.declared.react.Reaction.{Reaction}
+use Rattle.adjacency.specs.declared.react.Reaction.the-variants.{Refused as Declined, Accepted}
+use Rattle.adjacency.specs.declared.record.Key.{Key}
+use Rattle.timers.specs.Timers.{inMode}
+use Rattle.timers.specs.declared.outcome.Outcome.{Outcome as Timed}
+use Rattle.timers.specs.declared.head.Mode.{Mode}
+use Rattle.timers.specs.declared.head.Mode.the-variants.{Running, Restarting}
+use Rattle.settings.specs.Settings.{enabledLevels}
+use Rattle.settings.specs.declared.circuit.Circuit.{Circuit}
+use Rattle.common.specs.Common.{Common, circuitOf}
+use Rattle.common.specs.declared.words.Chosen.{Chosen}
+use Rattle.common.specs.declared.words.Chosen.the-variants.{Known, Unknown}
+use Rattle.room_calls.specs.Seat.{keyIn, decided}
+use Rattle.model.specs.Answers.{Refused, Told, Fact}
+use Rattle.model.specs.Gateway.{Gateway, Room, withRooms, renew, noRoom, roomOf}
+use Rattle.model.specs.Receive.{Acted, refuse, hereOf, accepted, settle, seated, checked, readIn, receive}
+use Rattle.model.specs.Step.{Outcome, Local, Receive, Release, CsnpComplete, LookUp, LinkMetric, NextHello, Global, Tick, DatabaseComplete, Waiting, Call, At, Over, told, asksLevel, csnpComplete, lookUp, linkMetricOf, nextHello, act, lent, lift, on, Judged, Decline, Sweep, Tell, noneOf, quiet, tickOf, databaseOf, judge, carry, step}
+use Rattle.model.specs.Refusals.{lentBy, RefusalsKeep}
+use Rattle.model.proofs.Lists.{renew-numbered}
+
+-- ---- calls on a circuit
+
+-- all is as it was: the common part c, the room r, the lent buffer b
+pub record Left (b : List ℕ) (c : Common) (r : Room) (a : Acted) : Type 0 where
+  pub common : a .common ≡ c
+  pub room : a .room ≡ r
+  pub reply : a .reply ≡ b
+
+module _ (b : List ℕ) (c : Common) (r : Room) where
+  abbrev Keeps : Acted → Type 0
+  Keeps a = (x : Refusal) → a .answer ≡ Refused x → Left b c r a
+
+  refuse-keeps : (x : Refusal) → Keeps (refuse b x c r)
+  unfolding refuse
+  refuse-keeps x y e = record { common = refl; room = refl; reply = refl }
+
+  cond-keeps : (t : Bool) (p q : Acted) → Keeps p → Keeps q → Keeps (cond t p q)
+  cond-keeps true p q f g = f
+  cond-keeps false p q f g = g
+
+  mode-keeps : (m : Mode) (p q : Acted) → Keeps p → Keeps q → Keeps (inMode m p q)
+  mode-keeps Running p q f g = f
+  mode-keeps Restarting p q f g = g
+
+  settle-keeps : (n : ℕ) (s : Circuit) (h : Hello) (k : Key) (d : Reaction) → Keeps (settle n s h k b d c r)
+  unfolding settle accepted
+  settle-keeps n s h k (Declined x) = refuse-keeps x
+  settle-keeps n s h k (Accepted after reply line) = λ x e. absurd (let z : _≡_ {A = ℕ} 0 1 = cc in omega arith)
+
+  read-keeps : (n : ℕ) (s : Circuit) (mac : ℕ) (d : Read) → Keeps (readIn n s mac b d c r)
+  unfolding readIn checked seated
+  read-keeps n s mac (Unread x) = refuse-keeps x
+  read-keeps n s mac (ReadAs h) =
+      cond-keeps (wrongSource (s .levels) (c .system) h) (refuse b WrongSource c r) (seated n s mac b h c r) (refuse-keeps WrongSource)
+      (settle-keeps n s h (keyIn (s .kind) mac h) (decided (hereOf c s) (keyIn (s .kind) mac h) h (r .slots)))
+
+  receive-keeps : (n : ℕ) (s : Circuit) (mac : ℕ) (frame : List ℕ) → Keeps (receive n s mac frame b c r)
+  unfolding receive
+  receive-keeps n s mac frame =
+      by-test (ltb (length b) 11) (λ t. rw t (refuse-keeps ReplyRoom)) (λ t. rw t (read-keeps n s mac (helloRead (s .kind) (s .mac) frame)))
+
+told-keeps : (b : List ℕ) (c d : Common) (r q : Room) (f : Fact) → Keeps b c r (told f d q)
+told-keeps b c d r q f x e = absurd (let z : _≡_ {A = ℕ} 0 1 = cc in omega arith)
+
+act-keeps : (n : ℕ) (s : Circuit) (l : Local) (c : Common) (r : Room) → Keeps (lent l) c r (act n s l c r)
+unfolding act csnpComplete lookUp linkMetricOf nextHello
+act-keeps n s (Receive mac frame b) c r = receive-keeps b c r n s mac frame
+act-keeps n s Release c r = told-keeps [] c _ r _ _
+act-keeps n s (CsnpComplete level) c r =
+    cond-keeps [] c r (hasLevel (s .levels) level) _ _ (mode-keeps [] c r (c .timers .mode) _ _ (refuse-keeps [] c r NotRestarting) (told-keeps [] c _ r _ _))
+    (refuse-keeps [] c r NoCircuit)
+act-keeps n s (LookUp k) c r =
+    cond-keeps [] c r (asksLevel (s .kind) (s .levels) (k .level)) _ _ (told-keeps [] c _ r _ _) (refuse-keeps [] c r NoCircuit)
+act-keeps n s LinkMetric c r = told-keeps [] c _ r _ _
+act-keeps n s NextHello c r = told-keeps [] c _ r _ _
+
+-- ---- every call
+
+abbrev Stays : Gateway → List ℕ → Outcome → Type 0
+Stays g b o = (x : Refusal) → o .answer ≡ Refused x → (o .next ≡ g) × (o .reply ≡ b)
+
+on-stays : (g : Gateway) (n : ℕ) (l : Local) (q : Chosen) → Stays g (lent l) (on g n l q)
+unfolding on lift
+on-stays g n l Unknown = λ x e. (refl, refl)
+on-stays g n l (Known s) = λ x e.
+    let k = act-keeps n s l (g .common) (roomOf g n) x e in
+    let room = ap (renew (g .rooms) n) (k .room) ∙ renew-numbered (g .rooms) n noRoom in
+    (ap (λ (c : Common). record { common = c; rooms = renew (g .rooms) n (act n s l (g .common) (roomOf g n) .room) }) (k .common) ∙ ap (withRooms g) room, k .reply)
+
+module _ (g : Gateway) where
+  abbrev Carried : Judged → Type 0
+  Carried d = Stays g [] (carry g d)
+
+  cond-carried : (t : Bool) (p q : Judged) → Carried p → Carried q → Carried (cond t p q)
+  cond-carried true p q f h = f
+  cond-carried false p q f h = h
+
+  mode-carried : (m : Mode) (p q : Judged) → Carried p → Carried q → Carried (inMode m p q)
+  mode-carried Running p q f h = f
+  mode-carried Restarting p q f h = h
+
+  declined : (x : Refusal) → Carried (Decline x)
+  unfolding carry
+  declined x = λ y e. (refl, refl)
+
+  swept-carried : (clock : ℕ) (c : Common) (hellos : List Bool) (o : Timed) → Carried (Sweep clock c hellos o)
+  unfolding carry
+  swept-carried clock c hellos o = λ y e. absurd (let z : _≡_ {A = ℕ} 0 1 = cc in omega arith)
+
+  told-carried : (c : Common) (f : Fact) → Carried (Tell c (Told f))
+  unfolding carry
+  told-carried c f = λ y e. absurd (let z : _≡_ {A = ℕ} 0 1 = cc in omega arith)
+
+  quiet-carried : (c : Common) → Carried (Tell c quiet)
+  unfolding carry
+  quiet-carried c = λ y e. absurd (let z : _≡_ {A = ℕ} 0 1 = cc in omega arith)
+
+  judged : (c : Common) (w : Global) → Carried (judge c w)
+  unfolding judge tickOf databaseOf
+  judged c (Tick clock) =
+      cond-carried (noneOf (c .circuits)) _ _ (quiet-carried c)
+      (cond-carried (ltb clock (c .clock)) _ _ (declined ClockBack) (swept-carried clock _ _ _))
+  judged c (DatabaseComplete level) =
+      cond-carried (hasLevel (enabledLevels (c .circuits)) level) _ _ (mode-carried (c .timers .mode) _ _ (declined NotRestarting) (told-carried _ _)) (declined NoCircuit)
+  judged c Waiting = told-carried c _
+
+pub refusals-keep : RefusalsKeep
+unfolding step
+refusals-keep g (At n l) x e = on-stays g n l (circuitOf (g .common) n) x e
+refusals-keep g (Over w) x e = judged g (g .common) w x e
