@@ -1,30 +1,39 @@
--- Document 01, "Sample runs", C1 to C7, evaluated.
+-- Document 01, "Sample runs", C1 to C10, evaluated.
 use mathlib.Core.Path.{refl}
 use lib.Count.{ones}
 use Rattle.tlv.specs.Octets.{big, hasBits, octetsOf}
 use Rattle.tlv.specs.Tlv.{tlvs, tlvsUp, cutAt, ofType, loneFault, unless}
 use Rattle.restart_tlv.specs.Flags.{counted, without, invalid, needsNeighbor, needsTime}
-use Rattle.restart_tlv.specs.Restart.{leastLength, restartBad, restartWith, timeOf, restartOctets}
+use Rattle.restart_tlv.specs.Restart.{leastLength, restartBad, restartWith, timeOf, neighborOf, restartOctets}
 use Rattle.hello.specs.Header.{layoutOf, notHello, badLength}
 use Rattle.hello.specs.ThreeWay.{threeWayBad, threeWayLength, stateOf, identifiersOf}
+use Rattle.hello.specs.Reverse.{reverseBad, reverseOf}
 use Rattle.hello.specs.Hello.{linkFault, earlier, ruleFault, tlvsRead, pduRead, layoutRead, helloRead}
 use Rattle.adjacency.specs.Step.{wrongSource, wrongId, wrongNeighbor, linkStep, keptUp, stepOf}
 use Rattle.adjacency.specs.Marks.{planned, lineOf}
 use Rattle.adjacency.specs.React.{dataBy, acceptedBy, lineIn, reactOf}
 use Rattle.adjacency.specs.Duty.{csnpsOf}
 use Rattle.slots.specs.Slots.{sameKey}
-use Rattle.table.specs.Table.{find, has, full, crowded, replace, insert, put, sweep, emptyRoom}
-use Rattle.timers.specs.Timers.{settled}
-use Rattle.timers.specs.Outcome.{ordered, heardFreed}
-use Rattle.timers.specs.Calls.{startHead, started}
-use Rattle.settings.specs.Settings.{every, circuitOk, lengthsOk, settingsOk}
+use Rattle.table.specs.Table.{find, has, full, crowded, replace, insert, put, sweep, firstState, emptyRoom}
+use Rattle.metric.specs.Metric.{heldTo}
+use Rattle.timer_parts.specs.Mask.{bitsOf}
+use Rattle.timer_parts.specs.Levels.{within}
+use Rattle.timer_parts.specs.Heard.{acknowledges, heardTlv, heardOf}
+use Rattle.timer_parts.specs.T1.{startEntry, due, helloDue, tickT1, done, satisfied, acknowledged, heardT1, freedBy}
+use Rattle.timer_parts.specs.T2.{startTimer, startT2s, anyT2, anyAfter, cancelT2, cancelBoth, expireT2, expireBoth, spfDue}
+use Rattle.timer_parts.specs.T3.{lowerT3, heardT3, expiresT3, expiredT3}
+use Rattle.timers.specs.Timers.{withT1s, withT2s, withT3, anyRuns, noT1, atT1, tickT1s, expireT2s, waits, cancelT2s, tickT3, finish, closed, settled, toT3, heardIn}
+use Rattle.timers.specs.Outcome.{overloadOf, overloadDue, outcomeWith, outcomeOf, ordered, heardFreed}
+use Rattle.timers.specs.Calls.{startHead, startT1, startHellos, started}
+use Rattle.settings.specs.Settings.{every, some, circuitOk, lengthsOk, settingsOk, enabledLevels}
 use Rattle.common.specs.Common.{circuitOf, setupCommon}
 use Rattle.room_calls.specs.Seat.{keyOn, ifRoom, decided, kept, written, csnpsIn}
 use Rattle.model.specs.Gateway.{numbered, renew, recordAt, newGateway, setup}
-use Rattle.model.specs.Receive.{accepted, settle, seated, checked, readIn, receive}
-use Rattle.model.specs.Step.{act, lift, on, noneOf, tickOf, judge, carry, step}
-use Rattle.model.specs.SampleRuns.{played, playedFrom, C1toC6, C7}
+use Rattle.model.specs.Receive.{refuse, accepted, settle, seated, checked, readIn, receive}
+use Rattle.model.specs.Step.{linkMetricOf, act, lift, on, noneOf, tickOf, judge, carry, step}
+use Rattle.model.specs.SampleFrames.{taken, played, run}
+use Rattle.model.specs.SampleRuns.{SampleRuns}
 
-pub c1-to-c7 : C1toC6 × C7
-unfolding ones big hasBits octetsOf tlvs tlvsUp cutAt ofType loneFault unless counted without invalid needsNeighbor needsTime leastLength restartBad restartWith timeOf restartOctets layoutOf notHello badLength threeWayBad threeWayLength stateOf identifiersOf linkFault earlier ruleFault tlvsRead pduRead layoutRead helloRead wrongSource wrongId wrongNeighbor linkStep keptUp stepOf planned lineOf dataBy acceptedBy lineIn reactOf csnpsOf sameKey find has full crowded replace insert put sweep emptyRoom settled ordered heardFreed startHead started every circuitOk lengthsOk settingsOk circuitOf setupCommon keyOn ifRoom decided kept written csnpsIn numbered renew recordAt newGateway setup accepted settle seated checked readIn receive act lift on noneOf tickOf judge carry step played playedFrom
-c1-to-c7 = (refl, refl)
+pub sample-runs : SampleRuns
+unfolding ones big hasBits octetsOf tlvs tlvsUp cutAt ofType loneFault unless counted without invalid needsNeighbor needsTime leastLength restartBad restartWith timeOf neighborOf restartOctets layoutOf notHello badLength threeWayBad threeWayLength stateOf identifiersOf reverseBad reverseOf linkFault earlier ruleFault tlvsRead pduRead layoutRead helloRead wrongSource wrongId wrongNeighbor linkStep keptUp stepOf planned lineOf dataBy acceptedBy lineIn reactOf csnpsOf sameKey find has full crowded replace insert put sweep firstState emptyRoom heldTo bitsOf within acknowledges heardTlv heardOf startEntry due helloDue tickT1 done satisfied acknowledged heardT1 freedBy startTimer startT2s anyT2 anyAfter cancelT2 cancelBoth expireT2 expireBoth spfDue lowerT3 heardT3 expiresT3 expiredT3 withT1s withT2s withT3 anyRuns noT1 atT1 tickT1s expireT2s waits cancelT2s tickT3 finish closed settled toT3 heardIn overloadOf overloadDue outcomeWith outcomeOf ordered heardFreed startHead startT1 startHellos started every some circuitOk lengthsOk settingsOk enabledLevels circuitOf setupCommon keyOn ifRoom decided kept written csnpsIn numbered renew recordAt newGateway setup refuse accepted settle seated checked readIn receive linkMetricOf act lift on noneOf tickOf judge carry step taken played run
+sample-runs = (refl, refl, (refl, refl), refl, (refl, refl, refl))

@@ -4,4 +4,5 @@ pub mod Receive
 pub mod Step
 pub mod Refusals
 pub mod Claim
+pub mod SampleFrames
 pub mod SampleRuns

@@ -1,13 +1,13 @@
--- Document 01, "Sample runs", C1 to C7, as runs of `step` from what setup returned: whole frames come in, and of each row the record, the
--- reply buffer and the answer are told. P2P, circuit 1, configured time 30; own ID 192168001001, neighbour 192168001002.
-use Prim.Native.Nat.{ℕ, _+_}
+-- Document 01, "Sample runs", C1 to C10, as runs of `step` from what setup returned: all rows under one statement. On the right of ≡
+-- stand the document's numbers; expiries that it leaves out (383 in C8; 32, 37 and 39 in C9) are clock + Remaining Time and
+-- clock + Holding Time, by lines 3 and 5 of its "Marks and holding time".
+use Prim.Native.Nat.{ℕ}
 use mathlib.Core.Bool.{true, false}
 use mathlib.Core.Path.{_≡_}
-use mathlib.Core.List.{List, [], _∷_}
-use lib.ListN.{length, replicate}
+use mathlib.Core.List.{List, [], _∷_, _++_, map}
+use lib.ListN.{replicate}
 use Rattle.restart_tlv.specs.declared.writer.Ack.the-variants.{Restart as RA, Planned as PA}
-use Rattle.hello.specs.declared.header.CircuitKind.the-variants.{P2p}
-use Rattle.hello.specs.declared.levels.Levels.{Levels}
+use Rattle.hello.specs.declared.refusal.Refusal.the-variants.{BadTlv}
 use Rattle.hello.specs.declared.reverse.ReverseMetric.the-variants.{Absent as NoMetric}
 use Rattle.adjacency.specs.declared.duty.Csnps.{Csnps}
 use Rattle.adjacency.specs.declared.duty.Csnps.the-variants.{Nothing as NoCsnps, Ordered}
@@ -21,53 +21,18 @@ use Rattle.adjacency.specs.declared.record.Mark.{Mark}
 use Rattle.adjacency.specs.declared.record.Mark.the-variants.{Clear, Restart, Planned}
 use Rattle.adjacency.specs.declared.record.State.the-variants.{Init, Up}
 use Rattle.timer_parts.specs.declared.t1.Freed.the-variants.{Kept}
-use Rattle.timers.specs.declared.head.Mode.the-variants.{Running}
-use Rattle.timers.specs.declared.outcome.Outcome.the-variants.{Idle}
-use Rattle.settings.specs.declared.circuit.Circuit.{Circuit}
-use Rattle.settings.specs.declared.setup.Settings.{Settings}
-use Rattle.model.specs.Answers.{Answer, Received}
-use Rattle.model.specs.Gateway.{Gateway, Setup, Declined, Started, setup, recordAt}
-use Rattle.model.specs.Step.{Outcome, Receive, Tick, At, Over, step}
+use Rattle.timer_parts.specs.declared.t3.T3.{T3}
+use Rattle.timer_parts.specs.declared.t3.T3.the-variants.{Runs}
+use Rattle.timers.specs.declared.head.Mode.the-variants.{Running, Restarting}
+use Rattle.timers.specs.declared.outcome.Outcome.{Outcome as Timed}
+use Rattle.timers.specs.declared.outcome.Outcome.the-variants.{Idle, Goes}
+use Rattle.timers.specs.declared.outcome.Overload.the-variants.{Quiet}
+use Rattle.model.specs.Answers.{Answer, Refused, Received, Told, Metric, numberOf}
+use Rattle.model.specs.Gateway.{Gateway, setup, recordAt}
+use Rattle.model.specs.Step.{Outcome, LinkMetric, At, step}
+use Rattle.model.specs.SampleFrames.{both, settings, hello, acknowledging, reversing, row, lentOctets, taken, played, run, From}
 
--- ---- what goes in
-
-abbrev pub both : Levels
-both = record { one = true; two = true }
-
-abbrev pub circuit : Circuit
-circuit = record { kind = P2p; levels = both; mac = 0x020000000001; priority = 64; hold = 30; metric = 10; id = 1 }
-
-abbrev pub settings : ℕ → Settings
-settings clock =
-    record {
-      system = 0x192168001001;
-      lengths = record { t1 = 3; t2 = 60; tries = 3 };
-      clock = clock;
-      mode = Running;
-      count = 1;
-      circuits = replicate 8 circuit;
-    }
-
--- a hello with Holding Time 27, this three-way state (0 Up, 1 Initializing, 2 Down) and a Restart TLV with this value
-abbrev pub hello : ℕ → List ℕ → List ℕ
-hello state v =
-    0x83 ∷ 20 ∷ 1 ∷ 0 ∷ 17 ∷ 1 ∷ 0 ∷ 0 ∷ 3 ∷ 0x19 ∷ 0x21 ∷ 0x68 ∷ 0x00 ∷ 0x10 ∷ 0x02 ∷ 0 ∷ 27 ∷ 0 ∷ (25 + length v) ∷ 1
-    ∷ 240 ∷ 1 ∷ state
-    ∷ 211 ∷ length v ∷ v
-
--- a tick to the clock, and then the frame
-pub record Row : Type 0 where
-  pub clock : ℕ
-  pub frame : List ℕ
-
-abbrev pub row : ℕ → ℕ → List ℕ → Row
-row clock state v = record { clock = clock; frame = hello state v }
-
--- the reply buffer: its twelfth octet is never written
-abbrev pub lentOctets : List ℕ
-lentOctets = replicate 12 0xFF
-
--- ---- what is seen of it
+-- ---- what is seen of a row
 
 pub record Seen : Type 0 where
   pub adjacency : Adjacency
@@ -80,18 +45,8 @@ key = record { level = 0; system = 0x192168001002; mac = 0 }
 abbrev pub seen : Outcome → Seen
 seen o = record { adjacency = recordAt (o .next) 1 key; reply = o .reply; answer = o .answer }
 
--- each row gets the gateway that the last one left
-unfoldable pub played : Gateway → List Row → List Seen
-played g [] = []
-played g (r ∷ rs) =
-    let o : Outcome = step (step g (Over (Tick (r .clock))) .next) (At 1 (Receive 0x020000000002 (r .frame) lentOctets)) in
-    seen o ∷ played (o .next) rs
-
-unfoldable pub playedFrom : Setup → List Row → List Seen
-playedFrom (Declined x) rs = []
-playedFrom (Started g hellos) rs = played g rs
-
--- ---- the rows
+abbrev pub saw : Adjacency → List ℕ → Answer → Seen
+saw adjacency reply answer = record { adjacency = adjacency; reply = reply; answer = answer }
 
 abbrev pub kept : ℕ → Data
 kept expiry = record { expiry = expiry; suppressed = false; last = record { priority = 0; tlv = true; reverse = NoMetric } }
@@ -99,20 +54,25 @@ kept expiry = record { expiry = expiry; suppressed = false; last = record { prio
 abbrev pub up : ℕ → Mark → Adjacency
 up expiry mark = Present (Up (kept expiry) mark)
 
-abbrev pub received : Acknowledgement → Csnps → Answer
-received reply csnps = Received (record { reply = reply; csnps = csnps; outcome = Idle; freed = Kept })
-
 -- 211, 9, the flag, Remaining Time, the sender's System ID
 abbrev pub octets : ℕ → ℕ → ℕ → List ℕ
 octets flag high low = 0xD3 ∷ 0x09 ∷ flag ∷ high ∷ low ∷ 0x19 ∷ 0x21 ∷ 0x68 ∷ 0x00 ∷ 0x10 ∷ 0x02 ∷ 0xFF ∷ []
 
-abbrev pub saw : Adjacency → List ℕ → Answer → Seen
-saw adjacency reply answer = record { adjacency = adjacency; reply = reply; answer = answer }
+abbrev pub accepted : Acknowledgement → Csnps → Timed → Answer
+accepted reply csnps outcome = Received (record { reply = reply; csnps = csnps; outcome = outcome; freed = Kept })
+
+-- in the mode Running
+abbrev pub received : Acknowledgement → Csnps → Answer
+received reply csnps = accepted reply csnps Idle
+
+-- ---- C1 to C7: marks and holding time
 
 -- The first row brings the record to UP with expiry 110. C1 to C6 follow, one after another.
 abbrev pub C1toC6 : Type 0
 C1toC6 =
-    playedFrom (setup (settings 80))
+    From (setup (settings Running 10 80))
+    (λ g.
+    run seen g
     (row 83 1 (0 ∷ 0 ∷ 0 ∷ [])
     ∷ row 100 0 (1 ∷ 0 ∷ 0 ∷ [])
     ∷ row 105 0 (1 ∷ 0 ∷ 0 ∷ [])
@@ -128,10 +88,84 @@ C1toC6 =
     ∷ saw (up 410 Planned) (octets 0x10 0x01 0x2C) (received (Send PA 300) NoCsnps)
     ∷ saw (up 410 Planned) (octets 0x10 0x01 0x22) (received (Send PA 290) NoCsnps)
     ∷ saw (up 160 Restart) (octets 0x02 0x00 0x1E) (received (Send RA 30) (Ordered both))
-    ∷ []
+    ∷ [])
 
 -- C7: no record stands
 abbrev pub C7 : Type 0
 C7 =
-    playedFrom (setup (settings 100)) (row 100 2 (1 ∷ 0 ∷ 0 ∷ []) ∷ [])
-    ≡ saw (Present (Init (kept 127))) (octets 0x02 0x00 0x1B) (received (Send RA 27) NoCsnps) ∷ []
+    From (setup (settings Running 10 100))
+    (λ g.
+    run seen g (row 100 2 (1 ∷ 0 ∷ 0 ∷ []) ∷ [])
+    ≡ saw (Present (Init (kept 127))) (octets 0x02 0x00 0x1B) (received (Send RA 27) NoCsnps) ∷ [])
+
+-- ---- C8: lengths of the Restart TLV
+
+-- 0; 1 with RA; 2 with PR; 10
+abbrev pub badValues : List (List ℕ)
+badValues = [] ∷ (2 ∷ []) ∷ (8 ∷ 0x01 ∷ []) ∷ replicate 10 0 ∷ []
+
+-- 3 with PR
+abbrev pub goodValue : List ℕ
+goodValue = 8 ∷ 0x01 ∷ 0x2C ∷ []
+
+abbrev pub trial : Gateway → List ℕ → Outcome
+trial g v = taken g (hello 0 v)
+
+-- with the refusal's number, or 0
+abbrev pub judged : Outcome → ℕ × Seen
+judged o = (numberOf (o .answer), seen o)
+
+-- Each value is tried on the gateway g, at clock 83, with the record UP and expiry 110. What is refused leaves g as it was.
+abbrev pub C8On : Gateway → Type 0
+C8On g =
+    (map (λ v. judged (trial g v)) (badValues ++ goodValue ∷ [])
+    ≡ (6, saw (up 110 Clear) lentOctets (Refused BadTlv))
+    ∷ (6, saw (up 110 Clear) lentOctets (Refused BadTlv))
+    ∷ (6, saw (up 110 Clear) lentOctets (Refused BadTlv))
+    ∷ (6, saw (up 110 Clear) lentOctets (Refused BadTlv))
+    ∷ (0, saw (up 383 Planned) (octets 0x10 0x01 0x2C) (received (Send PA 300) NoCsnps))
+    ∷ [])
+    × (map (λ v. trial g v .next) badValues ≡ replicate 4 g)
+
+abbrev pub C8 : Type 0
+C8 = From (setup (settings Running 10 80)) (λ g. C8On (played g (row 83 1 (0 ∷ 0 ∷ 0 ∷ [])) .next))
+
+-- ---- C9: T3 while Restarting
+
+abbrev pub timed : Outcome → T3 × Seen
+timed o = (o .next .common .timers .t3, seen o)
+
+-- every frame is accepted with no reply, and no timer ends
+abbrev pub goesOn : Answer
+goesOn = accepted Nothing NoCsnps (Goes (record { one = false; two = false }) Quiet)
+
+-- RA 40, Up; RA 50, Up; RA 20, not Up
+abbrev pub C9 : Type 0
+C9 =
+    From (setup (settings Restarting 10 0))
+    (λ g.
+    run timed g (row 5 0 (acknowledging 40) ∷ row 10 0 (acknowledging 50) ∷ row 12 1 (acknowledging 20) ∷ [])
+    ≡ (Runs 45, saw (up 32 Clear) lentOctets goesOn)
+    ∷ (Runs 45, saw (up 37 Clear) lentOctets goesOn)
+    ∷ (Runs 45, saw (up 39 Clear) lentOctets goesOn)
+    ∷ [])
+
+-- ---- C10: the link metric
+
+-- of a circuit with this configured metric, after a hello with this Reverse Metric TLV that brings the record to UP
+abbrev pub Measures : ℕ → ℕ → ℕ → ℕ → Type 0
+Measures configured flags offset metric =
+    From (setup (settings Running configured 100))
+    (λ g. step (taken g (reversing flags offset) .next) (At 1 LinkMetric) .answer ≡ Told (Metric metric))
+
+-- 10 + 5; 16,777,210 + 10 without U, with U
+abbrev pub C10 : Type 0
+C10 =
+    Measures 10 0 5 15
+    × Measures 16_777_210 0 10 16_777_214
+    × Measures 16_777_210 2 10 16_777_215
+
+-- ---- all of them
+
+abbrev pub SampleRuns : Type 0
+SampleRuns = C1toC6 × C7 × C8 × C9 × C10

@@ -1,0 +1,86 @@
+-- What goes into the sample runs (document 01, "Sample runs"): settings, whole frames, and how they are played on a gateway. P2P,
+-- circuit 1, configured time 30; own ID 192168001001, neighbour 192168001002.
+use Prim.Native.Nat.{ℕ, _+_}
+use mathlib.Core.Bool.{true}
+use mathlib.Core.List.{List, [], _∷_}
+use lib.ListN.{length, replicate}
+use Rattle.hello.specs.declared.header.CircuitKind.the-variants.{P2p}
+use Rattle.hello.specs.declared.levels.Levels.{Levels}
+use Rattle.timers.specs.declared.head.Mode.{Mode}
+use Rattle.settings.specs.declared.circuit.Circuit.{Circuit}
+use Rattle.settings.specs.declared.setup.Settings.{Settings}
+use Rattle.model.specs.Gateway.{Gateway, Setup, Declined, Started}
+use Rattle.model.specs.Step.{Outcome, Receive, Tick, At, Over, step}
+
+-- ---- settings
+
+abbrev pub both : Levels
+both = record { one = true; two = true }
+
+abbrev pub circuit : ℕ → Circuit
+circuit metric = record { kind = P2p; levels = both; mac = 0x020000000001; priority = 64; hold = 30; metric = metric; id = 1 }
+
+-- a mode, the circuit's configured metric, a clock; T1 and T2 60
+abbrev pub settings : Mode → ℕ → ℕ → Settings
+settings mode metric clock =
+    record {
+      system = 0x192168001001;
+      lengths = record { t1 = 60; t2 = 60; tries = 3 };
+      clock = clock;
+      mode = mode;
+      count = 1;
+      circuits = replicate 8 (circuit metric);
+    }
+
+-- ---- frames
+
+-- the neighbour's hello with Holding Time 27, this three-way state (0 Up, 1 Initializing, 2 Down) and then these TLVs
+abbrev pub frameWith : ℕ → List ℕ → List ℕ
+frameWith state tlvs =
+    0x83 ∷ 20 ∷ 1 ∷ 0 ∷ 17 ∷ 1 ∷ 0 ∷ 0 ∷ 3 ∷ 0x19 ∷ 0x21 ∷ 0x68 ∷ 0x00 ∷ 0x10 ∷ 0x02 ∷ 0 ∷ 27 ∷ 0 ∷ (23 + length tlvs) ∷ 1
+    ∷ 240 ∷ 1 ∷ state
+    ∷ tlvs
+
+-- the same with a Restart TLV of this value
+abbrev pub hello : ℕ → List ℕ → List ℕ
+hello state v = frameWith state (211 ∷ length v ∷ v)
+
+-- the value of such a TLV: RA, a Remaining Time of one octet, our own System ID
+abbrev pub acknowledging : ℕ → List ℕ
+acknowledging time = 2 ∷ 0 ∷ time ∷ 0x19 ∷ 0x21 ∷ 0x68 ∷ 0x00 ∷ 0x10 ∷ 0x01 ∷ []
+
+-- the same with a Reverse Metric TLV, and the three-way state Initializing: flags (U is 2), an offset of one octet, no sub-TLVs
+abbrev pub reversing : ℕ → ℕ → List ℕ
+reversing flags offset = frameWith 1 (16 ∷ 5 ∷ flags ∷ 0 ∷ 0 ∷ offset ∷ 0 ∷ [])
+
+-- ---- how they are played
+
+-- a tick to the clock, and then the frame
+pub record Row : Type 0 where
+  pub clock : ℕ
+  pub frame : List ℕ
+
+abbrev pub row : ℕ → ℕ → List ℕ → Row
+row clock state v = record { clock = clock; frame = hello state v }
+
+-- the reply buffer: its twelfth octet is never written
+abbrev pub lentOctets : List ℕ
+lentOctets = replicate 12 0xFF
+
+unfoldable pub taken : Gateway → List ℕ → Outcome
+taken g octets = step g (At 1 (Receive 0x020000000002 octets lentOctets))
+
+unfoldable pub played : Gateway → Row → Outcome
+played g r = taken (step g (Over (Tick (r .clock))) .next) (r .frame)
+
+-- what is seen of each row, where each gets the gateway that the last one left
+unfoldable pub run : {A : Type 0} → (Outcome → A) → Gateway → List Row → List A
+run see g [] = []
+run see g (r ∷ rs) =
+    let o : Outcome = played g r in
+    see o ∷ run see (o .next) rs
+
+-- a gateway results from setup, and this holds of it
+abbrev pub From : Setup → (Gateway → Type 0) → Type 0
+From (Declined x) P = ⊥
+From (Started g hellos) P = P g
