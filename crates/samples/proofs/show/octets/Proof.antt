@@ -1,0 +1,50 @@
+use borrow.Author.Needs.{needs}
+use lib.ListN.{length}
+use Prim.Native.Nat.{_-_, _≤_}
+use native.Mathlib.Omega.{arith}
+use Rattle.samples.proofs.show.octets.Statement.{statement}
+use Rattle.samples.proofs.show.octets.Tie as tie
+use Rattle.samples.proofs.show.octets.Reads as reads
+use Rattle.samples.proofs.show.octets.Lts as lts
+use Rattle.samples.proofs.show.octet.Reads as octet-reads
+
+abbrev Inv-loop : tie.InvT-loop
+Inv-loop reply i₀ i = Unit {0}
+
+abbrev μ-loop : tie.MeasureT-loop
+μ-loop reply i₀ i = length reply - i
+
+loop-holds : tie.Need-loop-holds Inv-loop μ-loop
+loop-holds c = search needs
+
+shared-slice-read-octet : tie.Need-shared-slice-read-octet Inv-loop μ-loop
+shared-slice-read-octet c = search needs
+
+octet-requires : tie.Need-octet-requires Inv-loop μ-loop
+octet-requires c κs = search needs
+
+add-i : tie.Need-add-i Inv-loop μ-loop
+add-i c = omega arith
+
+loop-less : tie.Need-loop-less Inv-loop μ-loop
+loop-less c = omega arith
+
+loop-again : tie.Need-loop-again Inv-loop μ-loop
+loop-again c = search needs
+
+returns : tie.Need-returns Inv-loop μ-loop
+returns c = search needs
+
+pub octets-spec : {M : Type 1} → statement M
+octets-spec =
+    tie.close
+    (tie.spec
+    Inv-loop
+    μ-loop
+    loop-holds
+    shared-slice-read-octet
+    octet-requires
+    add-i
+    loop-less
+    loop-again
+    returns)

@@ -1,0 +1,268 @@
+// The hello frames of the sample runs, and a gateway to take them: one circuit, own System ID 1921.6800.1001, neighbour 1921.6800.1002.
+use gateway::calls::set_up;
+use gateway::config::CircuitSettings;
+use gateway::config::GatewaySettings;
+use hello::header::CircuitKind;
+use hello::levels::Levels;
+use timer_parts::t1::Lengths;
+use timers::head::Mode;
+
+pub const OWN: [u8; 6] = [0x19, 0x21, 0x68, 0x00, 0x10, 0x01];
+
+pub const NEIGHBOUR: [u8; 6] = [0x19, 0x21, 0x68, 0x00, 0x10, 0x02];
+
+// The neighbour's source MAC.
+pub const SOURCE: [u8; 6] = [2, 0, 0, 0, 0, 2];
+
+fn circuit(kind: CircuitKind, metric: u32) -> CircuitSettings {
+    CircuitSettings {
+        kind,
+        levels: Levels {
+            one: true,
+            two: true,
+        },
+        mac: [2, 0, 0, 0, 0, 1],
+        priority: 64,
+        hold: 30,
+        metric,
+        id: 1,
+    }
+}
+
+// Configured time 30; T1 and T2 60.
+pub fn start(gateway: &mut [u64; 640], kind: CircuitKind, mode: Mode, clock: u32, metric: u32) {
+    let one = circuit(kind, metric);
+    set_up(
+        gateway,
+        GatewaySettings {
+            system: OWN,
+            lengths: Lengths {
+                t1: 60,
+                t2: 60,
+                tries: 3,
+            },
+            clock,
+            mode,
+            count: 1,
+            circuits: [one; 8],
+        },
+    );
+}
+
+// P2P, Holding Time 27: a three-way TLV with this state (0 Up, 1 Initializing, 2 Down), and a Restart TLV of a length, its flags and its
+// Remaining Time. The octets lent past the PDU Length are never read.
+pub fn restart(state: u8, len: u8, flags: u8, time: u16) -> [u8; 40] {
+    [
+        0x83,
+        20,
+        1,
+        0,
+        17,
+        1,
+        0,
+        0,
+        3,
+        0x19,
+        0x21,
+        0x68,
+        0x00,
+        0x10,
+        0x02,
+        0,
+        27,
+        0,
+        25 + len % 16,
+        1,
+        240,
+        1,
+        state,
+        211,
+        len,
+        flags,
+        (time / 256) as u8,
+        (time % 256) as u8,
+        0x19,
+        0x21,
+        0x68,
+        0x00,
+        0x10,
+        0x01,
+        0,
+        0,
+        0,
+        0,
+        0,
+        0,
+    ]
+}
+
+// P2P, three-way Initializing, with a Reverse Metric TLV (type 16): its flags and its offset.
+pub fn reverse(flags: u8, offset: u8) -> [u8; 30] {
+    [
+        0x83,
+        20,
+        1,
+        0,
+        17,
+        1,
+        0,
+        0,
+        3,
+        0x19,
+        0x21,
+        0x68,
+        0x00,
+        0x10,
+        0x02,
+        0,
+        27,
+        0,
+        30,
+        1,
+        240,
+        1,
+        1,
+        16,
+        5,
+        flags,
+        0,
+        0,
+        offset,
+        0,
+    ]
+}
+
+// The same with two of them.
+pub fn reverse_twice(offset: u8) -> [u8; 37] {
+    [
+        0x83,
+        20,
+        1,
+        0,
+        17,
+        1,
+        0,
+        0,
+        3,
+        0x19,
+        0x21,
+        0x68,
+        0x00,
+        0x10,
+        0x02,
+        0,
+        27,
+        0,
+        37,
+        1,
+        240,
+        1,
+        1,
+        16,
+        5,
+        0,
+        0,
+        0,
+        offset,
+        0,
+        16,
+        5,
+        0,
+        0,
+        0,
+        offset,
+        0,
+    ]
+}
+
+// P2P with nothing but the three-way TLV, and a PDU Length.
+pub fn bare(length: u8) -> [u8; 23] {
+    [
+        0x83,
+        20,
+        1,
+        0,
+        17,
+        1,
+        0,
+        0,
+        3,
+        0x19,
+        0x21,
+        0x68,
+        0x00,
+        0x10,
+        0x02,
+        0,
+        27,
+        0,
+        length,
+        1,
+        240,
+        1,
+        1,
+    ]
+}
+
+// The same with a lone type octet at the end.
+pub fn lone_type() -> [u8; 24] {
+    [
+        0x83,
+        20,
+        1,
+        0,
+        17,
+        1,
+        0,
+        0,
+        3,
+        0x19,
+        0x21,
+        0x68,
+        0x00,
+        0x10,
+        0x02,
+        0,
+        27,
+        0,
+        24,
+        1,
+        240,
+        1,
+        1,
+        211,
+    ]
+}
+
+// LAN level 1, from the router of a number, with a Holding Time.
+pub fn lan(router: u8, hold: u8) -> [u8; 27] {
+    [
+        0x83,
+        27,
+        1,
+        0,
+        15,
+        1,
+        0,
+        0,
+        3,
+        0x19,
+        0x21,
+        0x68,
+        0x00,
+        0x20,
+        router,
+        0,
+        hold,
+        0,
+        27,
+        64,
+        0,
+        0,
+        0,
+        0,
+        0,
+        0,
+        0,
+    ]
+}

@@ -1,0 +1,74 @@
+// C8: the Restart TLV's lengths. C13: the PDU Length and the lent octets.
+use crate::frames::SOURCE;
+use crate::frames::bare;
+use crate::frames::lone_type;
+use crate::frames::restart;
+use crate::frames::start;
+use crate::show::cell;
+use crate::show::text;
+use crate::show::verdict;
+use gateway::calls::receive;
+use hello::header::CircuitKind;
+use timers::head::Mode;
+
+fn row(gateway: &mut [u64; 640], name: &[u8], what: &[u8], frame: &[u8]) {
+    let mut reply = [0u8; 11];
+    cell(name, 5);
+    cell(what, 43);
+    let r = receive(gateway, 1, &SOURCE, frame, &mut reply);
+    verdict(r);
+    text(b"\n");
+}
+
+pub fn c8() {
+    let mut gateway = [0u64; 640];
+    start(&mut gateway, CircuitKind::P2p, Mode::Running, 0, 10);
+    row(
+        &mut gateway,
+        b"C8",
+        b"TLV 211 of length 0",
+        &restart(0, 0, 0, 0),
+    );
+    row(
+        &mut gateway,
+        b"C8",
+        b"TLV 211 of length 1 with RA",
+        &restart(0, 1, 2, 0),
+    );
+    row(
+        &mut gateway,
+        b"C8",
+        b"TLV 211 of length 2 with PR",
+        &restart(0, 2, 8, 0),
+    );
+    row(
+        &mut gateway,
+        b"C8",
+        b"TLV 211 of length 10",
+        &restart(0, 10, 1, 0),
+    );
+    row(
+        &mut gateway,
+        b"C8",
+        b"TLV 211 of length 3 with PR",
+        &restart(0, 3, 8, 0),
+    );
+}
+
+pub fn c13() {
+    let mut gateway = [0u64; 640];
+    start(&mut gateway, CircuitKind::P2p, Mode::Running, 0, 10);
+    row(&mut gateway, b"C13", b"PDU Length = lent octets", &bare(23));
+    row(
+        &mut gateway,
+        b"C13",
+        b"PDU Length one more than the lent octets",
+        &bare(24),
+    );
+    row(
+        &mut gateway,
+        b"C13",
+        b"a lone type octet at the end",
+        &lone_type(),
+    );
+}
