@@ -5,6 +5,7 @@ pub mod calls; // calls.rt: the ten calls
 pub mod config; // config.rt: the settings that setup takes
 mod frame; // frame.rt: receive
 mod ticks; // ticks.rt: tick and release
-mod notices; // notices.rt: CSNP set complete, database complete
+mod notices; // notices.rt: CSNP set complete
+mod databases; // databases.rt: database complete
 mod asks; // asks.rt: look up, link metric, flags of the next hello, circuits that wait for T1
 mod setup; // setup.rt: setup

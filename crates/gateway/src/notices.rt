@@ -1,10 +1,9 @@
-// The notices of the daemon: a CSNP set or a database is complete (document 01, "Timers while Restarting").
+// The daemon's notice that a CSNP set is complete (document 01, "Timers while Restarting").
 use adjacency::duty::only_level;
 use adjacency::step::has_level;
 use common::head::mode_of;
 use common::words::Chosen;
 use common::words::circuit_of;
-use common::words::levels_of;
 use hello::refusal::Refusal;
 use model::answers::Noticed;
 use settings::circuit::Circuit;
@@ -14,7 +13,7 @@ ghost use mathlib.Core.List.{[]};
 ghost use Prim.Native.Nat.{_<_, _≤_};
 ghost use lib.ListN.{length};
 ghost use Rattle.model.specs.Answers.{noticedOf};
-ghost use Rattle.model.specs.Step.{csnpComplete, lift, step, At, Over, CsnpComplete, DatabaseComplete};
+ghost use Rattle.model.specs.Step.{csnpComplete, lift, step, At, CsnpComplete};
 ghost use Rattle.gateway.specs.Words.{gatewayWords, gatewayOf, Meets};
 
 // A level that is not enabled there (1), then 11.
@@ -45,22 +44,4 @@ pub fn csnp_in(gateway: &mut [u64], n: u8, level: u8) -> Noticed
         return Noticed::Refused(Refusal::NoCircuit);
     };
     csnp_on(gateway, n, s, level)
-}
-
-// The database of a level is complete.
-pub fn database_in(gateway: &mut [u64], level: u8) -> Noticed
-    requires { ⌜ length (now gateway) ≡ gatewayWords ⌝ }
-    ensures { λ r. ⌜ Meets (noticedOf r) (step (gatewayOf (now (gateway .entry))) (Over (DatabaseComplete level))) (now (gateway .entry)) (now (gateway .exit)) [] ⌝ }
-{
-    let levels = levels_of(&gateway[0..128]);
-    let set = only_level(level);
-    if has_level(levels, level) {
-        let mode = mode_of(&gateway[0..128]);
-        let Mode::Restarting = mode else {
-            return Noticed::Refused(Refusal::NotRestarting);
-        };
-        let outcome = common_calls::calls::notice_database(&mut gateway[0..128], set);
-        return Noticed::Done(outcome);
-    }
-    Noticed::Refused(Refusal::NoCircuit)
 }

@@ -8,10 +8,10 @@ use Prim.Native.Nat.{ℕ, _+_, _-_, _*_, _≤_}
 use native.Mathlib.Omega.{arith}
 use mathlib.Core.Path.{_≡_, refl, ap, sym, subst, _∙_}
 use borrow.Author.Needs.{needs}
-use Rattle.gateway.proofs.notices.database_in.Statement.{statement}
-use Rattle.gateway.proofs.notices.database_in.Tie as tie
-use Rattle.gateway.proofs.notices.database_in.Reads as reads
-use Rattle.gateway.proofs.notices.database_in.Lts as lts
+use Rattle.gateway.proofs.databases.database_in.Statement.{statement}
+use Rattle.gateway.proofs.databases.database_in.Tie as tie
+use Rattle.gateway.proofs.databases.database_in.Reads as reads
+use Rattle.gateway.proofs.databases.database_in.Lts as lts
 use Rattle.adjacency.proofs.duty.only_level.Reads as only-level-reads
 use Rattle.adjacency.proofs.step.has_level.Reads as has-level-reads
 use Rattle.common.proofs.head.mode_of.Reads as mode-of-reads
