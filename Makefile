@@ -3,8 +3,8 @@
 .PHONY: samples test kit
 
 samples: kit
-	@rt check vectors
-	@cat target/log/vectors.stdout
+	@rt check samples vectors
+	@cat target/log/samples.stdout target/log/vectors.stdout
 
 test: kit
 	@tools/check_citations

@@ -1,5 +1,5 @@
 -- The laws of the calls beside receive: what each stage comes to.
-use Prim.Native.Nat.{ℕ, zero, suc, _+_, _-_, _<_, _≤_}
+use Prim.Native.Nat.{ℕ, suc, _+_, _-_, _<_, _≤_}
 use native.Mathlib.Omega.{arith}
 use native.Mathlib.Numerals.{add-one}
 use mathlib.Core.Path.{_≡_, refl, ap, sym, subst, _∙_}
@@ -9,7 +9,6 @@ use lib.ListN.{length, getD, set, take, drop, drop-of-length-le}
 use lib.Seq.{take-suc-set, drop-set-lt, drop-cons, append-snoc, take-all}
 use borrow.Author.Tests.{lt-ltb, le-ltb}
 use borrow.Rule.Slice.PartMut.{putMid}
-use Rattle.hello.specs.declared.refusal.Refusal.{Refusal}
 use Rattle.hello.specs.declared.refusal.Refusal.the-variants.{NoCircuit, ClockBack, NotRestarting}
 use Rattle.adjacency.specs.Step.{hasLevel}
 use Rattle.adjacency.specs.Duty.{onlyLevel}
@@ -27,7 +26,7 @@ use Rattle.hello.specs.declared.header.CircuitKind.the-variants.{Lan}
 use Rattle.timer_parts.specs.Mask.{bits, bitsOf}
 use Rattle.timer_parts.specs.T1.{helloFlags}
 use Rattle.timer_parts.specs.declared.mask.Lowest.{Lowest}
-use Rattle.timers.specs.Timers.{Timers, inMode, settled, ticked, toT3, csnpIn, noticeT2s, noT1, countRuns, firstRuns}
+use Rattle.timers.specs.Timers.{Timers, inMode, ticked, toT3, csnpIn, noticeT2s, noT1, countRuns, firstRuns}
 use Rattle.timers.proofs.TimersLaws.{in-running, in-restarting}
 use Rattle.timers.specs.Outcome.{ordered, tickHellos}
 use Rattle.timers.specs.declared.head.Mode.the-variants.{Running, Restarting}
@@ -40,11 +39,11 @@ use Rattle.common.proofs.CommonLaws.{circuits-length}
 use Rattle.common_calls.specs.Calls.{CommonSettles, CommonTicks}
 use Rattle.room_calls.specs.Seat.{keyOn}
 use Rattle.model.specs.Answers.{Answer, Refused, Ticked, Told, Fact, Done, Noticed, Looked, Metric, HelloFlags, Waits}
-use Rattle.model.specs.Gateway.{Gateway, Room, withRooms, withCommon, noRoom, numbered, renew, roomOf}
+use Rattle.model.specs.Gateway.{Gateway, Room, withRooms, withCommon, noRoom, renew, roomOf}
 use Rattle.model.specs.Receive.{Acted, refuse}
-use Rattle.model.specs.Step.{Outcome, Call, Judged, Decline, Tell, Release, CsnpComplete, LookUp, LinkMetric, NextHello, Tick, DatabaseComplete, Waiting, Over, act, asksLevel, csnpComplete, lookUp, linkMetricOf, nextHello, noticeOf, settledBy, lift, refused, noneOf, quiet, tickOf, databaseOf, waitsOf, judge, carry, swept, lapsed, step}
+use Rattle.model.specs.Step.{Call, Judged, Decline, Tell, Release, CsnpComplete, LookUp, LinkMetric, NextHello, Tick, DatabaseComplete, Waiting, Over, act, asksLevel, csnpComplete, lookUp, linkMetricOf, nextHello, noticeOf, settledBy, lift, noneOf, quiet, tickOf, databaseOf, judge, carry, swept, lapsed, step}
 use Rattle.gateway.specs.Words.{gatewayWords, part, roomPlace, gatewayOf, Meets}
-use Rattle.gateway.proofs.WordLaws.{along, refuses, asks, common-at, common-put, room-put, room-at, room-of, renew-at, same-room}
+use Rattle.gateway.proofs.WordLaws.{along, asks, common-at, common-put, room-put, room-at, room-of, renew-at, same-room}
 
 -- ---- a call on a circuit that changes the common part, or the circuit's own
 

@@ -3,7 +3,7 @@
 use Prim.Native.Nat.{ℕ, _+_, _-_, _<_, _≤_}
 use native.Mathlib.Omega.{arith}
 use mathlib.Core.Path.{_≡_, refl, ap, sym, subst, _∙_}
-use mathlib.Core.Bool.{Bool, true, false}
+use mathlib.Core.Bool.{true, false}
 use mathlib.Core.List.{List}
 use lib.ListN.{length, set}
 use borrow.Author.Tests.{lt-ltb, le-ltb}
@@ -36,10 +36,10 @@ use Rattle.common.specs.Common.{Common, commonOf, withTimers}
 use Rattle.common_calls.specs.Calls.{CommonHears}
 use Rattle.room_calls.specs.Seat.{keyIn, decided, kept, written, csnpsIn, Seats}
 use Rattle.model.specs.declared.answers.Orders.{Orders}
-use Rattle.model.specs.Answers.{Answer, Refused, Received}
+use Rattle.model.specs.Answers.{Refused, Received}
 use Rattle.model.specs.Gateway.{Gateway, Room, withRooms, withCommon, renew, roomOf}
-use Rattle.model.specs.Receive.{Acted, refuse, hereOf, rankOf, saidOf, ordersOf, accepted, settle, seated, checked, readIn, receive}
-use Rattle.model.specs.Step.{Outcome, Receive, act, lift}
+use Rattle.model.specs.Receive.{refuse, hereOf, rankOf, saidOf, ordersOf, accepted, settle, seated, checked, readIn, receive}
+use Rattle.model.specs.Step.{Receive, act, lift}
 use Rattle.gateway.specs.Words.{gatewayWords, part, roomPlace, gatewayOf, Meets}
 use Rattle.gateway.proofs.WordLaws.{along, refuses, common-at, common-put, room-put, room-same, common-stays, length-room, room-of, renew-at}
 

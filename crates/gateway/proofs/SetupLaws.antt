@@ -1,8 +1,8 @@
 -- The laws of setup: a room opened, and what the whole of it comes to.
 use Prim.Native.Nat.{ℕ, _+_, _-_, _<_}
 use native.Mathlib.Omega.{arith}
-use mathlib.Core.Path.{_≡_, refl, ap, sym, _∙_}
-use mathlib.Core.Bool.{Bool, true, false}
+use mathlib.Core.Path.{_≡_, refl, ap, _∙_}
+use mathlib.Core.Bool.{true, false}
 use mathlib.Core.List.{List, map}
 use lib.ListN.{length, set}
 use borrow.Rule.Slice.PartMut.{putMid}
@@ -14,7 +14,7 @@ use Rattle.timer_parts.specs.Mask.{bits}
 use Rattle.settings.specs.Settings.{settingsOk}
 use Rattle.settings.specs.declared.circuit.Circuit.{Circuit}
 use Rattle.settings.specs.declared.setup.Settings.{Settings}
-use Rattle.common.specs.Common.{commonOf, setupCommon}
+use Rattle.common.specs.Common.{setupCommon}
 use Rattle.common_setup.specs.Setup.{SetsUp as StoresAll}
 use Rattle.model.specs.declared.answers.SetUp.{SetUp}
 use Rattle.model.specs.declared.answers.SetUp.the-variants.{Refused, Done}

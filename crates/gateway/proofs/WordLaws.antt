@@ -1,20 +1,19 @@
 -- The laws of the gateway's words: a part put back changes its own room or the common part, and nothing else; what a call on a circuit
 -- meets. Every call's proof cites these.
-use Prim.Native.Nat.{ℕ, zero, suc, _+_, _-_, _*_, _<_, _≤_}
+use Prim.Native.Nat.{ℕ, zero, suc, _+_, _-_, _<_, _≤_}
 use native.Mathlib.Omega.{arith}
 use mathlib.Core.Path.{_≡_, refl, ap, sym, _∙_}
 use mathlib.Core.Logic.{inl, inr, _⊎_, _≢_}
-use mathlib.Core.Bool.{Bool, true, false}
 use mathlib.Core.List.{List, []}
 use lib.ListN.{length, getD, set, take, drop, length-drop}
 use lib.Seq.{ext-getD, getD-take, getD-drop, length-take-le, set-getD}
 use lib.Dec.{ltb}
 use borrow.Author.Tests.{ltb-true, ltb-false}
-use borrow.Rule.Slice.PartMut.{putMid, mid-len}
+use borrow.Rule.Slice.PartMut.{putMid}
 use Rattle.tlv.proofs.BoolLaws.{by-test}
 use Rattle.hello.specs.declared.refusal.Refusal.{Refusal}
 use Rattle.hello.specs.declared.refusal.Refusal.the-variants.{NoCircuit}
-use Rattle.slots.specs.Slots.{tabulate, tableOf}
+use Rattle.slots.specs.Slots.{tableOf}
 use Rattle.slots.proofs.SlotLaws.{tabulate-set, tabulate-same, getD-tabulate, length-tabulate}
 use Rattle.common.specs.Common.{Common, commonOf, circuitOf, Chooses}
 use Rattle.common.specs.declared.words.Chosen.{Chosen}
@@ -24,7 +23,7 @@ use Rattle.settings.specs.declared.circuit.Circuit.{Circuit}
 use Rattle.model.specs.Answers.{Answer, Refused}
 use Rattle.model.specs.Gateway.{Gateway, Room, withRooms, withCommon, noRoom, numbered, renew, roomOf}
 use Rattle.model.specs.Receive.{Acted, refuse}
-use Rattle.model.specs.Step.{Outcome, Local, Call, At, lent, lift, on, step, refused, act}
+use Rattle.model.specs.Step.{Outcome, Local, At, lent, lift, on, step, refused, act}
 use Rattle.gateway.specs.Words.{gatewayWords, part, roomPlace, roomAt, gatewayOf, Meets}
 
 -- ---- a part put back leaves every part that it does not meet

@@ -7,7 +7,6 @@ use Rattle.hello.specs.declared.refusal.Refusal.{Refusal}
 use Rattle.tlv.specs.Octets.{big}
 use Rattle.adjacency.specs.declared.record.Key.{Key}
 use Rattle.slots.specs.Slots.{tabulate, tableOf}
-use Rattle.common.specs.Words.{commonWords}
 use Rattle.common.specs.Common.{commonOf}
 use Rattle.model.specs.Answers.{Answer, Refused}
 use Rattle.model.specs.Gateway.{Gateway, Room}

@@ -35,7 +35,7 @@ ghost use Rattle.common.specs.Common.{commonOf};
 ghost use Rattle.common_calls.specs.Calls.{CommonHears};
 ghost use Rattle.model.specs.Answers.{receivedOf};
 ghost use Rattle.model.specs.Receive.{hereOf, rankOf, saidOf, seated, checked};
-ghost use Rattle.model.specs.Step.{lift, step, Call, At, Receive};
+ghost use Rattle.model.specs.Step.{lift, step, At, Receive};
 ghost use Rattle.gateway.specs.Words.{gatewayWords, gatewayOf, Meets};
 
 fn is_restarting(mode: Mode) -> bool

@@ -1,6 +1,6 @@
+pub mod SampleRuns
 pub mod Lists
+pub mod RefusalLaws
 pub mod Beside
 pub mod Near
 pub mod Isolation
-pub mod SampleRuns
-pub mod RefusalLaws

@@ -1,7 +1,7 @@
 -- Demand 1, proved of the step: stage by stage, an answer that is a refusal comes with all as it was.
 use Prim.Native.Nat.{ℕ}
 use native.Mathlib.Omega.{arith}
-use mathlib.Core.Path.{_≡_, refl, ap, sym, _∙_}
+use mathlib.Core.Path.{_≡_, refl, ap, _∙_}
 use mathlib.Core.Bool.{Bool, true, false, cond}
 use mathlib.Core.List.{List, []}
 use lib.ListN.{length}
@@ -30,8 +30,8 @@ use Rattle.room_calls.specs.Seat.{keyIn, decided}
 use Rattle.model.specs.Answers.{Refused, Told, Fact}
 use Rattle.model.specs.Gateway.{Gateway, Room, withRooms, renew, noRoom, roomOf}
 use Rattle.model.specs.Receive.{Acted, refuse, hereOf, accepted, settle, seated, checked, readIn, receive}
-use Rattle.model.specs.Step.{Outcome, Local, Receive, Release, CsnpComplete, LookUp, LinkMetric, NextHello, Global, Tick, DatabaseComplete, Waiting, Call, At, Over, told, asksLevel, csnpComplete, lookUp, linkMetricOf, nextHello, act, lent, lift, on, Judged, Decline, Sweep, Tell, noneOf, quiet, tickOf, databaseOf, judge, carry, step}
-use Rattle.model.specs.Refusals.{lentBy, RefusalsKeep}
+use Rattle.model.specs.Step.{Outcome, Local, Receive, Release, CsnpComplete, LookUp, LinkMetric, NextHello, Global, Tick, DatabaseComplete, Waiting, At, Over, told, asksLevel, csnpComplete, lookUp, linkMetricOf, nextHello, act, lent, lift, on, Judged, Decline, Sweep, Tell, noneOf, quiet, tickOf, databaseOf, judge, carry, step}
+use Rattle.model.specs.Refusals.{RefusalsKeep}
 use Rattle.model.proofs.Lists.{renew-numbered}
 
 -- ---- calls on a circuit

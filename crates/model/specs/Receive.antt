@@ -2,7 +2,7 @@
 -- part and of the circuit's own; n is the circuit's number, s its settings, b the lent reply buffer.
 use Prim.Native.Nat.{ℕ, _-_}
 use mathlib.Core.Bool.{cond, not}
-use mathlib.Core.List.{List, []}
+use mathlib.Core.List.{List}
 use lib.ListN.{length}
 use lib.Dec.{ltb}
 use Rattle.hello.specs.Hello.{helloRead}

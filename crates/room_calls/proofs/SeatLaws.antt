@@ -1,5 +1,5 @@
 -- The laws of a seat, for its code: keys, refusals 8 and 9, what is kept and written, and line 1's order.
-use mathlib.Core.Path.{_≡_, refl, sym, subst}
+use mathlib.Core.Path.{_≡_, refl}
 use mathlib.Core.Bool.{Bool, true, false}
 use mathlib.Core.List.{List, _++_}
 use Prim.Native.Nat.{ℕ}
@@ -13,7 +13,7 @@ use Rattle.hello.specs.declared.refusal.Refusal.{Refusal}
 use Rattle.hello.specs.declared.refusal.Refusal.the-variants.{NoRoom}
 use Rattle.adjacency.specs.React.{reactOf}
 use Rattle.adjacency.specs.declared.marks.Acknowledgement.{Acknowledgement}
-use Rattle.adjacency.specs.declared.marks.Acknowledgement.the-variants.{Nothing, Send}
+use Rattle.adjacency.specs.declared.marks.Acknowledgement.the-variants.{Send}
 use Rattle.adjacency.specs.declared.marks.Line.{Line}
 use Rattle.adjacency.specs.declared.duty.Csnps.{Csnps}
 use Rattle.adjacency.specs.declared.duty.Rank.{Rank}

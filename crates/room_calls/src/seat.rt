@@ -12,7 +12,7 @@ use table::place::Spot;
 use table::place::place_of;
 use table::place::store_state;
 ghost use mathlib.Core.Path.{_≡_};
-ghost use Prim.Native.Nat.{_≤_, _<_};
+ghost use Prim.Native.Nat.{_≤_};
 ghost use lib.ListN.{length};
 ghost use Rattle.slots.specs.Slots.{tableOf};
 ghost use Rattle.table.specs.Place.{Spots, Takes};

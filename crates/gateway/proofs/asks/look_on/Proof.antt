@@ -1,21 +1,12 @@
+-- Refusal 1 for the level, or the record of the room.
 use Rattle.gateway.proofs.CallLaws.{looks, looks-not}
-use borrow.Rule.Slice.PartMut.{mid-len}
-use Rattle.gateway.proofs.WordLaws.{along, refuses, refuses-all, choice, no-circuit, a-circuit}
-use Rattle.gateway.specs.Words.{gatewayOf}
-use Rattle.common.specs.Common.{InRange}
-use Rattle.hello.specs.declared.refusal.Refusal.the-variants.{NoCircuit, NotRestarting, ClockBack}
-use Prim.Native.Nat.{ℕ, _+_, _-_, _*_, _≤_}
-use native.Mathlib.Omega.{arith}
-use mathlib.Core.Path.{_≡_, refl, ap, sym, subst, _∙_}
+use Rattle.gateway.proofs.WordLaws.{along, refuses}
+use Rattle.hello.specs.declared.refusal.Refusal.the-variants.{NoCircuit}
+use Prim.Native.Nat.{_-_}
+use mathlib.Core.Path.{sym, _∙_}
 use borrow.Author.Needs.{needs}
 use Rattle.gateway.proofs.asks.look_on.Statement.{statement}
 use Rattle.gateway.proofs.asks.look_on.Tie as tie
-use Rattle.gateway.proofs.asks.look_on.Reads as reads
-use Rattle.gateway.proofs.asks.look_on.Lts as lts
-use Rattle.gateway.proofs.asks.asks_level.Reads as asks-level-reads
-use Rattle.gateway.proofs.asks.looked_at.Reads as looked-at-reads
-use Rattle.room_calls.proofs.keys.key_on.Reads as key-on-reads
-use Rattle.table.proofs.place.found.Reads as found-reads
 
 asks-level-requires : tie.Need-asks-level-requires
 asks-level-requires c κs = search needs

@@ -1,11 +1,10 @@
+-- Each case is the fact that it tells.
 use Rattle.model.specs.Answers.{Told, Looked}
 use Rattle.adjacency.specs.declared.record.Adjacency.{Adjacency}
-use mathlib.Core.Path.{_≡_, refl, ap, sym, subst, _∙_}
+use mathlib.Core.Path.{ap, sym}
 use borrow.Author.Needs.{needs}
 use Rattle.gateway.proofs.asks.looked_at.Statement.{statement}
 use Rattle.gateway.proofs.asks.looked_at.Tie as tie
-use Rattle.gateway.proofs.asks.looked_at.Reads as reads
-use Rattle.gateway.proofs.asks.looked_at.Lts as lts
 
 enum-told : tie.Need-enum-told
 enum-told c = search needs

@@ -1,19 +1,9 @@
+-- The two answers of the common part.
 use Rattle.gateway.proofs.CallLaws.{waits}
-use borrow.Rule.Slice.PartMut.{mid-len}
-use Rattle.gateway.proofs.WordLaws.{along, refuses, refuses-all, choice, no-circuit, a-circuit}
-use Rattle.gateway.specs.Words.{gatewayOf}
-use Rattle.common.specs.Common.{InRange}
-use Rattle.hello.specs.declared.refusal.Refusal.the-variants.{NoCircuit, NotRestarting, ClockBack}
-use Prim.Native.Nat.{ℕ, _+_, _-_, _*_, _≤_}
-use native.Mathlib.Omega.{arith}
-use mathlib.Core.Path.{_≡_, refl, ap, sym, subst, _∙_}
+use Prim.Native.Nat.{_-_}
 use borrow.Author.Needs.{needs}
 use Rattle.gateway.proofs.asks.waiting_in.Statement.{statement}
 use Rattle.gateway.proofs.asks.waiting_in.Tie as tie
-use Rattle.gateway.proofs.asks.waiting_in.Reads as reads
-use Rattle.gateway.proofs.asks.waiting_in.Lts as lts
-use Rattle.common_calls.proofs.calls.count_waiting.Reads as count-waiting-reads
-use Rattle.common_calls.proofs.calls.lowest_waiting.Reads as lowest-waiting-reads
 
 sub-count-waiting : tie.Need-sub-count-waiting
 sub-count-waiting c = search needs

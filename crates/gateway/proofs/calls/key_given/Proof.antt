@@ -1,11 +1,7 @@
-use Prim.Native.Nat.{ℕ}
-use mathlib.Core.Path.{_≡_, refl, ap, sym, subst, _∙_}
+-- Two numbers of six octets.
 use borrow.Author.Needs.{needs}
 use Rattle.gateway.proofs.calls.key_given.Statement.{statement}
 use Rattle.gateway.proofs.calls.key_given.Tie as tie
-use Rattle.gateway.proofs.calls.key_given.Reads as reads
-use Rattle.gateway.proofs.calls.key_given.Lts as lts
-use Rattle.tlv.proofs.octets.six.Reads as six-reads
 
 six-requires : tie.Need-six-requires
 six-requires c κs = search needs

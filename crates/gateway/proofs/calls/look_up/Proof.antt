@@ -1,14 +1,11 @@
+-- The call with the key that was read.
 use Rattle.model.specs.Step.{At, LookUp}
 use Rattle.adjacency.specs.declared.record.Key.{Key}
 use Rattle.gateway.proofs.CallLaws.{same-call}
-use mathlib.Core.Path.{_≡_, refl, ap, sym, subst, _∙_}
+use mathlib.Core.Path.{ap}
 use borrow.Author.Needs.{needs}
 use Rattle.gateway.proofs.calls.look_up.Statement.{statement}
 use Rattle.gateway.proofs.calls.look_up.Tie as tie
-use Rattle.gateway.proofs.calls.look_up.Reads as reads
-use Rattle.gateway.proofs.calls.look_up.Lts as lts
-use Rattle.gateway.proofs.asks.look_in.Reads as look-in-reads
-use Rattle.gateway.proofs.calls.key_given.Reads as key-given-reads
 
 key-given-requires : tie.Need-key-given-requires
 key-given-requires c κs = search needs

@@ -1,12 +1,8 @@
+-- Setup with the settings that were read.
 use Rattle.gateway.proofs.SetupLaws.{same-settings}
-use mathlib.Core.Path.{_≡_, refl, ap, sym, subst, _∙_}
 use borrow.Author.Needs.{needs}
 use Rattle.gateway.proofs.calls.set_up.Statement.{statement}
 use Rattle.gateway.proofs.calls.set_up.Tie as tie
-use Rattle.gateway.proofs.calls.set_up.Reads as reads
-use Rattle.gateway.proofs.calls.set_up.Lts as lts
-use Rattle.gateway.proofs.setup.set_up_in.Reads as set-up-in-reads
-use Rattle.gateway.proofs.setup.settings_given.Reads as settings-given-reads
 
 settings-given-requires : tie.Need-settings-given-requires
 settings-given-requires c κs = search needs

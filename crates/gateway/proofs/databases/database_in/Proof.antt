@@ -1,22 +1,11 @@
+-- Refusal 1, 11, or the common words put back.
 use Rattle.gateway.proofs.CallLaws.{database-off, database-outside, database-taken}
-use borrow.Rule.Slice.PartMut.{mid-len}
-use Rattle.gateway.proofs.WordLaws.{along, refuses, refuses-all, choice, no-circuit, a-circuit}
-use Rattle.gateway.specs.Words.{gatewayOf}
-use Rattle.common.specs.Common.{InRange}
-use Rattle.hello.specs.declared.refusal.Refusal.the-variants.{NoCircuit, NotRestarting, ClockBack}
-use Prim.Native.Nat.{ℕ, _+_, _-_, _*_, _≤_}
+use Prim.Native.Nat.{_-_}
 use native.Mathlib.Omega.{arith}
-use mathlib.Core.Path.{_≡_, refl, ap, sym, subst, _∙_}
+use mathlib.Core.Path.{sym, _∙_}
 use borrow.Author.Needs.{needs}
 use Rattle.gateway.proofs.databases.database_in.Statement.{statement}
 use Rattle.gateway.proofs.databases.database_in.Tie as tie
-use Rattle.gateway.proofs.databases.database_in.Reads as reads
-use Rattle.gateway.proofs.databases.database_in.Lts as lts
-use Rattle.adjacency.proofs.duty.only_level.Reads as only-level-reads
-use Rattle.adjacency.proofs.step.has_level.Reads as has-level-reads
-use Rattle.common.proofs.head.mode_of.Reads as mode-of-reads
-use Rattle.common.proofs.words.levels_of.Reads as levels-of-reads
-use Rattle.common_calls.proofs.calls.notice_database.Reads as notice-database-reads
 
 sub-levels-of : tie.Need-sub-levels-of
 sub-levels-of c = search needs

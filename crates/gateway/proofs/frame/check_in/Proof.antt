@@ -1,15 +1,11 @@
+-- Refusal 7, or the next stage.
 use Rattle.gateway.proofs.FrameLaws.{source-wrong, source-right}
 use Rattle.gateway.proofs.WordLaws.{along, refuses}
 use Rattle.hello.specs.declared.refusal.Refusal.the-variants.{WrongSource}
-use mathlib.Core.Path.{_≡_, refl, ap, sym, subst, _∙_}
+use mathlib.Core.Path.{sym, _∙_}
 use borrow.Author.Needs.{needs}
 use Rattle.gateway.proofs.frame.check_in.Statement.{statement}
 use Rattle.gateway.proofs.frame.check_in.Tie as tie
-use Rattle.gateway.proofs.frame.check_in.Reads as reads
-use Rattle.gateway.proofs.frame.check_in.Lts as lts
-use Rattle.adjacency.proofs.step.is_wrong_source.Reads as is-wrong-source-reads
-use Rattle.common.proofs.words.system_of.Reads as system-of-reads
-use Rattle.gateway.proofs.frame.settle_in.Reads as settle-in-reads
 
 sub-system-of : tie.Need-sub-system-of
 sub-system-of c = search needs

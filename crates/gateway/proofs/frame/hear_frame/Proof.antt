@@ -1,15 +1,11 @@
+-- What the frame says, with our own System ID.
 use Rattle.gateway.proofs.FrameLaws.{hears-said}
 use Rattle.timer_parts.specs.Heard.{heardOf}
-use mathlib.Core.Path.{_≡_, refl, ap, sym, subst, _∙_}
+use mathlib.Core.Path.{ap, _∙_}
 use Prim.Native.Nat.{ℕ}
 use borrow.Author.Needs.{needs}
 use Rattle.gateway.proofs.frame.hear_frame.Statement.{statement}
 use Rattle.gateway.proofs.frame.hear_frame.Tie as tie
-use Rattle.gateway.proofs.frame.hear_frame.Reads as reads
-use Rattle.gateway.proofs.frame.hear_frame.Lts as lts
-use Rattle.common.proofs.words.system_of.Reads as system-of-reads
-use Rattle.common_calls.proofs.calls.hear.Reads as hear-reads
-use Rattle.timer_parts.proofs.heard.heard_of.Reads as heard-of-reads
 
 system-of-requires : tie.Need-system-of-requires
 system-of-requires c κs = search needs

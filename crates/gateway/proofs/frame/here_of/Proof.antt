@@ -1,16 +1,11 @@
+-- Each field is read from the common words.
 use Rattle.timers.specs.declared.head.Mode.{Mode}
 use Rattle.timers.specs.Outcome.{isRunning}
 use mathlib.Core.Bool.{not}
-use mathlib.Core.Path.{_≡_, refl, ap, sym, _∙_}
+use mathlib.Core.Path.{ap, _∙_}
 use borrow.Author.Needs.{needs}
 use Rattle.gateway.proofs.frame.here_of.Statement.{statement}
 use Rattle.gateway.proofs.frame.here_of.Tie as tie
-use Rattle.gateway.proofs.frame.here_of.Reads as reads
-use Rattle.gateway.proofs.frame.here_of.Lts as lts
-use Rattle.common.proofs.head.mode_of.Reads as mode-of-reads
-use Rattle.common.proofs.words.clock_of.Reads as clock-of-reads
-use Rattle.common.proofs.words.system_of.Reads as system-of-reads
-use Rattle.gateway.proofs.frame.is_restarting.Reads as is-restarting-reads
 
 clock-of-requires : tie.Need-clock-of-requires
 clock-of-requires c κs = search needs

@@ -1,11 +1,7 @@
-use mathlib.Core.Path.{_≡_, refl, ap, sym, _∙_}
-use Prim.Native.Nat.{ℕ}
+-- The frame's level, and our own pair.
 use borrow.Author.Needs.{needs}
 use Rattle.gateway.proofs.frame.rank_of.Statement.{statement}
 use Rattle.gateway.proofs.frame.rank_of.Tie as tie
-use Rattle.gateway.proofs.frame.rank_of.Reads as reads
-use Rattle.gateway.proofs.frame.rank_of.Lts as lts
-use Rattle.room_calls.proofs.keys.level_in.Reads as level-in-reads
 
 level-in-requires : tie.Need-level-in-requires
 level-in-requires c κs = search needs

@@ -1,15 +1,12 @@
+-- Refusal 2, a refusal of the reader, or the next stage.
 use Rattle.gateway.proofs.FrameLaws.{small, reads-bad, reads-good}
 use Rattle.gateway.proofs.WordLaws.{along, refuses}
 use Rattle.gateway.specs.Words.{gatewayOf}
 use Rattle.hello.specs.declared.refusal.Refusal.the-variants.{ReplyRoom}
-use mathlib.Core.Path.{_≡_, refl, ap, sym, subst, _∙_}
+use mathlib.Core.Path.{sym, _∙_}
 use borrow.Author.Needs.{needs}
 use Rattle.gateway.proofs.frame.read_in.Statement.{statement}
 use Rattle.gateway.proofs.frame.read_in.Tie as tie
-use Rattle.gateway.proofs.frame.read_in.Reads as reads
-use Rattle.gateway.proofs.frame.read_in.Lts as lts
-use Rattle.gateway.proofs.frame.check_in.Reads as check-in-reads
-use Rattle.hello.proofs.read.read_hello.Reads as read-hello-reads
 
 returns : tie.Need-returns
 returns c = let a = c .before .before .before .before .args in

@@ -1,3 +1,4 @@
+-- Refusal 1, or the next stage.
 use Rattle.gateway.proofs.FrameLaws.{received-is}
 use Rattle.gateway.proofs.WordLaws.{along, refuses-all, choice, no-circuit, a-circuit}
 use Rattle.gateway.specs.Words.{gatewayOf}
@@ -5,15 +6,10 @@ use Rattle.tlv.specs.Octets.{big}
 use Rattle.model.specs.Step.{Receive}
 use Rattle.common.specs.Common.{InRange}
 use Rattle.hello.specs.declared.refusal.Refusal.the-variants.{NoCircuit}
-use mathlib.Core.Path.{_≡_, refl, ap, sym, subst, _∙_}
+use mathlib.Core.Path.{subst, _∙_}
 use borrow.Author.Needs.{needs}
 use Rattle.gateway.proofs.frame.receive_in.Statement.{statement}
 use Rattle.gateway.proofs.frame.receive_in.Tie as tie
-use Rattle.gateway.proofs.frame.receive_in.Reads as reads
-use Rattle.gateway.proofs.frame.receive_in.Lts as lts
-use Rattle.common.proofs.words.circuit_of.Reads as circuit-of-reads
-use Rattle.gateway.proofs.frame.read_in.Reads as read-in-reads
-use Rattle.tlv.proofs.octets.six.Reads as six-reads
 
 sub-circuit-of : tie.Need-sub-circuit-of
 sub-circuit-of c = search needs

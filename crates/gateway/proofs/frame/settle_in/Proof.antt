@@ -1,24 +1,17 @@
+-- A refusal puts the room back as it was; else the room, then the common words are put back.
 use borrow.Rule.Slice.PartMut.{putMid}
 use Rattle.gateway.proofs.FrameLaws.{left, taken}
 use Rattle.gateway.proofs.WordLaws.{length-room}
 use Rattle.room_calls.specs.Seat.{Seats}
 use borrow.Rule.Slice.PartMut.{mid-len}
-use mathlib.Core.Path.{_≡_, refl, ap, sym, subst, _∙_}
+use mathlib.Core.Path.{_≡_, subst, _∙_}
 use lib.Seq.{length-take-le}
-use lib.ListN.{length, take}
+use lib.ListN.{length}
 use native.Mathlib.Omega.{arith}
-use Prim.Native.Nat.{ℕ, _+_, _-_, _*_}
+use Prim.Native.Nat.{_+_, _-_, _*_}
 use borrow.Author.Needs.{needs}
 use Rattle.gateway.proofs.frame.settle_in.Statement.{statement}
 use Rattle.gateway.proofs.frame.settle_in.Tie as tie
-use Rattle.gateway.proofs.frame.settle_in.Reads as reads
-use Rattle.gateway.proofs.frame.settle_in.Lts as lts
-use Rattle.gateway.proofs.frame.hear_frame.Reads as hear-frame-reads
-use Rattle.gateway.proofs.frame.here_of.Reads as here-of-reads
-use Rattle.gateway.proofs.frame.rank_of.Reads as rank-of-reads
-use Rattle.room_calls.proofs.duty.csnps_in.Reads as csnps-in-reads
-use Rattle.room_calls.proofs.keys.key_in.Reads as key-in-reads
-use Rattle.room_calls.proofs.seat.seat_in.Reads as seat-in-reads
 
 sub-here-of : tie.Need-sub-here-of
 sub-here-of c = search needs

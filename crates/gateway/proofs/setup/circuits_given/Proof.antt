@@ -1,16 +1,14 @@
+-- The invariant: what is read before i and what is still to read make all.
 use Rattle.gateway.proofs.CallLaws.{copy-step, gather-end}
 use Rattle.gateway.specs.Setup.{circuitGiven}
 use lib.ListN.{length, take, drop, length-set}
-use Prim.Native.Nat.{ℕ, _-_, _≤_, _<_}
+use Prim.Native.Nat.{_-_, _≤_}
 use mathlib.Core.List.{_++_, map}
-use mathlib.Core.Path.{_≡_, refl, ap, sym, subst, _∙_}
+use mathlib.Core.Path.{_≡_, refl, _∙_}
 use native.Mathlib.Omega.{arith}
 use borrow.Author.Needs.{needs}
 use Rattle.gateway.proofs.setup.circuits_given.Statement.{statement}
 use Rattle.gateway.proofs.setup.circuits_given.Tie as tie
-use Rattle.gateway.proofs.setup.circuits_given.Reads as reads
-use Rattle.gateway.proofs.setup.circuits_given.Lts as lts
-use Rattle.gateway.proofs.setup.circuit_given.Reads as circuit-given-reads
 
 abbrev Inv-loop : tie.InvT-loop
 Inv-loop all read₀ i₀ read i = (i ≤ 8) × (length read ≡ 8) × (take i read ++ map circuitGiven (drop i all) ≡ map circuitGiven all)

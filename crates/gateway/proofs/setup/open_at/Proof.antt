@@ -1,14 +1,12 @@
+-- The room's words put back are an empty room.
 use Rattle.gateway.proofs.SetupLaws.{opened}
 use borrow.Rule.Slice.PartMut.{mid-len}
-use mathlib.Core.Path.{_≡_, refl, ap, sym, subst, _∙_}
+use mathlib.Core.Path.{_∙_}
 use native.Mathlib.Omega.{arith}
-use Prim.Native.Nat.{ℕ, _+_, _*_}
+use Prim.Native.Nat.{_+_, _*_}
 use borrow.Author.Needs.{needs}
 use Rattle.gateway.proofs.setup.open_at.Statement.{statement}
 use Rattle.gateway.proofs.setup.open_at.Tie as tie
-use Rattle.gateway.proofs.setup.open_at.Reads as reads
-use Rattle.gateway.proofs.setup.open_at.Lts as lts
-use Rattle.table.proofs.room.open_room.Reads as open-room-reads
 
 mul-a : tie.Need-mul-a
 mul-a c = search needs

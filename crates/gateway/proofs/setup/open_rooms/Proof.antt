@@ -1,18 +1,16 @@
+-- The invariant: the rooms opened before i and those still to open make all.
 use Rattle.gateway.proofs.CallLaws.{copy-step, gather-end}
 use Rattle.gateway.proofs.WordLaws.{length-rooms}
 use Rattle.gateway.specs.Words.{gatewayWords, gatewayOf}
 use Rattle.model.specs.Gateway.{withRooms, newRoom}
-use lib.ListN.{length, take, drop, length-set}
-use Prim.Native.Nat.{ℕ, _-_, _≤_, _<_}
+use lib.ListN.{length, take, drop}
+use Prim.Native.Nat.{_-_, _≤_}
 use mathlib.Core.List.{_++_, map}
-use mathlib.Core.Path.{_≡_, refl, ap, sym, subst, _∙_}
+use mathlib.Core.Path.{_≡_, refl, ap, sym, _∙_}
 use native.Mathlib.Omega.{arith}
 use borrow.Author.Needs.{needs}
 use Rattle.gateway.proofs.setup.open_rooms.Statement.{statement}
 use Rattle.gateway.proofs.setup.open_rooms.Tie as tie
-use Rattle.gateway.proofs.setup.open_rooms.Reads as reads
-use Rattle.gateway.proofs.setup.open_rooms.Lts as lts
-use Rattle.gateway.proofs.setup.open_at.Reads as open-at-reads
 
 abbrev Inv-loop : tie.InvT-loop
 Inv-loop gateway₀ all i₀ gateway i =

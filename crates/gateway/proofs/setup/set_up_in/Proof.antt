@@ -1,17 +1,12 @@
+-- Refusal 12, or the common words and then the rooms.
 use Rattle.gateway.proofs.SetupLaws.{set-up-refused, set-up-done}
 use Rattle.settings.proofs.SettingsLaws.{count-in-range}
 use lib.Seq.{length-take-le}
-use mathlib.Core.Path.{_≡_, refl, ap, sym, subst, _∙_}
+use mathlib.Core.Path.{sym, _∙_}
 use native.Mathlib.Omega.{arith}
-use Prim.Native.Nat.{_≤_}
 use borrow.Author.Needs.{needs}
 use Rattle.gateway.proofs.setup.set_up_in.Statement.{statement}
 use Rattle.gateway.proofs.setup.set_up_in.Tie as tie
-use Rattle.gateway.proofs.setup.set_up_in.Reads as reads
-use Rattle.gateway.proofs.setup.set_up_in.Lts as lts
-use Rattle.common_setup.proofs.setup.set_up.Reads as set-up-reads
-use Rattle.gateway.proofs.setup.open_rooms.Reads as open-rooms-reads
-use Rattle.settings.proofs.setup.are_settings_ok.Reads as are-settings-ok-reads
 
 are-settings-ok-requires : tie.Need-are-settings-ok-requires
 are-settings-ok-requires c κs = search needs

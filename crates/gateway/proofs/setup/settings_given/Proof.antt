@@ -1,12 +1,7 @@
-use Prim.Native.Nat.{ℕ}
-use mathlib.Core.Path.{_≡_, refl, ap, sym, subst, _∙_}
+-- The System ID and the circuits are read.
 use borrow.Author.Needs.{needs}
 use Rattle.gateway.proofs.setup.settings_given.Statement.{statement}
 use Rattle.gateway.proofs.setup.settings_given.Tie as tie
-use Rattle.gateway.proofs.setup.settings_given.Reads as reads
-use Rattle.gateway.proofs.setup.settings_given.Lts as lts
-use Rattle.gateway.proofs.setup.circuits_given.Reads as circuits-given-reads
-use Rattle.gateway.proofs.setup.number.Reads as number-reads
 
 number-requires : tie.Need-number-requires
 number-requires c κs = search needs

@@ -1,18 +1,12 @@
+-- The room's words put back are its sweep.
 use Rattle.gateway.proofs.CallLaws.{lapsed-at}
 use borrow.Rule.Slice.PartMut.{mid-len}
-use Rattle.gateway.proofs.WordLaws.{along, refuses, refuses-all, choice, no-circuit, a-circuit}
-use Rattle.gateway.specs.Words.{gatewayOf}
-use Rattle.common.specs.Common.{InRange}
-use Rattle.hello.specs.declared.refusal.Refusal.the-variants.{NoCircuit, NotRestarting, ClockBack}
-use Prim.Native.Nat.{ℕ, _+_, _-_, _*_, _≤_}
+use Prim.Native.Nat.{_+_, _-_, _*_}
 use native.Mathlib.Omega.{arith}
-use mathlib.Core.Path.{_≡_, refl, ap, sym, subst, _∙_}
+use mathlib.Core.Path.{_∙_}
 use borrow.Author.Needs.{needs}
 use Rattle.gateway.proofs.ticks.sweep_room.Statement.{statement}
 use Rattle.gateway.proofs.ticks.sweep_room.Tie as tie
-use Rattle.gateway.proofs.ticks.sweep_room.Reads as reads
-use Rattle.gateway.proofs.ticks.sweep_room.Lts as lts
-use Rattle.table.proofs.sweep.expire.Reads as expire-reads
 
 mul-a : tie.Need-mul-a
 mul-a c = search needs

@@ -1,26 +1,18 @@
+-- The invariant: what is swept before i and what is still to sweep make the whole sweep; so the marks.
 use Rattle.gateway.proofs.CallLaws.{gather-step, gather-end, length-bits}
 use Rattle.gateway.proofs.WordLaws.{length-rooms}
 use Rattle.gateway.specs.Words.{gatewayWords}
 use Rattle.model.specs.Step.{swept, lapsed}
 use Rattle.model.specs.Gateway.{withRooms, noRoom}
 use Rattle.timer_parts.specs.Mask.{bits}
-use lib.ListN.{length, take, drop, set, length-set}
-use mathlib.Core.List.{List, [], _++_, map}
-use Prim.Native.Nat.{_<_}
-use borrow.Rule.Slice.PartMut.{mid-len}
-use Rattle.gateway.proofs.WordLaws.{along, refuses, refuses-all, choice, no-circuit, a-circuit}
+use lib.ListN.{length, take, drop}
+use mathlib.Core.List.{_++_, map}
 use Rattle.gateway.specs.Words.{gatewayOf}
-use Rattle.common.specs.Common.{InRange}
-use Rattle.hello.specs.declared.refusal.Refusal.the-variants.{NoCircuit, NotRestarting, ClockBack}
-use Prim.Native.Nat.{ℕ, _+_, _-_, _*_, _≤_}
+use Prim.Native.Nat.{_+_, _-_, _≤_}
 use native.Mathlib.Omega.{arith}
-use mathlib.Core.Path.{_≡_, refl, ap, sym, subst, _∙_}
+use mathlib.Core.Path.{_≡_, refl, ap, sym, _∙_}
 use Rattle.gateway.proofs.ticks.sweep_rooms.Statement.{statement}
 use Rattle.gateway.proofs.ticks.sweep_rooms.Tie as tie
-use Rattle.gateway.proofs.ticks.sweep_rooms.Reads as reads
-use Rattle.gateway.proofs.ticks.sweep_rooms.Lts as lts
-use Rattle.gateway.proofs.ticks.sweep_room.Reads as sweep-room-reads
-use Rattle.timer_parts.proofs.mask.put_bit.Reads as put-bit-reads
 
 abbrev Inv-loop : tie.InvT-loop
 Inv-loop gateway₀ clock marks₀ i₀ gateway marks i =

@@ -1,17 +1,11 @@
+-- No circuit, refusal 10, or the rooms swept and the common words put back.
 use Rattle.timer_parts.specs.Mask.{bitsOf}
 use Rattle.gateway.proofs.CallLaws.{tick-none, tick-back, tick-took}
-use Prim.Native.Nat.{ℕ, _≤_, _<_}
 use native.Mathlib.Omega.{arith}
-use mathlib.Core.Path.{_≡_, refl, ap, sym, subst, _∙_}
+use mathlib.Core.Path.{_∙_}
 use borrow.Author.Needs.{needs}
 use Rattle.gateway.proofs.ticks.tick_in.Statement.{statement}
 use Rattle.gateway.proofs.ticks.tick_in.Tie as tie
-use Rattle.gateway.proofs.ticks.tick_in.Reads as reads
-use Rattle.gateway.proofs.ticks.tick_in.Lts as lts
-use Rattle.common.proofs.words.clock_of.Reads as clock-of-reads
-use Rattle.common.proofs.words.count_of.Reads as count-of-reads
-use Rattle.common_calls.proofs.calls.tick.Reads as tick-reads
-use Rattle.gateway.proofs.ticks.sweep_rooms.Reads as sweep-rooms-reads
 
 sub-count-of : tie.Need-sub-count-of
 sub-count-of c = search needs

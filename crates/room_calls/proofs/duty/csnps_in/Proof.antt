@@ -1,15 +1,10 @@
+-- Only line 1 asks the room.
 use Rattle.room_calls.proofs.SeatLaws.{csnps-by}
-use mathlib.Core.Bool.{Bool}
-use mathlib.Core.Path.{ap, _∙_}
 use Rattle.adjacency.specs.Duty.{csnpsOf}
 use Rattle.room_calls.specs.Seat.{csnpsIn}
 use borrow.Author.Needs.{needs}
 use Rattle.room_calls.proofs.duty.csnps_in.Statement.{statement}
 use Rattle.room_calls.proofs.duty.csnps_in.Tie as tie
-use Rattle.room_calls.proofs.duty.csnps_in.Reads as reads
-use Rattle.room_calls.proofs.duty.csnps_in.Lts as lts
-use Rattle.adjacency.proofs.duty.csnps_of.Reads as csnps-of-reads
-use Rattle.table.proofs.search.is_outranked.Reads as is-outranked-reads
 
 enum-told : tie.Need-enum-told
 enum-told c = search needs

@@ -1,11 +1,7 @@
-use mathlib.Core.Path.{ap, _∙_}
+-- The level of the link, then the key on the circuit.
 use borrow.Author.Needs.{needs}
 use Rattle.room_calls.proofs.keys.key_in.Statement.{statement}
 use Rattle.room_calls.proofs.keys.key_in.Tie as tie
-use Rattle.room_calls.proofs.keys.key_in.Reads as reads
-use Rattle.room_calls.proofs.keys.key_in.Lts as lts
-use Rattle.room_calls.proofs.keys.key_on.Reads as key-on-reads
-use Rattle.room_calls.proofs.keys.level_in.Reads as level-in-reads
 
 level-in-requires : tie.Need-level-in-requires
 level-in-requires c κs = search needs

@@ -1,10 +1,9 @@
+-- By the kind.
 use mathlib.Core.Path.{refl}
 use Rattle.room_calls.specs.Seat.{keyOn}
 use borrow.Author.Needs.{needs}
 use Rattle.room_calls.proofs.keys.key_on.Statement.{statement}
 use Rattle.room_calls.proofs.keys.key_on.Tie as tie
-use Rattle.room_calls.proofs.keys.key_on.Reads as reads
-use Rattle.room_calls.proofs.keys.key_on.Lts as lts
 
 enum-told : tie.Need-enum-told
 enum-told c = search needs

@@ -1,12 +1,10 @@
+-- Without a reply the buffer stays; else its octets are written.
 use mathlib.Core.Path.{_∙_}
 use Rattle.room_calls.proofs.SeatLaws.{written-send}
 use Rattle.room_calls.specs.Seat.{written}
 use borrow.Author.Needs.{needs}
 use Rattle.room_calls.proofs.seat.answer.Statement.{statement}
 use Rattle.room_calls.proofs.seat.answer.Tie as tie
-use Rattle.room_calls.proofs.seat.answer.Reads as reads
-use Rattle.room_calls.proofs.seat.answer.Lts as lts
-use Rattle.restart_tlv.proofs.writer.write_restart.Reads as write-restart-reads
 
 enum-known-what : tie.Need-enum-known-what
 enum-known-what c = search needs

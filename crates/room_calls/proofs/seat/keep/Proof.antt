@@ -1,12 +1,9 @@
+-- Without a record the room stays; else it is put in its place.
 use Rattle.room_calls.proofs.SeatLaws.{kept-absent, kept-present}
-use mathlib.Core.Path.{_≡_, refl, sym, subst, _∙_}
-use Rattle.room_calls.specs.Seat.{kept}
+use mathlib.Core.Path.{sym, _∙_}
 use borrow.Author.Needs.{needs}
 use Rattle.room_calls.proofs.seat.keep.Statement.{statement}
 use Rattle.room_calls.proofs.seat.keep.Tie as tie
-use Rattle.room_calls.proofs.seat.keep.Reads as reads
-use Rattle.room_calls.proofs.seat.keep.Lts as lts
-use Rattle.table.proofs.place.store_state.Reads as store-state-reads
 
 enum-known-after : tie.Need-enum-known-after
 enum-known-after c = search needs

@@ -1,16 +1,11 @@
-use mathlib.Core.Path.{_≡_, refl, sym, subst, _∙_}
+-- Refusal 8 passes, then refusal 9, then the record and the reply.
+use mathlib.Core.Path.{refl, sym, subst}
 use Rattle.table.specs.Place.{Spots}
-use Rattle.slots.specs.Slots.{tableOf}
-use Rattle.table.specs.Table.{crowded}
 use Rattle.room_calls.specs.Seat.{Did}
 use Rattle.room_calls.proofs.SeatLaws.{room-refused, room-full, room-free}
 use borrow.Author.Needs.{needs}
 use Rattle.room_calls.proofs.seat.seat_at.Statement.{statement}
 use Rattle.room_calls.proofs.seat.seat_at.Tie as tie
-use Rattle.room_calls.proofs.seat.seat_at.Reads as reads
-use Rattle.room_calls.proofs.seat.seat_at.Lts as lts
-use Rattle.room_calls.proofs.seat.answer.Reads as answer-reads
-use Rattle.room_calls.proofs.seat.keep.Reads as keep-reads
 
 enum-known-what : tie.Need-enum-known-what
 enum-known-what c = search needs

@@ -1,13 +1,9 @@
-use mathlib.Core.Path.{_≡_, refl, sym, subst, _∙_}
+-- The decision is that of the record that stood.
+use mathlib.Core.Path.{_∙_}
 use Rattle.room_calls.proofs.SeatLaws.{decided-is}
 use borrow.Author.Needs.{needs}
 use Rattle.room_calls.proofs.seat.seat_in.Statement.{statement}
 use Rattle.room_calls.proofs.seat.seat_in.Tie as tie
-use Rattle.room_calls.proofs.seat.seat_in.Reads as reads
-use Rattle.room_calls.proofs.seat.seat_in.Lts as lts
-use Rattle.adjacency.proofs.react.react_to.Reads as react-to-reads
-use Rattle.room_calls.proofs.seat.seat_at.Reads as seat-at-reads
-use Rattle.table.proofs.place.place_of.Reads as place-of-reads
 
 place-of-requires : tie.Need-place-of-requires
 place-of-requires c κs = search needs

@@ -1,14 +1,9 @@
+-- The measure alone.
 use native.Mathlib.Omega.{arith}
-use Prim.Native.Nat.{_-_, _≤_}
+use Prim.Native.Nat.{_-_}
 use borrow.Author.Needs.{needs}
 use Rattle.samples.proofs.rooms.c12.Statement.{statement}
 use Rattle.samples.proofs.rooms.c12.Tie as tie
-use Rattle.samples.proofs.rooms.c12.Reads as reads
-use Rattle.samples.proofs.rooms.c12.Lts as lts
-use Rattle.gateway.proofs.calls.tick.Reads as tick-reads
-use Rattle.samples.proofs.frames.start.Reads as start-reads
-use Rattle.samples.proofs.rooms.row.Reads as row-reads
-use Rattle.samples.proofs.rooms.send.Reads as send-reads
 
 abbrev Inv-loop : tie.InvT-loop
 Inv-loop gateway₀ i₀ t3 t4 gateway i = Unit {0}

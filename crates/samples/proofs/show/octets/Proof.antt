@@ -1,12 +1,10 @@
+-- The measure alone.
 use borrow.Author.Needs.{needs}
 use lib.ListN.{length}
-use Prim.Native.Nat.{_-_, _≤_}
+use Prim.Native.Nat.{_-_}
 use native.Mathlib.Omega.{arith}
 use Rattle.samples.proofs.show.octets.Statement.{statement}
 use Rattle.samples.proofs.show.octets.Tie as tie
-use Rattle.samples.proofs.show.octets.Reads as reads
-use Rattle.samples.proofs.show.octets.Lts as lts
-use Rattle.samples.proofs.show.octet.Reads as octet-reads
 
 abbrev Inv-loop : tie.InvT-loop
 Inv-loop reply i₀ i = Unit {0}

@@ -1,11 +1,9 @@
+-- The measure alone.
 use borrow.Author.Needs.{needs}
-use Prim.Native.Nat.{_-_, _≤_}
+use Prim.Native.Nat.{_-_}
 use native.Mathlib.Omega.{arith}
 use Rattle.samples.proofs.show.spaces.Statement.{statement}
 use Rattle.samples.proofs.show.spaces.Tie as tie
-use Rattle.samples.proofs.show.spaces.Reads as reads
-use Rattle.samples.proofs.show.spaces.Lts as lts
-use Rattle.samples.proofs.show.text.Reads as text-reads
 
 abbrev Inv-loop : tie.InvT-loop
 Inv-loop from to i₀ t4 i = Unit {0}

@@ -1,12 +1,9 @@
+-- The measure alone.
 use borrow.Author.Needs.{needs}
-use Prim.Native.Nat.{_-_, _≤_}
+use Prim.Native.Nat.{_-_}
 use native.Mathlib.Omega.{arith}
 use Rattle.samples.proofs.timing.deadline.Statement.{statement}
 use Rattle.samples.proofs.timing.deadline.Tie as tie
-use Rattle.samples.proofs.timing.deadline.Reads as reads
-use Rattle.samples.proofs.timing.deadline.Lts as lts
-use Rattle.gateway.proofs.calls.tick.Reads as tick-reads
-use Rattle.samples.proofs.timing.is_overload.Reads as is-overload-reads
 
 abbrev Inv-loop : tie.InvT-loop
 Inv-loop gateway₀ from clock₀ gateway clock = Unit {0}
