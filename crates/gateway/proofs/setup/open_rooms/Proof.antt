@@ -30,7 +30,7 @@ array-copy-out-one : tie.Need-array-copy-out-one Inv-loop μ-loop
 array-copy-out-one c = c .loop-test .taken
 
 open-at-requires : tie.Need-open-at-requires Inv-loop μ-loop
-open-at-requires c κs = (c .before .before .before .loop .inv .1, c .before .before .loop-test .taken)
+open-at-requires c κs = (c .before .before .before .loop .inv .1, omega arith)
 
 add-i : tie.Need-add-i Inv-loop μ-loop
 add-i c = omega arith

@@ -27,7 +27,7 @@ loop-holds : tie.Need-loop-holds Inv-loop μ-loop
 loop-holds c = (omega arith, c .before .pre, refl, refl)
 
 sweep-room-requires : tie.Need-sweep-room-requires Inv-loop μ-loop
-sweep-room-requires c κs = (c .before .before .loop .inv .1, c .before .loop-test .taken)
+sweep-room-requires c κs = (c .before .before .loop .inv .1, omega arith)
 
 put-bit-requires : tie.Need-put-bit-requires Inv-loop μ-loop
 put-bit-requires c κs = c .before .before .before .before .loop-test .taken
