@@ -1,0 +1,23 @@
+-- The laws of the numbers: a mask's number is the mask.
+use Prim.Native.Nat.{ℕ, zero, suc, _+_, _*_, _/_, _%_, _^_, _<_}
+use native.Mathlib.Omega.{arith}
+use native.Mathlib.Nat.{pow-suc}
+use mathlib.Core.Path.{_≡_, refl, ap, sym, _∙_}
+use mathlib.Core.Bool.{true, false}
+use lib.Dec.{eqb}
+use Rattle.timer_parts.specs.Mask.{bits, bitsOf}
+use Rattle.isis_gr.specs.Numbers.{bitNo, maskNo}
+
+digit : (d : ℕ) → d < 2 → bitNo (eqb d 1) ≡ d
+digit zero h = refl
+digit (suc zero) h = refl
+digit (suc (suc d)) h = absurd (omega arith)
+
+pub mask-bitsOf : (n m : ℕ) → m < 2 ^ n → maskNo (bitsOf n m) ≡ m
+unfolding bitsOf maskNo
+mask-bitsOf zero m h = omega arith
+mask-bitsOf (suc n) m h =
+    let p = pow-suc 2 n in
+    let d = digit (m % 2) (omega arith) in
+    let r = mask-bitsOf n (m / 2) (omega arith) in
+    omega arith

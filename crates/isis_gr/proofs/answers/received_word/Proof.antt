@@ -1,0 +1,40 @@
+use borrow.Author.Needs.{needs}
+use Rattle.isis_gr.proofs.answers.received_word.Statement.{statement}
+use Rattle.isis_gr.proofs.answers.received_word.Tie as tie
+use Rattle.isis_gr.proofs.answers.received_word.Reads as reads
+use Rattle.isis_gr.proofs.answers.received_word.Lts as lts
+use Rattle.hello.proofs.refusal.number_of.Reads as number-of-reads
+use Rattle.isis_gr.proofs.answers.orders_word.Reads as orders-word-reads
+
+enum-known-a : tie.Need-enum-known-a
+enum-known-a c = search needs
+
+number-of-requires : tie.Need-number-of-requires
+number-of-requires c κs = search needs
+
+cast-result : tie.Need-cast-result
+cast-result c = search needs
+
+enum-known-a-2 : tie.Need-enum-known-a-2
+enum-known-a-2 c = search needs
+
+orders-word-requires : tie.Need-orders-word-requires
+orders-word-requires c κs = search needs
+
+returns : tie.Need-returns
+returns c = search needs
+
+returns-2 : tie.Need-returns-2
+returns-2 c = rw (c .before .before .a2 .given .1) (c .orders-word .ensures)
+
+pub received-word-spec : {M : Type 1} → statement M
+received-word-spec =
+    tie.close
+    (tie.spec
+    enum-known-a
+    number-of-requires
+    cast-result
+    enum-known-a-2
+    orders-word-requires
+    returns
+    returns-2)

@@ -1,0 +1,21 @@
+use Rattle.isis_gr.proofs.TellsLaws.{tells}
+use borrow.Author.Needs.{needs}
+use Rattle.isis_gr.proofs.calls.isis_gr_raw_link_metric.Statement.{statement}
+use Rattle.isis_gr.proofs.calls.isis_gr_raw_link_metric.Tie as tie
+use Rattle.isis_gr.proofs.calls.isis_gr_raw_link_metric.Reads as reads
+use Rattle.isis_gr.proofs.calls.isis_gr_raw_link_metric.Lts as lts
+use Rattle.gateway.proofs.calls.link_metric.Reads as link-metric-reads
+use Rattle.isis_gr.proofs.answers.metric_word.Reads as metric-word-reads
+
+link-metric-requires : tie.Need-link-metric-requires
+link-metric-requires c κs = search needs
+
+metric-word-requires : tie.Need-metric-word-requires
+metric-word-requires c κs = search needs
+
+returns : tie.Need-returns
+returns c = tells (c .before .link-metric .ensures) (c .metric-word .ensures)
+
+pub isis-gr-raw-link-metric-spec : {M : Type 1} → statement M
+isis-gr-raw-link-metric-spec =
+    tie.close (tie.spec link-metric-requires metric-word-requires returns)

@@ -1,0 +1,25 @@
+use Rattle.isis_gr.proofs.TellsLaws.{tells-found}
+use borrow.Author.Needs.{needs}
+use Rattle.isis_gr.proofs.calls.isis_gr_raw_look_up.Statement.{statement}
+use Rattle.isis_gr.proofs.calls.isis_gr_raw_look_up.Tie as tie
+use Rattle.isis_gr.proofs.calls.isis_gr_raw_look_up.Reads as reads
+use Rattle.isis_gr.proofs.calls.isis_gr_raw_look_up.Lts as lts
+use Rattle.gateway.proofs.calls.look_up.Reads as look-up-reads
+use Rattle.isis_gr.proofs.answers.looked_word.Reads as looked-word-reads
+use Rattle.isis_gr.proofs.answers.write_found.Reads as write-found-reads
+
+look-up-requires : tie.Need-look-up-requires
+look-up-requires c κs = search needs
+
+write-found-requires : tie.Need-write-found-requires
+write-found-requires c κs = search needs
+
+looked-word-requires : tie.Need-looked-word-requires
+looked-word-requires c κs = search needs
+
+returns : tie.Need-returns
+returns c = tells-found (c .before .before .before .look-up .ensures) (c .looked-word .ensures) (c .before .write-found .ensures)
+
+pub isis-gr-raw-look-up-spec : {M : Type 1} → statement M
+isis-gr-raw-look-up-spec =
+    tie.close (tie.spec look-up-requires write-found-requires looked-word-requires returns)

@@ -1,0 +1,72 @@
+use native.Mathlib.Omega.{arith}
+use borrow.Author.Needs.{needs}
+use Rattle.isis_gr.proofs.numbers.reverse_number.Statement.{statement}
+use Rattle.isis_gr.proofs.numbers.reverse_number.Tie as tie
+use Rattle.isis_gr.proofs.numbers.reverse_number.Reads as reads
+use Rattle.isis_gr.proofs.numbers.reverse_number.Lts as lts
+use Rattle.isis_gr.proofs.numbers.bit.Reads as bit-reads
+
+enum-told : tie.Need-enum-told
+enum-told c = search needs
+
+enum-known-m : tie.Need-enum-known-m
+enum-known-m c = search needs
+
+bit-requires : tie.Need-bit-requires
+bit-requires c κs = search needs
+
+cast-result : tie.Need-cast-result
+cast-result c = search needs
+
+mul-result : tie.Need-mul-result
+mul-result c = search needs
+
+add-result : tie.Need-add-result
+add-result c = search needs
+
+bit-requires-2 : tie.Need-bit-requires-2
+bit-requires-2 c κs = search needs
+
+cast-result-2 : tie.Need-cast-result-2
+cast-result-2 c = search needs
+
+mul-result-2 : tie.Need-mul-result-2
+mul-result-2 c = search needs
+
+add-result-2 : tie.Need-add-result-2
+add-result-2 c = search needs
+
+cast-result-3 : tie.Need-cast-result-3
+cast-result-3 c = search needs
+
+mul-result-3 : tie.Need-mul-result-3
+mul-result-3 c = search needs
+
+add-result-3 : tie.Need-add-result-3
+add-result-3 c = search needs
+
+returns : tie.Need-returns
+returns c = search needs
+
+returns-2 : tie.Need-returns-2
+returns-2 c = (rw (c .before .before .before .m .given .1) (omega arith), omega arith)
+
+pub reverse-number-spec : {M : Type 1} → statement M
+reverse-number-spec =
+    tie.close
+    (tie.spec
+    enum-told
+    enum-known-m
+    bit-requires
+    cast-result
+    mul-result
+    add-result
+    bit-requires-2
+    cast-result-2
+    mul-result-2
+    add-result-2
+    cast-result-3
+    mul-result-3
+    add-result-3
+    returns
+    returns-2)

@@ -1,0 +1,134 @@
+-- The numbers that cross to C, case by case: what each part of an answer is as a number, and each answer as one word. The refusals'
+-- numbers and the flags are those of document 01 ("Refusals by number", "TLVs read"); the others and their places in the word are
+-- house. 0 is "done", and no code but a refusal's stands for anything else.
+use Prim.Native.Nat.{ℕ, _+_, _*_, _^_}
+use mathlib.Core.Bool.{Bool, true, false}
+use mathlib.Core.List.{List, [], _∷_}
+use Rattle.restart_tlv.specs.declared.flags.Flags.{Flags}
+use Rattle.hello.specs.Refusal.{refusalNo}
+use Rattle.hello.specs.declared.levels.Levels.{Levels}
+use Rattle.hello.specs.declared.reverse.ReverseMetric.{ReverseMetric}
+use Rattle.hello.specs.declared.reverse.ReverseMetric.the-variants.{Absent as NoReverse, Present as Reverse}
+use Rattle.adjacency.specs.declared.duty.Csnps.{Csnps}
+use Rattle.adjacency.specs.declared.duty.Csnps.the-variants.{Nothing, Ordered}
+use Rattle.adjacency.specs.declared.record.Adjacency.{Adjacency}
+use Rattle.adjacency.specs.declared.record.Adjacency.the-variants.{Absent, Present}
+use Rattle.adjacency.specs.declared.record.Data.{Data}
+use Rattle.adjacency.specs.declared.record.Mark.{Mark}
+use Rattle.adjacency.specs.declared.record.Mark.the-variants.{Clear as Unmarked, Restart, Planned}
+use Rattle.adjacency.specs.declared.record.State.{State}
+use Rattle.adjacency.specs.declared.record.State.the-variants.{Init, Up}
+use Rattle.timer_parts.specs.declared.t1.Freed.{Freed}
+use Rattle.timer_parts.specs.declared.t1.Freed.the-variants.{Kept, Stopped, Reinitialise}
+use Rattle.timers.specs.declared.outcome.Outcome.{Outcome}
+use Rattle.timers.specs.declared.outcome.Outcome.the-variants.{Idle, Goes, Ended}
+use Rattle.timers.specs.declared.outcome.Overload.{Overload}
+use Rattle.timers.specs.declared.outcome.Overload.the-variants.{Quiet, Set, Clear, Both}
+use Rattle.model.specs.declared.answers.Orders.{Orders}
+use Rattle.model.specs.Answers.{Answer, Refused, Received, Ticked, Told, Fact, Done, Noticed, Looked, Metric, HelloFlags, Waits, replyFlags, replyTime, lowestNo}
+use Rattle.model.specs.Gateway.{Setup, Declined, Started}
+
+-- ---- the parts
+
+abbrev pub bitNo : Bool → ℕ
+bitNo false = 0
+bitNo true = 1
+
+-- 1, 2, or 3 for both; 0 for none
+abbrev pub levelsNo : Levels → ℕ
+levelsNo l = bitNo (l .one) + 2 * bitNo (l .two)
+
+-- a mask over circuits, the lowest digit for circuit 1
+unfoldable pub maskNo : List Bool → ℕ
+maskNo [] = 0
+maskNo (b ∷ bs) = bitNo b + 2 * maskNo bs
+
+-- the levels of line 1's order
+abbrev pub csnpsNo : Csnps → ℕ
+csnpsNo Nothing = 0
+csnpsNo (Ordered l) = levelsNo l
+
+abbrev pub freedNo : Freed → ℕ
+freedNo Kept = 0
+freedNo Stopped = 1
+freedNo Reinitialise = 2
+
+abbrev pub overloadNo : Overload → ℕ
+overloadNo Quiet = 0
+overloadNo Set = 1
+overloadNo Clear = 2
+overloadNo Both = 3
+
+-- how the timers ended: two digits for the kind, two for the SPF's levels, two for overload
+abbrev pub outcomeNo : Outcome → ℕ
+outcomeNo Idle = 0
+outcomeNo (Goes spf overload) = 1 + 4 * levelsNo spf + 16 * overloadNo overload
+outcomeNo (Ended spf overload) = 2 + 4 * levelsNo spf + 16 * overloadNo overload
+
+abbrev pub markNo : Mark → ℕ
+markNo Unmarked = 0
+markNo Restart = 1
+markNo Planned = 2
+
+abbrev pub reverseNo : ReverseMetric → ℕ
+reverseNo NoReverse = 0
+reverseNo (Reverse offset whole unreachable) = 16 + 32 * bitNo whole + 64 * bitNo unreachable + 2 ^ 32 * offset
+
+-- what a look up tells of a record beside its expiry
+abbrev pub dataNo : Mark → Data → ℕ
+dataNo m d = markNo m + 4 * bitNo (d .suppressed) + 8 * bitNo (d .last .tlv) + 2 ^ 8 * d .last .priority + reverseNo (d .last .reverse)
+
+-- ---- the answers
+
+-- an accepted frame
+abbrev pub ordersNo : Orders → ℕ
+ordersNo o =
+    2 ^ 8 * replyFlags (o .reply) + 2 ^ 16 * csnpsNo (o .csnps) + 2 ^ 24 * freedNo (o .freed) + 2 ^ 32 * outcomeNo (o .outcome)
+    + 2 ^ 40 * replyTime (o .reply)
+
+-- a look up: none, INIT or UP
+abbrev pub stateNo : State → ℕ
+stateNo (Init d) = 1
+stateNo (Up d m) = 2
+
+abbrev pub adjacencyNo : Adjacency → ℕ
+adjacencyNo Absent = 0
+adjacencyNo (Present s) = stateNo s
+
+abbrev pub factNo : Fact → ℕ
+factNo Done = 0
+factNo (Noticed o) = 2 ^ 32 * outcomeNo o
+factNo (Looked a) = 2 ^ 8 * adjacencyNo a
+factNo (Metric n) = 2 ^ 32 * n
+factNo (HelloFlags f) = 2 ^ 8 * f .bits
+factNo (Waits count low) = count + 2 ^ 8 * lowestNo low
+
+-- "A refusal returns its number only"
+abbrev pub answerNo : Answer → ℕ
+answerNo (Refused x) = refusalNo x
+answerNo (Received o) = ordersNo o
+answerNo (Ticked marks hellos o) = 2 ^ 8 * maskNo marks + 2 ^ 16 * maskNo hellos + 2 ^ 32 * outcomeNo o
+answerNo (Told f) = factNo f
+
+abbrev pub setupNo : Setup → ℕ
+setupNo (Declined x) = refusalNo x
+setupNo (Started g hellos) = 2 ^ 8 * maskNo hellos
+
+-- ---- what a look up writes
+
+abbrev pub stateWords : State → List ℕ
+stateWords (Init d) = d .expiry ∷ dataNo Unmarked d ∷ []
+stateWords (Up d m) = d .expiry ∷ dataNo m d ∷ []
+
+-- the two words of a record that was found; they stay as they were where none was
+abbrev pub foundWords : Answer → List ℕ → List ℕ
+foundWords (Refused x) ws = ws
+foundWords (Received o) ws = ws
+foundWords (Ticked marks hellos o) ws = ws
+foundWords (Told Done) ws = ws
+foundWords (Told (Noticed o)) ws = ws
+foundWords (Told (Looked Absent)) ws = ws
+foundWords (Told (Looked (Present s))) ws = stateWords s
+foundWords (Told (Metric n)) ws = ws
+foundWords (Told (HelloFlags f)) ws = ws
+foundWords (Told (Waits count low)) ws = ws

@@ -1,0 +1,149 @@
+// Each answer as one word; specs/Numbers.antt gives it, case by case. The lowest octet is 0, or a refusal's number and then the word.
+use crate::numbers::FIFTH;
+use crate::numbers::FOURTH;
+use crate::numbers::SECOND;
+use crate::numbers::SIXTH;
+use crate::numbers::THIRD;
+use crate::numbers::csnps_number;
+use crate::numbers::data_number;
+use crate::numbers::freed_number;
+use crate::numbers::lowest_number;
+use crate::numbers::outcome_number;
+use crate::numbers::reply_flags;
+use crate::numbers::reply_time;
+use crate::numbers::state_number;
+use adjacency::record::Mark;
+use adjacency::record::State;
+use hello::refusal::number_of;
+use model::answers::Looked;
+use model::answers::Metric;
+use model::answers::NextFlags;
+use model::answers::Noticed;
+use model::answers::Orders;
+use model::answers::Received;
+use model::answers::Released;
+use model::answers::SetUp;
+use model::answers::Ticked;
+use model::answers::Waiting;
+ghost use mathlib.Core.Path.{_≡_};
+ghost use Prim.Native.Nat.{_≤_};
+ghost use lib.ListN.{length};
+ghost use Rattle.model.specs.Answers.{receivedOf, tickedOf, releasedOf, noticedOf, lookedOf, metricOf, flagsOf, waitingOf};
+ghost use Rattle.isis_gr.specs.Numbers.{ordersNo, answerNo, stateWords, foundWords};
+
+fn orders_word(o: Orders) -> u64
+    ensures { λ r. ⌜ r ≡ ordersNo o ⌝ }
+{
+    let reply = o.reply;
+    let csnps = o.csnps;
+    let freed = o.freed;
+    let outcome = o.outcome;
+    let first = SECOND * reply_flags(reply) as u64
+        + THIRD * csnps_number(csnps) as u64
+        + FOURTH * freed_number(freed) as u64;
+    first + FIFTH * outcome_number(outcome) as u64 + SIXTH * reply_time(reply) as u64
+}
+
+pub fn received_word(a: Received) -> u64
+    ensures { λ r. ⌜ r ≡ answerNo (receivedOf a) ⌝ }
+{
+    match a {
+        Received::Refused(x) => number_of(x) as u64,
+        Received::Done(o) => orders_word(o),
+    }
+}
+
+pub fn ticked_word(a: Ticked) -> u64
+    ensures { λ r. ⌜ r ≡ answerNo (tickedOf a) ⌝ }
+{
+    match a {
+        Ticked::Refused(x) => number_of(x) as u64,
+        Ticked::Done {
+            marks,
+            hellos,
+            outcome,
+        } => SECOND * marks as u64 + THIRD * hellos as u64 + FIFTH * outcome_number(outcome) as u64,
+    }
+}
+
+pub fn released_word(a: Released) -> u32
+    ensures { λ r. ⌜ r ≡ answerNo (releasedOf a) ⌝ }
+{
+    match a {
+        Released::Refused(x) => number_of(x) as u32,
+        Released::Done => 0,
+    }
+}
+
+pub fn noticed_word(a: Noticed) -> u64
+    ensures { λ r. ⌜ r ≡ answerNo (noticedOf a) ⌝ }
+{
+    match a {
+        Noticed::Refused(x) => number_of(x) as u64,
+        Noticed::Done(outcome) => FIFTH * outcome_number(outcome) as u64,
+    }
+}
+
+pub fn looked_word(a: Looked) -> u32
+    ensures { λ r. ⌜ r ≡ answerNo (lookedOf a) ⌝ }
+{
+    match a {
+        Looked::Refused(x) => number_of(x) as u32,
+        Looked::Nothing => 0,
+        Looked::Found(s) => 256 * state_number(s) as u32,
+    }
+}
+
+pub fn metric_word(a: Metric) -> u64
+    ensures { λ r. ⌜ r ≡ answerNo (metricOf a) ⌝ }
+{
+    match a {
+        Metric::Refused(x) => number_of(x) as u64,
+        Metric::Link(n) => FIFTH * n as u64,
+    }
+}
+
+pub fn flags_word(a: NextFlags) -> u32
+    ensures { λ r. ⌜ r ≡ answerNo (flagsOf a) ⌝ }
+{
+    match a {
+        NextFlags::Refused(x) => number_of(x) as u32,
+        NextFlags::Next(f) => 256 * f.bits as u32,
+    }
+}
+
+pub fn waiting_word(a: Waiting) -> u32
+    requires { ⌜ a .count ≤ 8 ⌝ }
+    ensures { λ r. ⌜ r ≡ answerNo (waitingOf a) ⌝ }
+{
+    let low = a.lowest;
+    a.count + 256 * lowest_number(low) as u32
+}
+
+fn write_state(out: &mut [u64], s: State)
+    requires { ⌜ length (now out) ≡ 2 ⌝ }
+    ensures { λ _. ⌜ now (out .exit) ≡ stateWords s ⌝ }
+{
+    match s {
+        State::Init(d) => {
+            out[0] = d.expiry;
+            out[1] = data_number(Mark::Clear, d);
+        }
+        State::Up(d, m) => {
+            out[0] = d.expiry;
+            out[1] = data_number(m, d);
+        }
+    }
+}
+
+// The words of the record that a look up found; nothing, where it found none.
+pub fn write_found(out: &mut [u64], a: Looked)
+    requires { ⌜ length (now out) ≡ 2 ⌝ }
+    ensures { λ _. ⌜ now (out .exit) ≡ foundWords (lookedOf a) (now (out .entry)) ⌝ }
+{
+    match a {
+        Looked::Refused(_) => {}
+        Looked::Nothing => {}
+        Looked::Found(s) => write_state(out, s),
+    }
+}

@@ -1,0 +1,122 @@
+// The calls of crate gateway, each with its answer as one word (specs/Numbers.antt): the lowest octet is 0, or a refusal's number and then
+// the whole word. A refusal leaves every lent word and octet as it was.
+use crate::answers::flags_word;
+use crate::answers::looked_word;
+use crate::answers::metric_word;
+use crate::answers::noticed_word;
+use crate::answers::received_word;
+use crate::answers::released_word;
+use crate::answers::ticked_word;
+use crate::answers::waiting_word;
+use crate::answers::write_found;
+use gateway::calls::GATEWAY_WORDS;
+use gateway::calls::csnp_complete;
+use gateway::calls::database_complete;
+use gateway::calls::link_metric;
+use gateway::calls::look_up;
+use gateway::calls::next_hello_flags;
+use gateway::calls::receive;
+use gateway::calls::release;
+use gateway::calls::tick;
+use gateway::calls::waiting_circuits;
+ghost use mathlib.Core.Path.{_≡_};
+ghost use mathlib.Core.List.{[]};
+ghost use Rattle.tlv.specs.Octets.{big};
+ghost use Rattle.model.specs.Step.{step, At, Over, Receive, Tick, Release, CsnpComplete, DatabaseComplete, LookUp, LinkMetric, NextHello, Waiting};
+ghost use Rattle.gateway.specs.Words.{gatewayWords, gatewayOf, keyGiven};
+ghost use Rattle.isis_gr.specs.Tells.{Tells, TellsFound};
+
+// How many words of memory a caller lends.
+#[no_mangle]
+pub extern "C" fn isis_gr_raw_gateway_words() -> u32
+    ensures { λ r. ⌜ r ≡ gatewayWords ⌝ }
+{
+    GATEWAY_WORDS as u32
+}
+
+#[no_mangle]
+pub extern "C" fn isis_gr_raw_receive(
+    gateway: &mut [u64; GATEWAY_WORDS],
+    circuit: u8,
+    source: &[u8; 6],
+    frame: &[u8],
+    reply: &mut [u8],
+) -> u64
+    ensures { λ r. ⌜ Tells r (step (gatewayOf (now (gateway .entry))) (At circuit (Receive (big 6 (now (source .entry)) 0) (now (frame .entry)) (now (reply .entry))))) (now (gateway .entry)) (now (gateway .exit)) (now (reply .exit)) ⌝ }
+{
+    received_word(receive(gateway, circuit, source, frame, reply))
+}
+
+#[no_mangle]
+pub extern "C" fn isis_gr_raw_tick(gateway: &mut [u64; GATEWAY_WORDS], clock: u32) -> u64
+    ensures { λ r. ⌜ Tells r (step (gatewayOf (now (gateway .entry))) (Over (Tick clock))) (now (gateway .entry)) (now (gateway .exit)) [] ⌝ }
+{
+    ticked_word(tick(gateway, clock))
+}
+
+#[no_mangle]
+pub extern "C" fn isis_gr_raw_release(gateway: &mut [u64; GATEWAY_WORDS], circuit: u8) -> u32
+    ensures { λ r. ⌜ Tells r (step (gatewayOf (now (gateway .entry))) (At circuit Release)) (now (gateway .entry)) (now (gateway .exit)) [] ⌝ }
+{
+    released_word(release(gateway, circuit))
+}
+
+#[no_mangle]
+pub extern "C" fn isis_gr_raw_csnp_complete(
+    gateway: &mut [u64; GATEWAY_WORDS],
+    circuit: u8,
+    level: u8,
+) -> u64
+    ensures { λ r. ⌜ Tells r (step (gatewayOf (now (gateway .entry))) (At circuit (CsnpComplete level))) (now (gateway .entry)) (now (gateway .exit)) [] ⌝ }
+{
+    noticed_word(csnp_complete(gateway, circuit, level))
+}
+
+#[no_mangle]
+pub extern "C" fn isis_gr_raw_database_complete(
+    gateway: &mut [u64; GATEWAY_WORDS],
+    level: u8,
+) -> u64
+    ensures { λ r. ⌜ Tells r (step (gatewayOf (now (gateway .entry))) (Over (DatabaseComplete level))) (now (gateway .entry)) (now (gateway .exit)) [] ⌝ }
+{
+    noticed_word(database_complete(gateway, level))
+}
+
+// The record's two words are its expiry and its data.
+#[no_mangle]
+pub extern "C" fn isis_gr_raw_look_up(
+    gateway: &[u64; GATEWAY_WORDS],
+    circuit: u8,
+    level: u8,
+    system: &[u8; 6],
+    mac: &[u8; 6],
+    found: &mut [u64; 2],
+) -> u32
+    ensures { λ r. ⌜ TellsFound r (step (gatewayOf (now (gateway .entry))) (At circuit (LookUp (keyGiven level (now (system .entry)) (now (mac .entry)))))) (now (gateway .entry)) (now (found .entry)) (now (found .exit)) ⌝ }
+{
+    let a = look_up(gateway, circuit, level, system, mac);
+    write_found(found, a);
+    looked_word(a)
+}
+
+#[no_mangle]
+pub extern "C" fn isis_gr_raw_link_metric(gateway: &[u64; GATEWAY_WORDS], circuit: u8) -> u64
+    ensures { λ r. ⌜ Tells r (step (gatewayOf (now (gateway .entry))) (At circuit LinkMetric)) (now (gateway .entry)) (now (gateway .entry)) [] ⌝ }
+{
+    metric_word(link_metric(gateway, circuit))
+}
+
+#[no_mangle]
+pub extern "C" fn isis_gr_raw_next_hello_flags(gateway: &[u64; GATEWAY_WORDS], circuit: u8) -> u32
+    ensures { λ r. ⌜ Tells r (step (gatewayOf (now (gateway .entry))) (At circuit NextHello)) (now (gateway .entry)) (now (gateway .entry)) [] ⌝ }
+{
+    flags_word(next_hello_flags(gateway, circuit))
+}
+
+// The lowest octet is the count, since this call is never refused.
+#[no_mangle]
+pub extern "C" fn isis_gr_raw_waiting(gateway: &[u64; GATEWAY_WORDS]) -> u32
+    ensures { λ r. ⌜ Tells r (step (gatewayOf (now (gateway .entry))) (Over Waiting)) (now (gateway .entry)) (now (gateway .entry)) [] ⌝ }
+{
+    waiting_word(waiting_circuits(gateway))
+}

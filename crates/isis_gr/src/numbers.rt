@@ -1,0 +1,163 @@
+// The parts of an answer as numbers; specs/Numbers.antt gives each, case by case.
+use adjacency::duty::Csnps;
+use adjacency::marks::Acknowledgement;
+use adjacency::record::Data;
+use adjacency::record::Mark;
+use adjacency::record::State;
+use hello::levels::Levels;
+use hello::reverse::ReverseMetric;
+use restart_tlv::flags::Flags;
+use restart_tlv::writer::Ack;
+use timer_parts::mask::Lowest;
+use timer_parts::t1::Freed;
+use timers::outcome::Outcome;
+use timers::outcome::Overload;
+ghost use mathlib.Core.Path.{_≡_};
+ghost use Prim.Native.Nat.{_+_, _^_, _≤_, _<_};
+ghost use Rattle.restart_tlv.specs.Restart.{ackFlag};
+ghost use Rattle.model.specs.Answers.{replyFlags, replyTime, lowestNo};
+ghost use Rattle.isis_gr.specs.Numbers.{bitNo, levelsNo, csnpsNo, freedNo, overloadNo, outcomeNo, markNo, reverseNo, dataNo, stateNo};
+
+// The first digit of each octet of a word, from the second on.
+pub const SECOND: u64 = 256;
+
+pub const THIRD: u64 = 65536;
+
+pub const FOURTH: u64 = 16777216;
+
+pub const FIFTH: u64 = 4294967296;
+
+pub const SIXTH: u64 = 1099511627776;
+
+fn bit(b: bool) -> u8
+    ensures { λ r. ⌜ (r ≡ bitNo b) × (r ≤ 1) ⌝ }
+{
+    if b { 1 } else { 0 }
+}
+
+fn levels_number(l: Levels) -> u8
+    ensures { λ r. ⌜ (r ≡ levelsNo l) × (r ≤ 3) ⌝ }
+{
+    bit(l.one) + 2 * bit(l.two)
+}
+
+pub fn csnps_number(c: Csnps) -> u8
+    ensures { λ r. ⌜ r ≡ csnpsNo c ⌝ }
+{
+    match c {
+        Csnps::Nothing => 0,
+        Csnps::Ordered(l) => levels_number(l),
+    }
+}
+
+pub fn freed_number(f: Freed) -> u8
+    ensures { λ r. ⌜ r ≡ freedNo f ⌝ }
+{
+    match f {
+        Freed::Kept => 0,
+        Freed::Stopped => 1,
+        Freed::Reinitialise => 2,
+    }
+}
+
+fn overload_number(o: Overload) -> u8
+    ensures { λ r. ⌜ (r ≡ overloadNo o) × (r ≤ 3) ⌝ }
+{
+    match o {
+        Overload::Quiet => 0,
+        Overload::Set => 1,
+        Overload::Clear => 2,
+        Overload::Both => 3,
+    }
+}
+
+pub fn outcome_number(o: Outcome) -> u8
+    ensures { λ r. ⌜ r ≡ outcomeNo o ⌝ }
+{
+    match o {
+        Outcome::Idle => 0,
+        Outcome::Goes { spf, overload } => 1
+            + 4 * levels_number(spf)
+            + 16 * overload_number(overload),
+        Outcome::Ended { spf, overload } => 2
+            + 4 * levels_number(spf)
+            + 16 * overload_number(overload),
+    }
+}
+
+fn ack_flags(ack: Ack) -> u8
+    ensures { λ r. ⌜ r ≡ ackFlag ack ⌝ }
+{
+    match ack {
+        Ack::Restart => Flags::RA.bits,
+        Ack::Planned => Flags::PA.bits,
+    }
+}
+
+pub fn reply_flags(a: Acknowledgement) -> u8
+    ensures { λ r. ⌜ r ≡ replyFlags a ⌝ }
+{
+    match a {
+        Acknowledgement::Nothing => 0,
+        Acknowledgement::Send(ack, _) => ack_flags(ack),
+    }
+}
+
+pub fn reply_time(a: Acknowledgement) -> u16
+    ensures { λ r. ⌜ r ≡ replyTime a ⌝ }
+{
+    match a {
+        Acknowledgement::Nothing => 0,
+        Acknowledgement::Send(_, time) => time,
+    }
+}
+
+pub fn lowest_number(low: Lowest) -> u8
+    ensures { λ r. ⌜ r ≡ lowestNo low ⌝ }
+{
+    match low {
+        Lowest::Circuit(n) => n,
+        Lowest::Nothing => 0,
+    }
+}
+
+fn mark_number(m: Mark) -> u8
+    ensures { λ r. ⌜ (r ≡ markNo m) × (r ≤ 2) ⌝ }
+{
+    match m {
+        Mark::Clear => 0,
+        Mark::Restart => 1,
+        Mark::Planned => 2,
+    }
+}
+
+fn reverse_number(m: ReverseMetric) -> u64
+    ensures { λ r. ⌜ (r ≡ reverseNo m) × (r + 2 ^ 31 < 2 ^ 64) ⌝ }
+{
+    match m {
+        ReverseMetric::Absent => 0,
+        ReverseMetric::Present {
+            offset,
+            whole,
+            unreachable,
+        } => 16 + 32 * bit(whole) as u64 + 64 * bit(unreachable) as u64 + FIFTH * offset as u64,
+    }
+}
+
+pub fn data_number(m: Mark, d: Data) -> u64
+    ensures { λ r. ⌜ r ≡ dataNo m d ⌝ }
+{
+    let last = d.last;
+    let reverse = last.reverse;
+    let marks = mark_number(m) + 4 * bit(d.suppressed) + 8 * bit(last.tlv);
+    marks as u64 + SECOND * last.priority as u64 + reverse_number(reverse)
+}
+
+pub fn state_number(s: State) -> u8
+    ensures { λ r. ⌜ r ≡ stateNo s ⌝ }
+{
+    match s {
+        State::Init(_) => 1,
+        State::Up(_, _) => 2,
+    }
+}
