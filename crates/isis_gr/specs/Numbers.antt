@@ -1,11 +1,14 @@
 -- The numbers that cross to C, case by case: what each part of an answer is as a number, and each answer as one word. The refusals'
 -- numbers and the flags are those of document 01 ("Refusals by number", "TLVs read"); the others and their places in the word are
 -- house. 0 is "done", and no code but a refusal's stands for anything else.
-use Prim.Native.Nat.{ℕ, _+_, _*_, _^_}
-use mathlib.Core.Bool.{Bool, true, false}
+use Prim.Native.Nat.{ℕ, _+_, _*_, _/_, _%_, _^_}
+use mathlib.Core.Bool.{Bool, true, false, cond}
 use mathlib.Core.List.{List, [], _∷_}
+use lib.Dec.{eqb, ltb}
 use Rattle.restart_tlv.specs.declared.flags.Flags.{Flags}
 use Rattle.hello.specs.Refusal.{refusalNo}
+use Rattle.hello.specs.declared.header.CircuitKind.{CircuitKind}
+use Rattle.hello.specs.declared.header.CircuitKind.the-variants.{Lan, P2p}
 use Rattle.hello.specs.declared.levels.Levels.{Levels}
 use Rattle.hello.specs.declared.reverse.ReverseMetric.{ReverseMetric}
 use Rattle.hello.specs.declared.reverse.ReverseMetric.the-variants.{Absent as NoReverse, Present as Reverse}
@@ -20,13 +23,15 @@ use Rattle.adjacency.specs.declared.record.State.{State}
 use Rattle.adjacency.specs.declared.record.State.the-variants.{Init, Up}
 use Rattle.timer_parts.specs.declared.t1.Freed.{Freed}
 use Rattle.timer_parts.specs.declared.t1.Freed.the-variants.{Kept, Stopped, Reinitialise}
+use Rattle.timers.specs.declared.head.Mode.{Mode}
+use Rattle.timers.specs.declared.head.Mode.the-variants.{Running, Restarting}
 use Rattle.timers.specs.declared.outcome.Outcome.{Outcome}
 use Rattle.timers.specs.declared.outcome.Outcome.the-variants.{Idle, Goes, Ended}
 use Rattle.timers.specs.declared.outcome.Overload.{Overload}
 use Rattle.timers.specs.declared.outcome.Overload.the-variants.{Quiet, Set, Clear, Both}
 use Rattle.model.specs.declared.answers.Orders.{Orders}
 use Rattle.model.specs.Answers.{Answer, Refused, Received, Ticked, Told, Fact, Done, Noticed, Looked, Metric, HelloFlags, Waits, replyFlags, replyTime, lowestNo}
-use Rattle.model.specs.Gateway.{Setup, Declined, Started}
+use Rattle.gateway.specs.Setup.{Report, Denied, Begun}
 
 -- ---- the parts
 
@@ -110,9 +115,10 @@ answerNo (Received o) = ordersNo o
 answerNo (Ticked marks hellos o) = 2 ^ 8 * maskNo marks + 2 ^ 16 * maskNo hellos + 2 ^ 32 * outcomeNo o
 answerNo (Told f) = factNo f
 
-abbrev pub setupNo : Setup → ℕ
-setupNo (Declined x) = refusalNo x
-setupNo (Started g hellos) = 2 ^ 8 * maskNo hellos
+-- setup
+abbrev pub reportNo : Report → ℕ
+reportNo (Denied x) = refusalNo x
+reportNo (Begun hellos) = 2 ^ 8 * maskNo hellos
 
 -- ---- what a look up writes
 
@@ -132,3 +138,26 @@ foundWords (Told (Looked (Present s))) ws = stateWords s
 foundWords (Told (Metric n)) ws = ws
 foundWords (Told (HelloFlags f)) ws = ws
 foundWords (Told (Waits count low)) ws = ws
+
+-- ---- what is given to setup
+
+-- 0 Running, 1 Restarting
+abbrev pub modeOf : ℕ → Mode
+modeOf n = cond (eqb n 1) Restarting Running
+
+abbrev pub modeKnown : ℕ → Bool
+modeKnown n = ltb n 2
+
+-- 0 LAN, 1 P2P; a number that is not known counts as a LAN where it is not looked at
+abbrev pub kindOf : ℕ → CircuitKind
+kindOf n = cond (eqb n 1) P2p Lan
+
+abbrev pub kindKnown : ℕ → Bool
+kindKnown n = ltb n 2
+
+-- 1, 2, or 3 for both, by the two low digits; 0, no level, is out of range
+abbrev pub levelsOf : ℕ → Levels
+levelsOf n = record { one = eqb (n % 2) 1; two = eqb (n / 2 % 2) 1 }
+
+abbrev pub levelsKnown : ℕ → Bool
+levelsKnown n = ltb n 4

@@ -29,7 +29,8 @@ ghost use mathlib.Core.Path.{_≡_};
 ghost use Prim.Native.Nat.{_≤_};
 ghost use lib.ListN.{length};
 ghost use Rattle.model.specs.Answers.{receivedOf, tickedOf, releasedOf, noticedOf, lookedOf, metricOf, flagsOf, waitingOf};
-ghost use Rattle.isis_gr.specs.Numbers.{ordersNo, answerNo, stateWords, foundWords};
+ghost use Rattle.gateway.specs.Setup.{reportOf};
+ghost use Rattle.isis_gr.specs.Numbers.{ordersNo, answerNo, reportNo, stateWords, foundWords};
 
 fn orders_word(o: Orders) -> u64
     ensures { λ r. ⌜ r ≡ ordersNo o ⌝ }
@@ -118,6 +119,15 @@ pub fn waiting_word(a: Waiting) -> u32
 {
     let low = a.lowest;
     a.count + 256 * lowest_number(low) as u32
+}
+
+pub fn set_up_word(a: SetUp) -> u32
+    ensures { λ r. ⌜ r ≡ reportNo (reportOf a) ⌝ }
+{
+    match a {
+        SetUp::Refused(x) => number_of(x) as u32,
+        SetUp::Done(hellos) => 256 * hellos as u32,
+    }
 }
 
 fn write_state(out: &mut [u64], s: State)

@@ -6,9 +6,13 @@ use crate::answers::metric_word;
 use crate::answers::noticed_word;
 use crate::answers::received_word;
 use crate::answers::released_word;
+use crate::answers::set_up_word;
 use crate::answers::ticked_word;
 use crate::answers::waiting_word;
 use crate::answers::write_found;
+use crate::config::SETTINGS_OCTETS;
+use crate::config::are_settings_known;
+use crate::config::settings_in;
 use gateway::calls::GATEWAY_WORDS;
 use gateway::calls::csnp_complete;
 use gateway::calls::database_complete;
@@ -17,14 +21,18 @@ use gateway::calls::look_up;
 use gateway::calls::next_hello_flags;
 use gateway::calls::receive;
 use gateway::calls::release;
+use gateway::calls::set_up;
 use gateway::calls::tick;
 use gateway::calls::waiting_circuits;
+use hello::refusal::Refusal;
+use model::answers::SetUp;
 ghost use mathlib.Core.Path.{_≡_};
 ghost use mathlib.Core.List.{[]};
 ghost use Rattle.tlv.specs.Octets.{big};
 ghost use Rattle.model.specs.Step.{step, At, Over, Receive, Tick, Release, CsnpComplete, DatabaseComplete, LookUp, LinkMetric, NextHello, Waiting};
 ghost use Rattle.gateway.specs.Words.{gatewayWords, gatewayOf, keyGiven};
 ghost use Rattle.isis_gr.specs.Tells.{Tells, TellsFound};
+ghost use Rattle.isis_gr.specs.Settings.{setupFrom, TellsSetup};
 
 // How many words of memory a caller lends.
 #[no_mangle]
@@ -32,6 +40,20 @@ pub extern "C" fn isis_gr_raw_gateway_words() -> u32
     ensures { λ r. ⌜ r ≡ gatewayWords ⌝ }
 {
     GATEWAY_WORDS as u32
+}
+
+// The settings' octets stand as specs/Settings.antt says; a number that is not known there is refused (12).
+#[no_mangle]
+pub extern "C" fn isis_gr_raw_set_up(
+    gateway: &mut [u64; GATEWAY_WORDS],
+    settings: &[u8; SETTINGS_OCTETS],
+) -> u32
+    ensures { λ r. ⌜ TellsSetup r (setupFrom (now (settings .entry))) (now (gateway .entry)) (now (gateway .exit)) ⌝ }
+{
+    if are_settings_known(settings) {
+        return set_up_word(set_up(gateway, settings_in(settings)));
+    }
+    set_up_word(SetUp::Refused(Refusal::BadSetting))
 }
 
 #[no_mangle]

@@ -4,3 +4,4 @@
 pub mod calls; // calls.rt: the calls
 mod numbers; // numbers.rt: the parts of an answer as numbers
 mod answers; // answers.rt: each answer as one word
+mod config; // config.rt: the settings of setup from octets

@@ -1,0 +1,64 @@
+-- The laws of setup from octets: the test of the circuits' numbers, circuit by circuit, and what setup on octets comes to.
+use Prim.Native.Nat.{ℕ, _+_, _<_, _≤_}
+use native.Mathlib.Omega.{arith}
+use mathlib.Core.Path.{_≡_, refl, ap, sym, _∙_}
+use mathlib.Core.Bool.{true, false, _&&_}
+use mathlib.Core.List.{List}
+use lib.ListN.{getD, take, drop}
+use lib.Seq.{take-all}
+use Rattle.tlv.specs.Octets.{octet}
+use Rattle.hello.specs.declared.refusal.Refusal.the-variants.{BadSetting}
+use Rattle.slots.proofs.SlotLaws.{getD-tabulate}
+use Rattle.settings.specs.Settings.{every}
+use Rattle.settings.specs.declared.setup.Settings.{Settings}
+use Rattle.settings.proofs.SettingsLaws.{every-here, every-skip, every-end}
+use Rattle.model.specs.Gateway.{setup}
+use Rattle.model.specs.declared.answers.SetUp.{SetUp}
+use Rattle.gateway.specs.Setup.{Denied, SetsUp, reportOf}
+use Rattle.isis_gr.specs.Numbers.{reportNo, modeKnown}
+use Rattle.isis_gr.specs.Settings.{circuitPlace, circuitPlaces, circuitKnown, settingsFrom, settingsKnown, setupFrom, TellsSetup}
+
+-- ---- the circuits' numbers
+
+module _ (s : List ℕ) (count i : ℕ) (le : count ≤ 8) where
+  pub known-end : count ≤ i → every (circuitKnown s) (drop i (take count circuitPlaces)) ≡ true
+  known-end h = every-end (circuitKnown s) count circuitPlaces i le h
+
+  module _ (lt : i < count) where
+    place : circuitKnown s (circuitPlace i) ≡ circuitKnown s (getD circuitPlaces i 0)
+    place = ap (circuitKnown s) (sym (getD-tabulate circuitPlace 8 i 0 (omega arith)))
+
+    pub known-here : circuitKnown s (circuitPlace i) ≡ false → every (circuitKnown s) (drop i (take count circuitPlaces)) ≡ false
+    known-here e = every-here (circuitKnown s) count circuitPlaces i le 0 lt (sym place ∙ e)
+
+    pub known-skip : circuitKnown s (circuitPlace i) ≡ true
+        → every (circuitKnown s) (drop i (take count circuitPlaces)) ≡ every (circuitKnown s) (drop (i + 1) (take count circuitPlaces))
+    known-skip e = every-skip (circuitKnown s) count circuitPlaces i le 0 lt (sym place ∙ e)
+
+-- ---- all numbers
+
+module _ (s : List ℕ) where
+  pub unknown-mode : modeKnown (octet s 15) ≡ false → settingsKnown s ≡ false
+  unfolding settingsKnown
+  unknown-mode e = rw e refl
+
+  module _ (e : modeKnown (octet s 15) ≡ true) (count : ℕ) (is : count ≡ octet s 16) where
+    pub known-first : every (circuitKnown s) (take count circuitPlaces) ≡ settingsKnown s
+    unfolding settingsKnown
+    known-first = rw (e, is) refl
+
+    pub known-all : 8 ≤ count → every (circuitKnown s) (take 8 circuitPlaces) ≡ settingsKnown s
+    known-all h = ap (every (circuitKnown s)) (sym (take-all count circuitPlaces h)) ∙ known-first
+
+-- ---- setup
+
+module _ (s : List ℕ) {w : ℕ} {ws : List ℕ} where
+  pub tells-known : {g : Settings} {ws′ : List ℕ} {r : SetUp} → settingsKnown s ≡ true → g ≡ settingsFrom s → SetsUp (setup g) ws ws′ r
+      → w ≡ reportNo (reportOf r) → TellsSetup w (setupFrom s) ws ws′
+  unfolding setupFrom
+  tells-known e f m q =
+      rw (e, ← f) (record { number = q ∙ ap reportNo (m .answer); next = m .next; kept = λ x y. m .kept x (m .answer ∙ y) })
+
+  pub tells-unknown : settingsKnown s ≡ false → w ≡ reportNo (Denied BadSetting) → TellsSetup w (setupFrom s) ws ws
+  unfolding setupFrom
+  tells-unknown e q = rw e (record { number = q; next = refl; kept = λ x y. refl })

@@ -1,0 +1,45 @@
+use Rattle.isis_gr.proofs.NumberLaws.{mask-bitsOf}
+use native.Mathlib.Omega.{arith}
+use borrow.Author.Needs.{needs}
+use Rattle.isis_gr.proofs.answers.set_up_word.Statement.{statement}
+use Rattle.isis_gr.proofs.answers.set_up_word.Tie as tie
+use Rattle.isis_gr.proofs.answers.set_up_word.Reads as reads
+use Rattle.isis_gr.proofs.answers.set_up_word.Lts as lts
+use Rattle.hello.proofs.refusal.number_of.Reads as number-of-reads
+
+enum-known-a : tie.Need-enum-known-a
+enum-known-a c = search needs
+
+number-of-requires : tie.Need-number-of-requires
+number-of-requires c κs = search needs
+
+cast-result : tie.Need-cast-result
+cast-result c = search needs
+
+enum-known-a-2 : tie.Need-enum-known-a-2
+enum-known-a-2 c = search needs
+
+cast-result-2 : tie.Need-cast-result-2
+cast-result-2 c = search needs
+
+mul-result : tie.Need-mul-result
+mul-result c = search needs
+
+returns : tie.Need-returns
+returns c = search needs
+
+returns-2 : tie.Need-returns-2
+returns-2 c = let h = mask-bitsOf 8 (c .before .a2 .given .0 .0) (omega arith) in rw (c .before .a2 .given .1) (omega arith)
+
+pub set-up-word-spec : {M : Type 1} → statement M
+set-up-word-spec =
+    tie.close
+    (tie.spec
+    enum-known-a
+    number-of-requires
+    cast-result
+    enum-known-a-2
+    cast-result-2
+    mul-result
+    returns
+    returns-2)

@@ -1,0 +1,48 @@
+use mathlib.Core.List.{[], _∷_}
+use borrow.Author.Needs.{needs}
+use Rattle.isis_gr.proofs.config.circuits_in.Statement.{statement}
+use Rattle.isis_gr.proofs.config.circuits_in.Tie as tie
+use Rattle.isis_gr.proofs.config.circuits_in.Reads as reads
+use Rattle.isis_gr.proofs.config.circuits_in.Lts as lts
+use Rattle.isis_gr.proofs.config.circuit_at.Reads as circuit-at-reads
+
+circuit-at-requires : tie.Need-circuit-at-requires
+circuit-at-requires c κs = search needs
+
+circuit-at-requires-2 : tie.Need-circuit-at-requires-2
+circuit-at-requires-2 c κs = search needs
+
+circuit-at-requires-3 : tie.Need-circuit-at-requires-3
+circuit-at-requires-3 c κs = search needs
+
+circuit-at-requires-4 : tie.Need-circuit-at-requires-4
+circuit-at-requires-4 c κs = search needs
+
+circuit-at-requires-5 : tie.Need-circuit-at-requires-5
+circuit-at-requires-5 c κs = search needs
+
+circuit-at-requires-6 : tie.Need-circuit-at-requires-6
+circuit-at-requires-6 c κs = search needs
+
+circuit-at-requires-7 : tie.Need-circuit-at-requires-7
+circuit-at-requires-7 c κs = search needs
+
+circuit-at-requires-8 : tie.Need-circuit-at-requires-8
+circuit-at-requires-8 c κs = search needs
+
+returns : tie.Need-returns
+returns c = let a = c .before .before .before .before .before .before .before .circuit-at .ensures in let b = c .before .before .before .before .before .before .circuit-at2 .ensures in let d = c .before .before .before .before .before .circuit-at3 .ensures in let e = c .before .before .before .before .circuit-at4 .ensures in let f = c .before .before .before .circuit-at5 .ensures in let g = c .before .before .circuit-at6 .ensures in let h = c .before .circuit-at7 .ensures in let k = c .circuit-at8 .ensures in λ i. a i ∷ b i ∷ d i ∷ e i ∷ f i ∷ g i ∷ h i ∷ k i ∷ []
+
+pub circuits-in-spec : {M : Type 1} → statement M
+circuits-in-spec =
+    tie.close
+    (tie.spec
+    circuit-at-requires
+    circuit-at-requires-2
+    circuit-at-requires-3
+    circuit-at-requires-4
+    circuit-at-requires-5
+    circuit-at-requires-6
+    circuit-at-requires-7
+    circuit-at-requires-8
+    returns)

@@ -1,0 +1,77 @@
+-- The settings as octets (house), and what setup on them is to do. Numbers are big-endian; places count from 0:
+--
+--   place  0-5     6-7  8-9  10     11-14  15    16     17-168
+--          system  t1   t2   tries  clock  mode  count  eight circuits
+--
+-- and of each circuit's 19 octets
+--
+--          0     1       2-7  8         9-10  11-14   15-18
+--          kind  levels  mac  priority  hold  metric  id
+use Prim.Native.Nat.{ℕ, _+_, _*_}
+use mathlib.Core.Path.{_≡_}
+use mathlib.Core.Bool.{Bool, cond, _&&_}
+use mathlib.Core.List.{List, map}
+use lib.ListN.{take}
+use Rattle.tlv.specs.Octets.{octet, big}
+use Rattle.hello.specs.declared.refusal.Refusal.{Refusal}
+use Rattle.hello.specs.declared.refusal.Refusal.the-variants.{BadSetting}
+use Rattle.slots.specs.Slots.{tabulate}
+use Rattle.settings.specs.Settings.{every}
+use Rattle.settings.specs.declared.circuit.Circuit.{Circuit}
+use Rattle.settings.specs.declared.setup.Settings.{Settings}
+use Rattle.model.specs.Gateway.{Setup, Declined, setup}
+use Rattle.gateway.specs.Words.{gatewayOf}
+use Rattle.gateway.specs.Setup.{Denied, reportIn, startedIn}
+use Rattle.isis_gr.specs.Numbers.{reportNo, modeOf, modeKnown, kindOf, kindKnown, levelsOf, levelsKnown}
+
+abbrev pub settingsOctets : ℕ
+settingsOctets = 169
+
+-- where the eight circuits' octets start
+abbrev pub circuitPlace : ℕ → ℕ
+circuitPlace i = 17 + 19 * i
+
+abbrev pub circuitPlaces : List ℕ
+circuitPlaces = tabulate circuitPlace 8
+
+-- the circuit whose octets start at a
+unfoldable pub circuitFrom : List ℕ → ℕ → Circuit
+circuitFrom s a =
+    record {
+      kind = kindOf (octet s a);
+      levels = levelsOf (octet s (a + 1));
+      mac = big 6 s (a + 2);
+      priority = octet s (a + 8);
+      hold = big 2 s (a + 9);
+      metric = big 4 s (a + 11);
+      id = big 4 s (a + 15);
+    }
+
+unfoldable pub settingsFrom : List ℕ → Settings
+settingsFrom s =
+    record {
+      system = big 6 s 0;
+      lengths = record { t1 = big 2 s 6; t2 = big 2 s 8; tries = octet s 10 };
+      clock = big 4 s 11;
+      mode = modeOf (octet s 15);
+      count = octet s 16;
+      circuits = map (circuitFrom s) circuitPlaces;
+    }
+
+-- whether a circuit's kind and levels are numbers that are known
+abbrev pub circuitKnown : List ℕ → ℕ → Bool
+circuitKnown s a = kindKnown (octet s a) && levelsKnown (octet s (a + 1))
+
+-- whether the mode is, and those of the first `count` circuits
+unfoldable pub settingsKnown : List ℕ → Bool
+settingsKnown s = modeKnown (octet s 15) && every (circuitKnown s) (take (octet s 16) circuitPlaces)
+
+-- document 01, "Refusals by number", 12: a number that is not known is a setting out of range
+unfoldable pub setupFrom : List ℕ → Setup
+setupFrom s = cond (settingsKnown s) (setup (settingsFrom s)) (Declined BadSetting)
+
+-- The number w of a setup on the words ws with the outcome o: a refusal leaves every word as it was.
+pub record TellsSetup (w : ℕ) (o : Setup) (ws ws′ : List ℕ) : Type 0 where
+  pub number : w ≡ reportNo (reportIn o)
+  pub next : gatewayOf ws′ ≡ startedIn (gatewayOf ws) o
+  pub kept : (x : Refusal) → reportIn o ≡ Denied x → ws′ ≡ ws

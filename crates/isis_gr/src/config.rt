@@ -1,0 +1,154 @@
+// The settings of setup from octets; specs/Settings.antt says where each stands, and specs/Numbers.antt which numbers are known.
+use gateway::config::CircuitSettings;
+use gateway::config::GatewaySettings;
+use hello::header::CircuitKind;
+use hello::levels::Levels;
+use timer_parts::t1::Lengths;
+use timers::head::Mode;
+use tlv::octets::four;
+use tlv::octets::two;
+use tlv::octets::wide;
+ghost use mathlib.Core.Path.{_≡_};
+ghost use mathlib.Core.Bool.{_&&_};
+ghost use mathlib.Core.List.{map};
+ghost use Prim.Native.Nat.{_+_, _<_, _≤_};
+ghost use lib.ListN.{length, take};
+ghost use Rattle.tlv.specs.Octets.{big};
+ghost use Rattle.settings.specs.Settings.{every};
+ghost use Rattle.gateway.specs.Setup.{circuitGiven, settingsGiven};
+ghost use Rattle.isis_gr.specs.Numbers.{modeOf, modeKnown, kindOf, kindKnown, levelsOf, levelsKnown};
+ghost use Rattle.isis_gr.specs.Settings.{settingsOctets, circuitPlaces, circuitFrom, settingsFrom, circuitKnown, settingsKnown};
+
+pub const SETTINGS_OCTETS: usize = 169;
+
+fn mode_of(n: u8) -> Mode
+    ensures { λ r. ⌜ r ≡ modeOf n ⌝ }
+{
+    if n == 1 {
+        return Mode::Restarting;
+    }
+    Mode::Running
+}
+
+fn kind_of(n: u8) -> CircuitKind
+    ensures { λ r. ⌜ r ≡ kindOf n ⌝ }
+{
+    if n == 1 {
+        return CircuitKind::P2p;
+    }
+    CircuitKind::Lan
+}
+
+fn levels_of(n: u8) -> Levels
+    ensures { λ r. ⌜ r ≡ levelsOf n ⌝ }
+{
+    Levels {
+        one: n % 2 == 1,
+        two: n / 2 % 2 == 1,
+    }
+}
+
+// A System ID or a MAC.
+fn six_octets(s: &[u8], at: usize) -> [u8; 6]
+    requires { ⌜ at + 5 < length (now s) ⌝ }
+    ensures { λ r. ⌜ big 6 r 0 ≡ big 6 (now (s .entry)) at ⌝ }
+{
+    [s[at], s[at + 1], s[at + 2], s[at + 3], s[at + 4], s[at + 5]]
+}
+
+fn circuit_at(s: &[u8], at: usize) -> CircuitSettings
+    requires { ⌜ at + 18 < length (now s) ⌝ }
+    ensures { λ r. ⌜ circuitGiven r ≡ circuitFrom (now (s .entry)) at ⌝ }
+{
+    let kind = kind_of(s[at]);
+    let levels = levels_of(s[at + 1]);
+    let mac = six_octets(s, at + 2);
+    CircuitSettings {
+        kind,
+        levels,
+        mac,
+        priority: s[at + 8],
+        hold: two(s, at + 9),
+        metric: four(s, at + 11),
+        id: four(s, at + 15),
+    }
+}
+
+fn circuits_in(s: &[u8]) -> [CircuitSettings; 8]
+    requires { ⌜ length (now s) ≡ settingsOctets ⌝ }
+    ensures { λ r. ⌜ map circuitGiven r ≡ map (circuitFrom (now (s .entry))) circuitPlaces ⌝ }
+{
+    [
+        circuit_at(s, 17),
+        circuit_at(s, 36),
+        circuit_at(s, 55),
+        circuit_at(s, 74),
+        circuit_at(s, 93),
+        circuit_at(s, 112),
+        circuit_at(s, 131),
+        circuit_at(s, 150),
+    ]
+}
+
+pub fn settings_in(s: &[u8]) -> GatewaySettings
+    requires { ⌜ length (now s) ≡ settingsOctets ⌝ }
+    ensures { λ r. ⌜ settingsGiven r ≡ settingsFrom (now (s .entry)) ⌝ }
+{
+    let system = six_octets(s, 0);
+    let lengths = Lengths {
+        t1: two(s, 6),
+        t2: two(s, 8),
+        tries: s[10],
+    };
+    let clock = four(s, 11);
+    let mode = mode_of(s[15]);
+    let circuits = circuits_in(s);
+    GatewaySettings {
+        system,
+        lengths,
+        clock,
+        mode,
+        count: s[16],
+        circuits,
+    }
+}
+
+fn is_circuit_known(s: &[u8], at: usize) -> bool
+    requires { ⌜ at + 1 < length (now s) ⌝ }
+    ensures { λ r. ⌜ r ≡ circuitKnown (now (s .entry)) at ⌝ }
+{
+    if s[at] < 2 {
+        return s[at + 1] < 4;
+    }
+    false
+}
+
+fn are_circuits_known(s: &[u8], count: usize) -> bool
+    requires { ⌜ (length (now s) ≡ settingsOctets) × (count ≤ 8) ⌝ }
+    ensures { λ r. ⌜ r ≡ every (circuitKnown (now (s .entry))) (take count circuitPlaces) ⌝ }
+{
+    let mut i = 0;
+    while i < count {
+        if is_circuit_known(s, 17 + 19 * i) {
+            i += 1;
+        } else {
+            return false;
+        }
+    }
+    true
+}
+
+// Where a number is not known, setup is refused (12).
+pub fn are_settings_known(s: &[u8]) -> bool
+    requires { ⌜ length (now s) ≡ settingsOctets ⌝ }
+    ensures { λ r. ⌜ r ≡ settingsKnown (now (s .entry)) ⌝ }
+{
+    let count = wide(s[16]);
+    if s[15] < 2 {
+        if count < 8 {
+            return are_circuits_known(s, count);
+        }
+        return are_circuits_known(s, 8);
+    }
+    false
+}
