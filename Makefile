@@ -1,6 +1,7 @@
 # Two commands: `make samples` proves and runs the programs over the sample frames and prints what they wrote; `make test`
 # passes everything, and its last line is rt's 'N passed, 0 failed'. Neither fetches anything.
-.PHONY: samples test kit
+SHELL := /bin/bash
+.PHONY: samples test boundary archive differential bench fuzz kit
 
 samples: kit
 	@rt check samples vectors
@@ -9,8 +10,35 @@ samples: kit
 test: kit
 	@tools/check_citations
 	@tools/check_vectors
+	@tools/check_codes
 	@rt fmt --check
-	@rt ci
+	@set -o pipefail; log=$$(mktemp); rt ci | tee $$log && $(MAKE) -s boundary && tail -n 1 $$log; status=$$?; rm -f $$log; exit $$status
+
+# the archive, used from C and from Rust
+boundary: archive
+	@mkdir -p target/c
+	@for name in every_call stack; do \
+		$(CC) -std=c99 -O1 -Wall -Wextra -Werror -Iinclude tests/c/$$name.c -Ltarget/staticlib -lisis_gr -o target/c/$$name && target/c/$$name || exit 1; \
+	done
+	@cd rust && cargo test --offline --release --quiet
+
+archive:
+	@rt staticlib isis_gr
+
+# ten million calls on the archive and on the reference, and the branches that they reached
+differential: archive
+	@cd rust && cargo run --offline --release --quiet -p isis-gr-differential -- 10000000
+
+# receive and tick against the reference, as ratios in one run
+bench: archive
+	@cd rust && cargo run --offline --release --quiet -p isis-gr-bench
+
+# receive under clang's libFuzzer and AddressSanitizer, for FUZZ_SECONDS
+FUZZ_SECONDS ?= 600
+fuzz: archive
+	@mkdir -p target/c && tools/fuzz_seeds target/corpus
+	@clang -g -O1 -fsanitize=fuzzer,address -Wall -Wextra -Werror -Iinclude tests/fuzz/receive.c -Ltarget/staticlib -lisis_gr -o target/c/fuzz_receive
+	@target/c/fuzz_receive -max_total_time=$(FUZZ_SECONDS) -max_len=4096 target/corpus
 
 # the Rattle kit that the proofs were made with
 kit:

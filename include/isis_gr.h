@@ -1,0 +1,333 @@
+/* isis_gr: restart signaling (RFC 8706) and reverse metric (RFC 8500) for an IS-IS router, proved correct. Link with libisis_gr.a.
+ *
+ * The library does no I/O, allocates nothing, and has no global and no clock of its own: hello frames and clock ticks go in; records, Restart
+ * TLVs, orders (actions that the caller must take) and link metrics come out. Document 01 numbers the refusals; RFC sections are named at
+ * each order.
+ *
+ * What the proofs assume of a caller:
+ * - every pointer is valid for the length beside it, or for the size that its type says; NULL only with length 0;
+ * - buffers of one call do not overlap, and nobody writes them during the call (a driver copies a DMA buffer first);
+ * - nobody but these functions writes a gateway's words. Any content of them is a gateway all the same: a call on memory that was never
+ *   set up is refused as one on a gateway without circuits, and changes nothing.
+ *
+ * A refusal leaves the gateway and the reply buffer as they were, and the other fields of its answer 0. Circuits are numbered from 1 to 8. A
+ * mask over circuits has bit 0 for circuit 1; a mask of levels has bit 0 for level 1. Times are seconds.
+ */
+#ifndef ISIS_GR_H
+#define ISIS_GR_H
+
+#include <stddef.h>
+#include <stdint.h>
+#include <string.h>
+
+#ifdef __cplusplus
+extern "C" {
+#endif
+
+/* a changed number or layout raises the major version */
+#define ISIS_GR_VERSION_MAJOR 0
+#define ISIS_GR_VERSION_MINOR 3
+
+#define ISIS_GR_GATEWAY_WORDS 640 /* equal to isis_gr_gateway_words(): compare the two at start-up */
+#define ISIS_GR_SETTINGS_OCTETS 169
+#define ISIS_GR_MAX_CIRCUITS 8
+#define ISIS_GR_REPLY_OCTETS 11 /* the least reply buffer, and the octets of a reply */
+
+/* ---- codes: 0, or the number of a refusal in document 01; no other code exists */
+
+#define ISIS_GR_OK 0u
+#define ISIS_GR_REFUSED_NO_CIRCUIT 1u      /* no circuit of that number, or a level not enabled there */
+#define ISIS_GR_REFUSED_REPLY_ROOM 2u      /* reply buffer under 11 octets */
+#define ISIS_GR_REFUSED_NOT_HELLO 3u       /* not a hello that fits the circuit */
+#define ISIS_GR_REFUSED_BAD_LENGTH 4u      /* header length or PDU Length */
+#define ISIS_GR_REFUSED_TLV_PAST_END 5u    /* a TLV passes the PDU Length */
+#define ISIS_GR_REFUSED_BAD_TLV 6u         /* a rule of a TLV broken, or the circuit type is 0 */
+#define ISIS_GR_REFUSED_WRONG_SOURCE 7u    /* level not enabled, or our own System ID */
+#define ISIS_GR_REFUSED_WRONG_NEIGHBOR 8u  /* P2P: the three-way TLV names another */
+#define ISIS_GR_REFUSED_NO_ROOM 9u         /* the circuit's room is full */
+#define ISIS_GR_REFUSED_CLOCK_BACK 10u     /* clock lower than the held clock */
+#define ISIS_GR_REFUSED_NOT_RESTARTING 11u /* a notice outside the mode Restarting */
+#define ISIS_GR_REFUSED_BAD_SETTING 12u    /* a setting out of range */
+
+/* ---- numbers */
+
+enum { ISIS_GR_MODE_RUNNING = 0, ISIS_GR_MODE_RESTARTING = 1 };
+enum { ISIS_GR_KIND_LAN = 0, ISIS_GR_KIND_P2P = 1 };
+enum { ISIS_GR_LEVEL_1 = 1, ISIS_GR_LEVEL_2 = 2, ISIS_GR_LEVEL_BOTH = 3 }; /* masks of levels */
+enum { ISIS_GR_REPLY_NONE = 0, ISIS_GR_REPLY_RA = 2, ISIS_GR_REPLY_PA = 16 };
+enum { ISIS_GR_T1_KEPT = 0, ISIS_GR_T1_STOPPED = 1, ISIS_GR_T1_REINITIALISE = 2 };
+enum { ISIS_GR_TIMERS_IDLE = 0, ISIS_GR_TIMERS_GO_ON = 1, ISIS_GR_TIMERS_ENDED = 2 };
+enum { ISIS_GR_OVERLOAD_QUIET = 0, ISIS_GR_OVERLOAD_SET = 1, ISIS_GR_OVERLOAD_CLEAR = 2, ISIS_GR_OVERLOAD_BOTH = 3 };
+enum { ISIS_GR_RECORD_NONE = 0, ISIS_GR_RECORD_INIT = 1, ISIS_GR_RECORD_UP = 2 };
+enum { ISIS_GR_MARK_CLEAR = 0, ISIS_GR_MARK_RESTART = 1, ISIS_GR_MARK_PLANNED = 2 };
+enum { ISIS_GR_FLAG_RR = 1 };
+
+/* ---- memory and settings */
+
+/* Memory of a gateway: the caller owns it, and reads and writes it by these functions only. */
+typedef struct {
+    uint64_t words[ISIS_GR_GATEWAY_WORDS];
+} isis_gr_gateway;
+
+typedef struct {
+    uint8_t kind;     /* ISIS_GR_KIND_.. */
+    uint8_t levels;   /* mask of enabled levels, 1 to 3 */
+    uint8_t mac[6];   /* our own MAC there */
+    uint8_t priority; /* 0 to 127 */
+    uint16_t hold;    /* configured holding time, 1 to 65,535 s */
+    uint32_t metric;  /* configured wide metric, 0 to 16,777,214 */
+    uint32_t id;      /* P2P: our own extended circuit ID */
+} isis_gr_circuit;
+
+typedef struct {
+    uint8_t system_id[6];
+    uint16_t t1;    /* 1 to 65,535 s */
+    uint16_t t2;    /* 1 to 65,535 s */
+    uint8_t tries;  /* T1 tries, 1 to 255 */
+    uint32_t clock; /* seconds */
+    uint8_t mode;   /* ISIS_GR_MODE_.. */
+    uint8_t count;  /* how many of the circuits there are, 1 to 8 */
+    isis_gr_circuit circuits[ISIS_GR_MAX_CIRCUITS];
+} isis_gr_settings;
+
+/* ---- answers */
+
+/* How the timers of a router that restarts ended, and what they order. */
+typedef struct {
+    uint8_t end;      /* ISIS_GR_TIMERS_..: idle, the mode was Running; go on; ended, it is Running from this call on */
+    uint8_t spf;      /* mask of levels whose SPF is to run (RFC 8706, 3.3.1) */
+    uint8_t overload; /* ISIS_GR_OVERLOAD_..: set or clear the overload bit of our LSPs (RFC 8706, 3.3.1); both, in this order */
+} isis_gr_timers;
+
+typedef struct {
+    uint32_t code;
+    uint8_t hellos; /* mask of circuits on which to send a hello with RR now (RFC 8706, 3.3.1) */
+} isis_gr_started;
+
+typedef struct {
+    uint32_t code;
+    uint8_t reply;          /* ISIS_GR_REPLY_..: the Restart TLV of 11 octets in the reply buffer goes into a hello now (RFC 8706, 3.2.1) */
+    uint16_t remaining;     /* its Remaining Time */
+    uint8_t csnps;          /* mask of levels: send a complete set of CSNPs there and set SRM flags (RFC 8706, 3.2.1) */
+    uint8_t t1;             /* ISIS_GR_T1_..: T1 was stopped for want of a Restart TLV; reinitialise: make the neighbour (RFC 8706, 3.3.1) */
+    isis_gr_timers timers;
+} isis_gr_received;
+
+typedef struct {
+    uint32_t code;
+    uint8_t lost;   /* mask of circuits that lost a record: run what a lost adjacency asks for */
+    uint8_t hellos; /* mask of circuits on which to send a hello with RR now */
+    isis_gr_timers timers;
+} isis_gr_ticked;
+
+typedef struct {
+    uint32_t code;
+    isis_gr_timers timers;
+} isis_gr_noticed;
+
+/* The record of a neighbour (the adjacency entry of ISO 10589). It is advertised exactly when it is UP and not suppressed. */
+typedef struct {
+    uint32_t code;
+    uint8_t state;      /* ISIS_GR_RECORD_.. */
+    uint8_t mark;       /* ISIS_GR_MARK_.. */
+    uint8_t suppressed; /* 0 or 1 */
+    uint8_t priority;   /* of its last accepted frame, as are the rest */
+    uint8_t tlv;        /* 1 where it had a Restart TLV */
+    uint8_t reverse;    /* 1 where it had a reverse metric */
+    uint8_t whole_lan;  /* its W flag */
+    uint8_t unreachable; /* its U flag */
+    uint32_t offset;    /* its metric offset */
+    uint64_t expiry;    /* by the gateway's clock */
+} isis_gr_looked;
+
+typedef struct {
+    uint32_t code;
+    uint32_t metric;
+} isis_gr_metric;
+
+typedef struct {
+    uint32_t code;
+    uint8_t flags; /* 0 or ISIS_GR_FLAG_RR */
+} isis_gr_flags;
+
+typedef struct {
+    uint32_t count; /* circuits that still wait for T1 */
+    uint8_t lowest; /* the lowest of them, 0 for none */
+} isis_gr_waiting;
+
+/* ---- the archive's functions: words and octets, packed and unpacked below */
+
+uint32_t isis_gr_raw_gateway_words(void);
+uint32_t isis_gr_raw_set_up(uint64_t *gateway, const uint8_t *settings);
+uint64_t isis_gr_raw_receive(uint64_t *gateway, uint8_t circuit, const uint8_t *source, const uint8_t *frame, size_t frame_len, uint8_t *reply,
+                             size_t reply_len);
+uint64_t isis_gr_raw_tick(uint64_t *gateway, uint32_t clock);
+uint32_t isis_gr_raw_release(uint64_t *gateway, uint8_t circuit);
+uint64_t isis_gr_raw_csnp_complete(uint64_t *gateway, uint8_t circuit, uint8_t level);
+uint64_t isis_gr_raw_database_complete(uint64_t *gateway, uint8_t level);
+uint32_t isis_gr_raw_look_up(const uint64_t *gateway, uint8_t circuit, uint8_t level, const uint8_t *system_id, const uint8_t *mac,
+                             uint64_t *record);
+uint64_t isis_gr_raw_link_metric(const uint64_t *gateway, uint8_t circuit);
+uint32_t isis_gr_raw_next_hello_flags(const uint64_t *gateway, uint8_t circuit);
+uint32_t isis_gr_raw_waiting(const uint64_t *gateway);
+
+/* ---- packing */
+
+static inline void isis_gr_put16(uint8_t *at, uint16_t n) {
+    at[0] = (uint8_t)(n >> 8);
+    at[1] = (uint8_t)n;
+}
+
+static inline void isis_gr_put32(uint8_t *at, uint32_t n) {
+    isis_gr_put16(at, (uint16_t)(n >> 16));
+    isis_gr_put16(at + 2, (uint16_t)n);
+}
+
+static inline void isis_gr_put_circuit(uint8_t *at, const isis_gr_circuit *circuit) {
+    at[0] = circuit->kind;
+    at[1] = circuit->levels;
+    memcpy(at + 2, circuit->mac, 6);
+    at[8] = circuit->priority;
+    isis_gr_put16(at + 9, circuit->hold);
+    isis_gr_put32(at + 11, circuit->metric);
+    isis_gr_put32(at + 15, circuit->id);
+}
+
+static inline void isis_gr_put_settings(uint8_t out[ISIS_GR_SETTINGS_OCTETS], const isis_gr_settings *settings) {
+    size_t i;
+    memcpy(out, settings->system_id, 6);
+    isis_gr_put16(out + 6, settings->t1);
+    isis_gr_put16(out + 8, settings->t2);
+    out[10] = settings->tries;
+    isis_gr_put32(out + 11, settings->clock);
+    out[15] = settings->mode;
+    out[16] = settings->count;
+    for (i = 0; i < ISIS_GR_MAX_CIRCUITS; i++) {
+        isis_gr_put_circuit(out + 17 + 19 * i, &settings->circuits[i]);
+    }
+}
+
+static inline isis_gr_timers isis_gr_get_timers(uint64_t word) {
+    isis_gr_timers t;
+    t.end = (uint8_t)(word >> 32 & 3u);
+    t.spf = (uint8_t)(word >> 34 & 3u);
+    t.overload = (uint8_t)(word >> 36 & 3u);
+    return t;
+}
+
+/* ---- the calls */
+
+/* The words of a gateway in this archive. */
+static inline uint32_t isis_gr_gateway_words(void) { return isis_gr_raw_gateway_words(); }
+
+/* A new gateway, whatever the memory was. Refused 12, the memory is as it was. */
+static inline isis_gr_started isis_gr_set_up(isis_gr_gateway *gateway, const isis_gr_settings *settings) {
+    uint8_t octets[ISIS_GR_SETTINGS_OCTETS];
+    uint32_t word;
+    isis_gr_started s;
+    isis_gr_put_settings(octets, settings);
+    word = isis_gr_raw_set_up(gateway->words, octets);
+    s.code = word & 255u;
+    s.hellos = (uint8_t)(word >> 8);
+    return s;
+}
+
+/* Takes one hello frame. Refused 1 to 9, gateway and reply are as they were. reply has at least 11 octets; its first 11 are written only where
+   the field reply is not ISIS_GR_REPLY_NONE, those past 11 never. */
+static inline isis_gr_received isis_gr_receive(isis_gr_gateway *gateway, uint8_t circuit, const uint8_t source[6], const uint8_t *frame,
+                                               size_t frame_len, uint8_t *reply, size_t reply_len) {
+    uint64_t word = isis_gr_raw_receive(gateway->words, circuit, source, frame, frame_len, reply, reply_len);
+    isis_gr_received r;
+    r.code = (uint32_t)(word & 255u);
+    r.reply = (uint8_t)(word >> 8);
+    r.csnps = (uint8_t)(word >> 16);
+    r.t1 = (uint8_t)(word >> 24);
+    r.timers = isis_gr_get_timers(word);
+    r.remaining = (uint16_t)(word >> 40);
+    return r;
+}
+
+/* The clock, in seconds; one a second will do. Refused 10, the gateway is as it was. */
+static inline isis_gr_ticked isis_gr_tick(isis_gr_gateway *gateway, uint32_t clock) {
+    uint64_t word = isis_gr_raw_tick(gateway->words, clock);
+    isis_gr_ticked t;
+    t.code = (uint32_t)(word & 255u);
+    t.lost = (uint8_t)(word >> 8);
+    t.hellos = (uint8_t)(word >> 16);
+    t.timers = isis_gr_get_timers(word);
+    return t;
+}
+
+/* Removes a circuit's Planned records. Returns the code; refused 1, the gateway is as it was. */
+static inline uint32_t isis_gr_release(isis_gr_gateway *gateway, uint8_t circuit) { return isis_gr_raw_release(gateway->words, circuit); }
+
+/* The CSNP set of a level is complete on a circuit. Refused 1 or 11, the gateway is as it was. */
+static inline isis_gr_noticed isis_gr_csnp_complete(isis_gr_gateway *gateway, uint8_t circuit, uint8_t level) {
+    uint64_t word = isis_gr_raw_csnp_complete(gateway->words, circuit, level);
+    isis_gr_noticed n;
+    n.code = (uint32_t)(word & 255u);
+    n.timers = isis_gr_get_timers(word);
+    return n;
+}
+
+/* The database of a level is complete. Refused 1 or 11, the gateway is as it was. */
+static inline isis_gr_noticed isis_gr_database_complete(isis_gr_gateway *gateway, uint8_t level) {
+    uint64_t word = isis_gr_raw_database_complete(gateway->words, level);
+    isis_gr_noticed n;
+    n.code = (uint32_t)(word & 255u);
+    n.timers = isis_gr_get_timers(word);
+    return n;
+}
+
+/* The record with a key. On P2P the level and the MAC count for nothing. Changes nothing. */
+static inline isis_gr_looked isis_gr_look_up(const isis_gr_gateway *gateway, uint8_t circuit, uint8_t level, const uint8_t system_id[6],
+                                             const uint8_t mac[6]) {
+    uint64_t record[2] = {0, 0};
+    uint32_t word = isis_gr_raw_look_up(gateway->words, circuit, level, system_id, mac, record);
+    isis_gr_looked l;
+    l.code = word & 255u;
+    l.state = (uint8_t)(word >> 8);
+    l.expiry = record[0];
+    l.mark = (uint8_t)(record[1] & 3u);
+    l.suppressed = (uint8_t)(record[1] >> 2 & 1u);
+    l.tlv = (uint8_t)(record[1] >> 3 & 1u);
+    l.reverse = (uint8_t)(record[1] >> 4 & 1u);
+    l.whole_lan = (uint8_t)(record[1] >> 5 & 1u);
+    l.unreachable = (uint8_t)(record[1] >> 6 & 1u);
+    l.priority = (uint8_t)(record[1] >> 8);
+    l.offset = (uint32_t)(record[1] >> 32);
+    return l;
+}
+
+/* The metric of a circuit's link. Changes nothing. */
+static inline isis_gr_metric isis_gr_link_metric(const isis_gr_gateway *gateway, uint8_t circuit) {
+    uint64_t word = isis_gr_raw_link_metric(gateway->words, circuit);
+    isis_gr_metric m;
+    m.code = (uint32_t)(word & 255u);
+    m.metric = (uint32_t)(word >> 32);
+    return m;
+}
+
+/* The flags of the Restart TLV in the next hello on a circuit. Changes nothing. */
+static inline isis_gr_flags isis_gr_next_hello_flags(const isis_gr_gateway *gateway, uint8_t circuit) {
+    uint32_t word = isis_gr_raw_next_hello_flags(gateway->words, circuit);
+    isis_gr_flags f;
+    f.code = word & 255u;
+    f.flags = (uint8_t)(word >> 8);
+    return f;
+}
+
+/* How many circuits still wait for T1, and the lowest of them. Changes nothing. */
+static inline isis_gr_waiting isis_gr_waiting_circuits(const isis_gr_gateway *gateway) {
+    uint32_t word = isis_gr_raw_waiting(gateway->words);
+    isis_gr_waiting w;
+    w.count = word & 255u;
+    w.lowest = (uint8_t)(word >> 8);
+    return w;
+}
+
+#ifdef __cplusplus
+}
+#endif
+
+#endif

@@ -1,0 +1,120 @@
+//! Random settings and random calls.
+use crate::frames::{frame, mac, system, Meant, MACS, OWN, SYSTEMS};
+use crate::random::Random;
+use isis_gr_reference::{CircuitSettings, Kind, Levels, Mac, Mode, Settings, SystemId};
+
+/// A call of document 01, setup apart.
+#[derive(Clone, Debug, PartialEq, Eq)]
+pub enum Call {
+    /// Receive: circuit, source MAC, frame, octets of the reply buffer; and what was meant.
+    Receive(u8, Mac, Vec<u8>, usize, Meant),
+    /// Tick.
+    Tick(u32),
+    /// Release.
+    Release(u8),
+    /// CSNP set complete.
+    Csnp(u8, u8),
+    /// Database complete.
+    Database(u8),
+    /// Look up.
+    LookUp(u8, u8, SystemId, Mac),
+    /// Link metric.
+    Metric(u8),
+    /// Flags of the next hello.
+    Flags(u8),
+    /// Circuits that wait for T1.
+    Waiting,
+}
+
+/// The clock that the next tick is drawn from.
+#[derive(Clone, Copy, Debug)]
+pub struct Now(pub u32);
+
+fn circuit(r: &mut Random) -> CircuitSettings {
+    CircuitSettings {
+        kind: if r.chance(50) { Kind::Lan } else { Kind::PointToPoint },
+        levels: r.pick(&[Levels { one: true, two: false }, Levels { one: false, two: true }, Levels { one: true, two: true }]),
+        mac: [2, 0, 1, 0, 0, 9],
+        priority: r.pick(&[0, 63, 64, 127]),
+        hold: r.pick(&[1, 4, 30, 65535]),
+        metric: r.pick(&[0, 10, 16_777_210, 16_777_214]),
+        id: 7,
+    }
+}
+
+/// Settings in range, mostly with short timers.
+pub fn settings(r: &mut Random, mode: Mode) -> Settings {
+    Settings {
+        system: OWN,
+        t1: r.pick(&[1, 2, 3, 60]),
+        t2: r.pick(&[2, 5, 8, 60]),
+        tries: r.pick(&[1, 2, 3, 255]),
+        clock: r.pick(&[0, 100, 4_294_900_000]),
+        mode,
+        circuits: (0..1 + r.below(4)).map(|_| circuit(r)).collect(),
+    }
+}
+
+/// The settings with one of them out of range.
+pub fn spoilt(r: &mut Random, mut s: Settings) -> Settings {
+    let at = r.below(s.circuits.len() as u64) as usize;
+    match r.below(8) {
+        0 => s.t1 = 0,
+        1 => s.t2 = 0,
+        2 => s.tries = 0,
+        3 => s.circuits[at].priority = 128,
+        4 => s.circuits[at].hold = 0,
+        5 => s.circuits[at].metric = 16_777_215,
+        6 => s.circuits[at].levels = Levels::NONE,
+        _ => s.circuits.clear(),
+    }
+    s
+}
+
+fn number(r: &mut Random, s: &Settings) -> u8 {
+    if r.chance(3) {
+        r.pick(&[0, 9, 255, s.circuits.len() as u8 + 1])
+    } else {
+        1 + r.below(s.circuits.len() as u64) as u8
+    }
+}
+
+fn level(r: &mut Random) -> u8 {
+    if r.chance(5) {
+        r.pick(&[0, 3, 255])
+    } else {
+        1 + r.below(2) as u8
+    }
+}
+
+/// A receive on a circuit.
+pub fn receive(r: &mut Random, s: &Settings, number: u8) -> Call {
+    let at = usize::from(number.wrapping_sub(1)) % s.circuits.len();
+    let (frame, meant) = frame(r, &s.circuits[at]);
+    let from = mac(r.below(u64::from(MACS)) as u8);
+    let room = if r.chance(3) { r.below(11) as usize } else { r.pick(&[11, 12, 20]) };
+    Call::Receive(number, from, frame, room, meant)
+}
+
+/// Any call. The clock moves by small steps, sometimes back.
+pub fn call(r: &mut Random, s: &Settings, now: &mut Now) -> Call {
+    let n = number(r, s);
+    match r.below(100) {
+        0..=69 => receive(r, s, n),
+        70..=81 => {
+            let step = r.pick(&[0, 0, 1, 1, 1, 2, 4, 30]);
+            if r.chance(3) {
+                return Call::Tick(now.0.saturating_sub(1 + r.below(3) as u32));
+            }
+            now.0 = now.0.saturating_add(step);
+            Call::Tick(now.0)
+        }
+        82..=83 => Call::Release(n),
+        84..=88 => Call::Csnp(n, level(r)),
+        89..=91 => Call::Database(level(r)),
+        92..=95 => Call::LookUp(n, level(r), system(r.below(u64::from(SYSTEMS)) as u8), mac(r.below(u64::from(MACS)) as u8)),
+        96..=97 => Call::Metric(n),
+        98 => Call::Flags(n),
+        _ => Call::Waiting,
+    }
+}

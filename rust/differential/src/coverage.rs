@@ -1,0 +1,114 @@
+//! How often each branch of the definitions was reached. A branch that was never reached is a failure of the test.
+use std::collections::BTreeMap;
+
+/// Counts by the branch's name.
+#[derive(Clone, Debug)]
+pub struct Coverage(BTreeMap<String, u64>);
+
+/// Every branch that must be reached.
+fn branches() -> Vec<String> {
+    let mut all: Vec<String> = (1..=9).map(|n| format!("receive refused {n}")).collect();
+    for text in [
+        "tick refused 10",
+        "release refused 1",
+        "csnp refused 1",
+        "csnp refused 11",
+        "database refused 1",
+        "database refused 11",
+        "look up refused 1",
+        "metric refused 1",
+        "flags refused 1",
+        "setup refused 12",
+        "ordinary, from no record",
+        "ordinary, from INIT",
+        "ordinary, from UP",
+        "ordinary, from Planned",
+        "line 1, from UP",
+        "line 1, from Restart",
+        "line 1, from Planned",
+        "line 2, from no record",
+        "line 2, from INIT",
+        "line 3, from UP",
+        "line 3, from Restart",
+        "line 3, from Planned",
+        "line 4",
+        "line 5, from no record",
+        "line 5, from INIT",
+        "line 5, from UP",
+        "line 5, from Restart",
+        "reply RA",
+        "reply RA, no record",
+        "reply PA",
+        "CSNPs on P2P",
+        "CSNPs on a LAN",
+        "no CSNPs on a LAN: another has the duty",
+        "record INIT",
+        "record UP",
+        "record suppressed",
+        "record with W",
+        "record with U",
+        "full room",
+        "T1 stopped",
+        "T1 stopped, reinitialise",
+        "timers idle",
+        "timers go on",
+        "timers ended",
+        "SPF ordered",
+        "overload set",
+        "overload clear",
+        "overload both",
+        "tick marks a circuit",
+        "tick orders a hello",
+        "RR in the next hello",
+        "no RR in the next hello",
+        "circuits wait",
+        "none waits",
+        "metric configured",
+        "metric raised",
+        "metric at 16,777,214",
+        "metric at 16,777,215",
+        "look up finds",
+        "look up finds none",
+    ] {
+        all.push(text.to_owned());
+    }
+    all
+}
+
+impl Default for Coverage {
+    fn default() -> Coverage {
+        Coverage(branches().into_iter().map(|name| (name, 0)).collect())
+    }
+}
+
+impl Coverage {
+    /// One more of a branch.
+    pub fn hit(&mut self, name: &str) {
+        *self.0.get_mut(name).unwrap_or_else(|| panic!("no branch is named {name}")) += 1;
+    }
+
+    /// One more, where it is so.
+    pub fn hit_if(&mut self, so: bool, name: &str) {
+        if so {
+            self.hit(name);
+        }
+    }
+
+    /// The counts of another run too.
+    pub fn add(&mut self, other: &Coverage) {
+        for (name, count) in &other.0 {
+            *self.0.entry(name.clone()).or_default() += count;
+        }
+    }
+
+    /// The branches that were never reached.
+    pub fn missing(&self) -> Vec<&str> {
+        self.0.iter().filter(|(_, count)| **count == 0).map(|(name, _)| name.as_str()).collect()
+    }
+}
+
+impl std::fmt::Display for Coverage {
+    fn fmt(&self, f: &mut std::fmt::Formatter<'_>) -> std::fmt::Result {
+        self.0.iter().try_for_each(|(name, count)| writeln!(f, "{count:>12}  {name}"))
+    }
+}

@@ -1,0 +1,22 @@
+//! A smaller run, for every check.
+use isis_gr_differential::{compare, coverage::Coverage, isolation};
+
+#[test]
+fn the_archive_answers_as_the_reference_and_every_branch_is_reached() {
+    let mut all = Coverage::default();
+    for seed in 1..=1_000 {
+        all.add(&compare::run(seed, 400));
+    }
+    assert!(all.missing().is_empty(), "never reached: {:?}", all.missing());
+}
+
+#[test]
+fn a_bad_neighbour_harms_itself() {
+    let (mut frames, mut stood) = (0, 0);
+    for seed in 1..=500 {
+        let (its, stands) = isolation::run(seed, 200);
+        frames += its;
+        stood += u64::from(stands);
+    }
+    assert!(frames > 10_000 && stood > 20, "{frames} frames, {stood} runs whose LAN's promise stood");
+}

@@ -1,0 +1,94 @@
+//! What the calls answer.
+
+use crate::settings::{Levels, MAX_CIRCUITS};
+
+/// For each circuit, whether a hello is ordered on it; circuit 1 comes first.
+pub type Hellos = [bool; MAX_CIRCUITS];
+
+/// The kind of a reply: the one flag that it carries.
+#[derive(Clone, Copy, Debug, PartialEq, Eq)]
+pub enum ReplyKind {
+    /// RA: restart acknowledgement.
+    Ra,
+    /// PA: planned restart acknowledgement.
+    Pa,
+}
+
+/// A reply that was written to the reply buffer.
+#[derive(Clone, Copy, Debug, PartialEq, Eq)]
+pub struct Reply {
+    /// RA or PA.
+    pub kind: ReplyKind,
+    /// The Remaining Time in it.
+    pub remaining: u16,
+}
+
+/// An order about the overload bit of our own LSP.
+#[derive(Clone, Copy, Debug, PartialEq, Eq)]
+pub enum Overload {
+    /// No order.
+    Quiet,
+    /// Set it.
+    Set,
+    /// Clear it.
+    Clear,
+    /// Set it and clear it: T3 expired in the very tick that ended the restart.
+    Both,
+}
+
+/// What a call did to the timers.
+#[derive(Clone, Copy, Debug, PartialEq, Eq)]
+pub enum TimerOutcome {
+    /// The mode was Running already: no timer runs.
+    Idle,
+    /// The restart goes on.
+    Goes {
+        /// The levels whose SPF is ordered.
+        spf: Levels,
+        /// The order about the overload bit.
+        overload: Overload,
+    },
+    /// The restart ended with this call; the mode is Running.
+    Ended {
+        /// The levels whose SPF is ordered.
+        spf: Levels,
+        /// The order about the overload bit.
+        overload: Overload,
+    },
+}
+
+/// What a frame without a Restart TLV did to T1 of a point-to-point circuit (RFC 8706, 3.3.1).
+#[derive(Clone, Copy, Debug, PartialEq, Eq)]
+pub enum Freed {
+    /// No T1 was stopped for want of the TLV.
+    Kept,
+    /// It stopped a running T1.
+    Stopped,
+    /// It stopped a running T1, and shows us Up with our own extended circuit ID: the adjacency must be made to
+    /// reinitialise, by a normal hello with three-way state Down.
+    Reinitialise,
+}
+
+/// The answer to an accepted frame.
+#[derive(Clone, Copy, Debug, PartialEq, Eq)]
+pub struct Received {
+    /// The reply, if one was written.
+    pub reply: Option<Reply>,
+    /// The levels for which CSNPs and flooding marks are ordered on this circuit, if they are.
+    pub csnps: Option<Levels>,
+    /// What it did to the timers.
+    pub timers: TimerOutcome,
+    /// Whether it stopped T1 for want of a Restart TLV.
+    pub freed: Freed,
+}
+
+/// The answer to a tick.
+#[derive(Clone, Copy, Debug, PartialEq, Eq)]
+pub struct Ticked {
+    /// The circuits that lost a record.
+    pub marks: [bool; MAX_CIRCUITS],
+    /// The circuits on which a hello is ordered.
+    pub hellos: Hellos,
+    /// What it did to the timers.
+    pub timers: TimerOutcome,
+}

@@ -1,0 +1,50 @@
+//! Why a call was refused (document 01, "Refusals by number").
+
+/// A refusal, in the order in which they are checked.
+#[derive(Clone, Copy, Debug, PartialEq, Eq)]
+pub enum Refusal {
+    /// No. 1: no circuit of that number, or a level not enabled there.
+    NoCircuit,
+    /// No. 2: the reply buffer has under 11 octets.
+    ReplyRoom,
+    /// No. 3: not a hello that fits the circuit.
+    NotAHello,
+    /// No. 4: a length of the header is wrong.
+    HeaderLength,
+    /// No. 5: a TLV passes the PDU Length.
+    TlvPastEnd,
+    /// No. 6: a rule of "TLVs read" is broken, or the circuit type is 0.
+    TlvRule,
+    /// No. 7: the LAN level is not enabled, or the source is ourselves.
+    NotForUs,
+    /// No. 8: the three-way TLV names another system or circuit.
+    OtherNeighbour,
+    /// No. 9: the circuit's room is full.
+    RoomFull,
+    /// No. 10: the clock is lower than the held clock.
+    ClockBack,
+    /// No. 11: a notice outside Restarting mode.
+    NotRestarting,
+    /// No. 12: a setting out of range.
+    Setting,
+}
+
+impl Refusal {
+    /// The refusal's number in document 01.
+    pub fn number(self) -> u8 {
+        match self {
+            Refusal::NoCircuit => 1,
+            Refusal::ReplyRoom => 2,
+            Refusal::NotAHello => 3,
+            Refusal::HeaderLength => 4,
+            Refusal::TlvPastEnd => 5,
+            Refusal::TlvRule => 6,
+            Refusal::NotForUs => 7,
+            Refusal::OtherNeighbour => 8,
+            Refusal::RoomFull => 9,
+            Refusal::ClockBack => 10,
+            Refusal::NotRestarting => 11,
+            Refusal::Setting => 12,
+        }
+    }
+}

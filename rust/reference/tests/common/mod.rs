@@ -1,0 +1,259 @@
+//! Hello builder and harness of the tests.
+
+#![allow(dead_code)]
+
+use isis_gr_reference::*;
+
+pub const OWN: SystemId = [0x19, 0x21, 0x68, 0x00, 0x10, 0x01];
+pub const PEER: SystemId = [0x19, 0x21, 0x68, 0x00, 0x10, 0x02];
+pub const THIRD: SystemId = [0x19, 0x21, 0x68, 0x00, 0x10, 0x03];
+pub const OWN_MAC: Mac = [2, 0, 0, 0, 0, 1];
+pub const PEER_MAC: Mac = [2, 0, 0, 0, 0, 2];
+pub const THIRD_MAC: Mac = [2, 0, 0, 0, 0, 3];
+pub const OWN_ID: u32 = 0x0a0b_0c0d;
+
+pub const RR: u8 = 1;
+pub const RA: u8 = 2;
+pub const SA: u8 = 4;
+pub const PR: u8 = 8;
+pub const PA: u8 = 16;
+
+pub const UP: u8 = 0;
+pub const INITIALIZING: u8 = 1;
+pub const DOWN: u8 = 2;
+
+pub const ONE: Levels = Levels { one: true, two: false };
+pub const TWO: Levels = Levels { one: false, two: true };
+pub const BOTH: Levels = Levels { one: true, two: true };
+
+pub const QUIET: TimerOutcome = TimerOutcome::Goes { spf: Levels::NONE, overload: Overload::Quiet };
+
+pub fn p2p() -> CircuitSettings {
+    CircuitSettings { kind: Kind::PointToPoint, levels: BOTH, mac: OWN_MAC, priority: 64, hold: 30, metric: 10, id: OWN_ID }
+}
+
+pub fn lan() -> CircuitSettings {
+    CircuitSettings { kind: Kind::Lan, ..p2p() }
+}
+
+pub fn settings(mode: Mode, circuits: &[CircuitSettings]) -> Settings {
+    Settings { system: OWN, t1: 60, t2: 60, tries: 3, clock: 0, mode, circuits: circuits.to_vec() }
+}
+
+/// A hello under construction.
+#[derive(Clone)]
+pub struct Hello {
+    pdu_type: u8,
+    circuit_type: u8,
+    source: SystemId,
+    hold: u16,
+    priority: u8,
+    tlvs: Vec<u8>,
+}
+
+impl Hello {
+    fn new(pdu_type: u8) -> Hello {
+        Hello { pdu_type, circuit_type: 3, source: PEER, hold: 27, priority: 64, tlvs: Vec::new() }
+    }
+
+    /// A point-to-point hello without any TLV.
+    pub fn bare() -> Hello {
+        Hello::new(17)
+    }
+
+    /// A point-to-point hello with a three-way TLV that names us.
+    pub fn p2p(state: u8) -> Hello {
+        Hello::bare().three_way(state, OWN, OWN_ID)
+    }
+
+    /// A LAN hello that lists no one.
+    pub fn lan(level: u8) -> Hello {
+        Hello::new(14 + level)
+    }
+
+    /// A LAN hello that lists us.
+    pub fn lan_up(level: u8) -> Hello {
+        Hello::lan(level).tlv(6, &OWN_MAC)
+    }
+
+    pub fn from(mut self, source: SystemId) -> Hello {
+        self.source = source;
+        self
+    }
+
+    pub fn hold(mut self, hold: u16) -> Hello {
+        self.hold = hold;
+        self
+    }
+
+    pub fn circuit_type(mut self, circuit_type: u8) -> Hello {
+        self.circuit_type = circuit_type;
+        self
+    }
+
+    pub fn priority(mut self, priority: u8) -> Hello {
+        self.priority = priority;
+        self
+    }
+
+    pub fn tlv(mut self, kind: u8, value: &[u8]) -> Hello {
+        self.tlvs.extend([kind, value.len() as u8]);
+        self.tlvs.extend(value);
+        self
+    }
+
+    pub fn octets_at_end(mut self, octets: &[u8]) -> Hello {
+        self.tlvs.extend(octets);
+        self
+    }
+
+    pub fn three_way(self, state: u8, neighbour: SystemId, circuit: u32) -> Hello {
+        let mut value = vec![state, 1, 2, 3, 4];
+        value.extend(neighbour);
+        value.extend(circuit.to_be_bytes());
+        self.tlv(240, &value)
+    }
+
+    /// A Restart TLV of length 9 that names us.
+    pub fn restart(self, flags: u8, remaining: u16) -> Hello {
+        self.restart_of(flags, remaining, OWN)
+    }
+
+    pub fn restart_of(self, flags: u8, remaining: u16, neighbour: SystemId) -> Hello {
+        let mut value = vec![flags];
+        value.extend(remaining.to_be_bytes());
+        value.extend(neighbour);
+        self.tlv(211, &value)
+    }
+
+    pub fn reverse(self, flags: u8, metric: u32) -> Hello {
+        let [_, a, b, c] = metric.to_be_bytes();
+        self.tlv(16, &[flags, a, b, c, 0])
+    }
+
+    pub fn octets(&self) -> Vec<u8> {
+        let header = if self.pdu_type & 31 == 17 { 20 } else { 27 };
+        let mut octets = vec![0x83, header, 1, 0, self.pdu_type, 1, 0, 0, self.circuit_type];
+        octets.extend(self.source);
+        octets.extend(self.hold.to_be_bytes());
+        octets.extend((u16::from(header) + self.tlvs.len() as u16).to_be_bytes());
+        if header == 27 {
+            octets.push(self.priority);
+            octets.extend(THIRD);
+        }
+        octets.push(5);
+        octets.extend(&self.tlvs);
+        octets
+    }
+}
+
+/// A gateway with the checks that every call must pass.
+#[derive(Clone)]
+pub struct Run {
+    pub gateway: Gateway,
+    pub hellos: Hellos,
+    /// The reply buffer after the last frame.
+    pub reply: [u8; 14],
+}
+
+pub const UNTOUCHED: u8 = 0xee;
+
+impl Run {
+    pub fn new(settings: &Settings) -> Run {
+        let (gateway, hellos) = Gateway::set_up(settings).expect("settings in range");
+        Run { gateway, hellos, reply: [UNTOUCHED; 14] }
+    }
+
+    pub fn running(circuits: &[CircuitSettings]) -> Run {
+        Run::new(&settings(Mode::Running, circuits))
+    }
+
+    pub fn restarting(circuits: &[CircuitSettings]) -> Run {
+        Run::new(&settings(Mode::Restarting, circuits))
+    }
+
+    /// Lends octets. A refusal changes nothing, and the buffer is written only for a reply and only in 11 octets.
+    pub fn lend(&mut self, circuit: u8, source: Mac, octets: &[u8]) -> Result<Received, u8> {
+        self.reply = [UNTOUCHED; 14];
+        let before = self.gateway.clone();
+        let answer = self.gateway.receive(circuit, source, octets, &mut self.reply);
+        match &answer {
+            Ok(Received { reply: Some(reply), .. }) => {
+                assert_eq!(self.reply[..2], [211, 9]);
+                assert_eq!(self.reply[2], if reply.kind == ReplyKind::Ra { RA } else { PA });
+                assert_eq!(self.reply[3..5], reply.remaining.to_be_bytes());
+                assert_eq!(self.reply[11..], [UNTOUCHED; 3]);
+            }
+            Ok(Received { reply: None, .. }) => assert_eq!(self.reply, [UNTOUCHED; 14]),
+            Err(_) => {
+                assert_eq!(self.reply, [UNTOUCHED; 14]);
+                assert_eq!(self.gateway, before);
+            }
+        }
+        answer.map_err(Refusal::number)
+    }
+
+    pub fn receive(&mut self, circuit: u8, source: Mac, hello: &Hello) -> Result<Received, u8> {
+        self.lend(circuit, source, &hello.octets())
+    }
+
+    /// Circuit 1, from the peer's MAC, accepted.
+    pub fn accept(&mut self, hello: &Hello) -> Received {
+        self.receive(1, PEER_MAC, hello).expect("accepted")
+    }
+
+    /// Circuit 1, from the peer's MAC, refused.
+    pub fn refuse(&mut self, hello: &Hello) -> u8 {
+        self.receive(1, PEER_MAC, hello).expect_err("refused")
+    }
+
+    pub fn tick(&mut self, clock: u32) -> Ticked {
+        self.gateway.tick(clock).expect("clock not lower")
+    }
+
+    /// The peer's record on circuit 1: on a LAN at level 1, under the peer's MAC.
+    pub fn peer(&self) -> Option<Record> {
+        self.gateway.look_up(1, 1, PEER, PEER_MAC).expect("circuit stands")
+    }
+
+    /// The peer's record, which stands.
+    pub fn record(&self) -> Record {
+        self.peer().expect("record stands")
+    }
+}
+
+/// A point-to-point circuit, Running, the peer UP from this clock on.
+pub fn p2p_up(clock: u32, hold: u16) -> Run {
+    let mut run = Run::new(&Settings { clock, ..settings(Mode::Running, &[p2p()]) });
+    run.accept(&Hello::p2p(INITIALIZING).hold(hold));
+    assert!(run.record().up);
+    run
+}
+
+/// A small pseudo-random source (xorshift), the same numbers for the same seed.
+pub struct Dice(u64);
+
+impl Dice {
+    pub fn new(seed: u64) -> Dice {
+        Dice(seed.wrapping_mul(0x9e37_79b9_7f4a_7c15) | 1)
+    }
+
+    pub fn roll(&mut self) -> u64 {
+        self.0 ^= self.0 << 13;
+        self.0 ^= self.0 >> 7;
+        self.0 ^= self.0 << 17;
+        self.0
+    }
+
+    pub fn below(&mut self, end: u64) -> u64 {
+        (self.roll() >> 11) % end
+    }
+
+    pub fn chance(&mut self, one_in: u64) -> bool {
+        self.below(one_in) == 0
+    }
+
+    pub fn pick<T: Copy>(&mut self, from: &[T]) -> T {
+        from[self.below(from.len() as u64) as usize]
+    }
+}

@@ -1,0 +1,241 @@
+//! Seeded pseudo-random calls: garbage and nearly valid frames. Nothing panics, refusals change nothing, and what must hold
+//! of every gateway holds.
+
+mod common;
+use common::*;
+use isis_gr_reference::*;
+
+const SYSTEMS: [SystemId; 5] = [OWN, PEER, THIRD, [1; 6], [2; 6]];
+const MACS: [Mac; 5] = [OWN_MAC, PEER_MAC, THIRD_MAC, [1; 6], [0xff; 6]];
+
+fn some_settings(dice: &mut Dice) -> Settings {
+    let count = 1 + dice.below(8);
+    let circuits = (0..count)
+        .map(|_| CircuitSettings {
+            kind: dice.pick(&[Kind::PointToPoint, Kind::Lan]),
+            levels: dice.pick(&[ONE, TWO, BOTH, BOTH]),
+            mac: OWN_MAC,
+            priority: dice.pick(&[0, 64, 127]),
+            hold: dice.pick(&[1, 30, u16::MAX]),
+            metric: dice.pick(&[0, 10, 16_777_214]),
+            id: OWN_ID,
+        })
+        .collect();
+    Settings {
+        system: OWN,
+        t1: dice.pick(&[1, 3, 60]),
+        t2: dice.pick(&[10, 60, u16::MAX]),
+        tries: dice.pick(&[1, 3, 255]),
+        clock: dice.pick(&[0, 100, u32::MAX - 500]),
+        mode: dice.pick(&[Mode::Running, Mode::Restarting]),
+        circuits,
+    }
+}
+
+fn some_octets(dice: &mut Dice, length: u64) -> Vec<u8> {
+    (0..length).map(|_| dice.roll() as u8).collect()
+}
+
+fn some_tlv(dice: &mut Dice, hello: Hello) -> Hello {
+    let time = dice.pick(&[0, 5, 40, 300, u16::MAX]);
+    match dice.below(8) {
+        0 | 1 => {
+            let flags = dice.pick(&[0, RR, RR, RA, RA, SA, PR, PR, PA, RR | SA, RR | PR, RA | SA, 0xe0]);
+            let system = dice.pick(&SYSTEMS);
+            hello.restart_of(flags, time, system)
+        }
+        2 => hello.restart(dice.roll() as u8, time),
+        3 => hello.reverse(dice.roll() as u8, dice.below(1 << 24) as u32),
+        4 => {
+            let list: Vec<u8> = (0..dice.below(4)).flat_map(|_| dice.pick(&MACS)).collect();
+            hello.tlv(6, &list)
+        }
+        5 => {
+            let kind = dice.pick(&[1, 6, 8, 16, 18, 129, 211, 240]);
+            let length = dice.below(20);
+            let value = some_octets(dice, length);
+            hello.tlv(kind, &value)
+        }
+        _ => hello.tlv(129, &[0xcc]),
+    }
+}
+
+/// A hello, most often a good one.
+fn some_hello(dice: &mut Dice, kind: Kind) -> Vec<u8> {
+    let mut hello = match kind {
+        Kind::Lan => Hello::lan(1 + dice.below(2) as u8),
+        Kind::PointToPoint => Hello::bare(),
+    };
+    hello = hello.from(dice.pick(&[PEER, PEER, PEER, THIRD, [1; 6], OWN]));
+    hello = hello.hold(dice.pick(&[0, 5, 27, 300, u16::MAX])).priority(dice.roll() as u8);
+    match kind {
+        Kind::Lan if dice.chance(2) => hello = hello.tlv(6, &OWN_MAC),
+        Kind::Lan => {}
+        Kind::PointToPoint => {
+            let state = dice.below(3) as u8;
+            let neighbour = dice.pick(&[OWN, OWN, OWN, THIRD]);
+            let circuit = dice.pick(&[OWN_ID, OWN_ID, OWN_ID, 7]);
+            hello = match dice.below(6) {
+                0 => hello.tlv(240, &[state]),
+                1 => hello.tlv(240, &[state, 1, 2, 3, 4]),
+                _ => hello.three_way(state, neighbour, circuit),
+            };
+        }
+    }
+    for _ in 0..dice.below(3) {
+        hello = some_tlv(dice, hello);
+    }
+    hello.octets()
+}
+
+/// Octets to lend: a hello, a hello with some octets changed, cut or added, or garbage.
+fn some_frame(dice: &mut Dice, kind: Kind) -> Vec<u8> {
+    if dice.chance(12) {
+        let length = dice.below(1_600);
+        return some_octets(dice, length);
+    }
+    let other = match kind {
+        Kind::Lan => Kind::PointToPoint,
+        Kind::PointToPoint => Kind::Lan,
+    };
+    let kind = if dice.chance(20) { other } else { kind };
+    let mut octets = some_hello(dice, kind);
+    match dice.below(8) {
+        0 => {
+            let at = dice.below(octets.len() as u64) as usize;
+            octets[at] = dice.roll() as u8;
+        }
+        1 => {
+            let at = dice.below(octets.len() as u64) as usize;
+            octets[at] ^= 1 << dice.below(8);
+        }
+        2 => octets.truncate(dice.below(octets.len() as u64) as usize),
+        3 => {
+            let length = dice.below(9);
+            let more = some_octets(dice, length);
+            octets.extend(more);
+        }
+        _ => {}
+    }
+    octets
+}
+
+/// What must hold of every gateway, whatever calls were made.
+fn check(gateway: &Gateway, settings: &Settings, clock: u32) {
+    let mut waiting = Vec::new();
+    for (circuit, own) in (1..).zip(&settings.circuits) {
+        let flags = gateway.next_hello_flags(circuit).unwrap();
+        assert!(flags == 0 || flags == RR);
+        if flags == RR {
+            waiting.push(circuit);
+        }
+        let metric = gateway.link_metric(circuit).unwrap();
+        assert!((own.metric..=16_777_215).contains(&metric));
+        assert!(own.kind == Kind::PointToPoint || metric == own.metric);
+        let mut standing = 0;
+        for system in SYSTEMS {
+            let keys = match own.kind {
+                Kind::Lan => (1..=2).flat_map(|level| MACS.map(|mac| (level, mac))).collect(),
+                Kind::PointToPoint => vec![(0, OWN_MAC)],
+            };
+            for (level, mac) in keys {
+                let Ok(Some(record)) = gateway.look_up(circuit, level, system, mac) else { continue };
+                standing += 1;
+                assert_ne!(system, OWN);
+                assert!(record.up || record.mark == Mark::Clear);
+                assert_eq!(record.advertised(), record.up && !record.suppressed);
+                assert!(record.priority <= 127);
+                assert!(record.expiry >= u64::from(clock) && record.expiry <= u64::from(clock) + 65_535);
+            }
+        }
+        assert!(standing <= if own.kind == Kind::Lan { 16 } else { 1 });
+    }
+    assert_eq!(gateway.waiting(), (waiting.len() as u32, waiting.first().copied()));
+}
+
+#[test]
+fn random_calls_never_panic_and_refusals_change_nothing() {
+    let mut seen = [0_u32; 12];
+    for seed in 1..=120 {
+        let mut dice = Dice::new(seed);
+        let settings = some_settings(&mut dice);
+        let (mut gateway, _) = Gateway::set_up(&settings).unwrap();
+        let mut clock = settings.clock;
+        for _ in 0..500 {
+            let before = gateway.clone();
+            let circuit = dice.below(settings.circuits.len() as u64) as u8 + 1;
+            let named = if dice.chance(40) { dice.roll() as u8 } else { circuit };
+            let level = if dice.chance(40) { dice.roll() as u8 } else { 1 + dice.below(2) as u8 };
+            let refused = match dice.below(20) {
+                0 => {
+                    let to = if dice.chance(6) { clock.wrapping_sub(3) } else { clock.saturating_add(dice.pick(&[0, 1, 4])) };
+                    let answer = gateway.tick(to);
+                    if answer.is_ok() {
+                        clock = to;
+                    }
+                    answer.err()
+                }
+                1 => gateway.release(named).err(),
+                2 => gateway.csnp_complete(named, level).err(),
+                3 => gateway.database_complete(level).err(),
+                _ => {
+                    let frame = some_frame(&mut dice, settings.circuits[usize::from(circuit) - 1].kind);
+                    let source = dice.pick(&MACS);
+                    let room = if dice.chance(40) { dice.below(11) } else { 11 + dice.below(4) } as usize;
+                    let mut reply = vec![UNTOUCHED; room];
+                    let answer = gateway.receive(named, source, &frame, &mut reply);
+                    let written = matches!(answer, Ok(Received { reply: Some(_), .. }));
+                    let from = if written { 11 } else { 0 };
+                    assert!(reply[from..].iter().all(|&octet| octet == UNTOUCHED));
+                    // Octets past the PDU Length are never read.
+                    let mut longer = frame.clone();
+                    longer.extend([0xd3; 30]);
+                    let mut twin = before.clone();
+                    let mut second = vec![UNTOUCHED; room];
+                    if answer.is_ok() {
+                        assert_eq!(twin.receive(named, source, &longer, &mut second), answer);
+                        assert_eq!((&twin, &second), (&gateway, &reply));
+                    }
+                    answer.err()
+                }
+            };
+            match refused {
+                Some(refusal) => {
+                    assert_eq!(gateway, before);
+                    seen[usize::from(refusal.number())] += 1;
+                }
+                None => seen[0] += 1,
+            }
+            check(&gateway, &settings, clock);
+        }
+    }
+    assert!(seen.iter().all(|&count| count > 0), "accepted and refusals 1 to 11: {seen:?}");
+    assert!(seen[0] > 15_000, "{seen:?}");
+}
+
+#[test]
+fn every_frame_of_one_changed_octet_is_answered() {
+    let hello = Hello::p2p(UP).restart(RR, 300).reverse(2, 5).octets();
+    let listed = Hello::lan_up(2).restart(PR, 300).reverse(2, 5).octets();
+    for (circuit, octets) in [(1, hello), (2, listed)] {
+        for mode in [Mode::Running, Mode::Restarting] {
+            let mut run = Run::new(&settings(mode, &[p2p(), lan()]));
+            for at in 0..octets.len() {
+                for value in 0..=255 {
+                    let mut changed = octets.clone();
+                    changed[at] = value;
+                    let _ = run.lend(circuit, PEER_MAC, &changed);
+                }
+            }
+        }
+    }
+}
+
+#[test]
+fn every_cut_of_a_frame_is_refused_3_4_or_as_the_whole() {
+    let octets = Hello::p2p(UP).restart(RR, 300).octets();
+    for length in 0..octets.len() {
+        let refused = Run::running(&[p2p()]).lend(1, PEER_MAC, &octets[..length]);
+        assert_eq!(refused, Err(if length < 8 { 3 } else { 4 }));
+    }
+}

@@ -1,0 +1,44 @@
+//! The functions of the proved archive `libisis_gr.a`, as they are: words and octets. `include/isis_gr.h` says what each word holds, and what the
+//! proofs assume of a caller: pointers valid for the sizes named here, and buffers that neither overlap nor change during a call. The crate
+//! `isis-gr` is the safe way to use them.
+#![no_std]
+#![deny(missing_docs)]
+
+/// The words of a gateway.
+pub const GATEWAY_WORDS: usize = 640;
+
+/// The octets of the settings.
+pub const SETTINGS_OCTETS: usize = 169;
+
+extern "C" {
+    /// The words of a gateway in this archive.
+    pub fn isis_gr_raw_gateway_words() -> u32;
+    /// A new gateway in `GATEWAY_WORDS` words, of `SETTINGS_OCTETS` octets.
+    pub fn isis_gr_raw_set_up(gateway: *mut u64, settings: *const u8) -> u32;
+    /// Takes one hello frame; the source MAC is six octets.
+    pub fn isis_gr_raw_receive(
+        gateway: *mut u64,
+        circuit: u8,
+        source: *const u8,
+        frame: *const u8,
+        frame_len: usize,
+        reply: *mut u8,
+        reply_len: usize,
+    ) -> u64;
+    /// The clock.
+    pub fn isis_gr_raw_tick(gateway: *mut u64, clock: u32) -> u64;
+    /// Removes a circuit's Planned records.
+    pub fn isis_gr_raw_release(gateway: *mut u64, circuit: u8) -> u32;
+    /// The CSNP set of a level is complete on a circuit.
+    pub fn isis_gr_raw_csnp_complete(gateway: *mut u64, circuit: u8, level: u8) -> u64;
+    /// The database of a level is complete.
+    pub fn isis_gr_raw_database_complete(gateway: *mut u64, level: u8) -> u64;
+    /// The record with a key, in two words; the System ID and the MAC are six octets each.
+    pub fn isis_gr_raw_look_up(gateway: *const u64, circuit: u8, level: u8, system: *const u8, mac: *const u8, record: *mut u64) -> u32;
+    /// The metric of a circuit's link.
+    pub fn isis_gr_raw_link_metric(gateway: *const u64, circuit: u8) -> u64;
+    /// The flags of the next hello on a circuit.
+    pub fn isis_gr_raw_next_hello_flags(gateway: *const u64, circuit: u8) -> u32;
+    /// The circuits that still wait for T1.
+    pub fn isis_gr_raw_waiting(gateway: *const u64) -> u32;
+}

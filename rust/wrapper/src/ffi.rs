@@ -1,0 +1,64 @@
+//! The archive's functions over references. All unsafe code of the crate is here.
+use isis_gr_sys as raw;
+
+pub(crate) use raw::{GATEWAY_WORDS, SETTINGS_OCTETS};
+
+pub(crate) type Words = [u64; GATEWAY_WORDS];
+
+/// The words of a gateway in the archive that is linked.
+pub(crate) fn gateway_words() -> u32 {
+    // SAFETY: it takes no pointer.
+    unsafe { raw::isis_gr_raw_gateway_words() }
+}
+
+pub(crate) fn set_up(words: &mut Words, settings: &[u8; SETTINGS_OCTETS]) -> u32 {
+    // SAFETY: both references are valid for the sizes that their types say, and do not overlap.
+    unsafe { raw::isis_gr_raw_set_up(words.as_mut_ptr(), settings.as_ptr()) }
+}
+
+pub(crate) fn receive(words: &mut Words, circuit: u8, source: &[u8; 6], frame: &[u8], reply: &mut [u8]) -> u64 {
+    // SAFETY: each slice is valid for the length that is handed on with it; the borrows do not overlap.
+    unsafe {
+        raw::isis_gr_raw_receive(words.as_mut_ptr(), circuit, source.as_ptr(), frame.as_ptr(), frame.len(), reply.as_mut_ptr(), reply.len())
+    }
+}
+
+pub(crate) fn tick(words: &mut Words, clock: u32) -> u64 {
+    // SAFETY: the reference is valid for 640 words.
+    unsafe { raw::isis_gr_raw_tick(words.as_mut_ptr(), clock) }
+}
+
+pub(crate) fn release(words: &mut Words, circuit: u8) -> u32 {
+    // SAFETY: the reference is valid for 640 words.
+    unsafe { raw::isis_gr_raw_release(words.as_mut_ptr(), circuit) }
+}
+
+pub(crate) fn csnp_complete(words: &mut Words, circuit: u8, level: u8) -> u64 {
+    // SAFETY: the reference is valid for 640 words.
+    unsafe { raw::isis_gr_raw_csnp_complete(words.as_mut_ptr(), circuit, level) }
+}
+
+pub(crate) fn database_complete(words: &mut Words, level: u8) -> u64 {
+    // SAFETY: the reference is valid for 640 words.
+    unsafe { raw::isis_gr_raw_database_complete(words.as_mut_ptr(), level) }
+}
+
+pub(crate) fn look_up(words: &Words, circuit: u8, level: u8, system: &[u8; 6], mac: &[u8; 6], record: &mut [u64; 2]) -> u32 {
+    // SAFETY: all references are valid for the sizes that their types say; the one that is written overlaps none.
+    unsafe { raw::isis_gr_raw_look_up(words.as_ptr(), circuit, level, system.as_ptr(), mac.as_ptr(), record.as_mut_ptr()) }
+}
+
+pub(crate) fn link_metric(words: &Words, circuit: u8) -> u64 {
+    // SAFETY: the reference is valid for 640 words.
+    unsafe { raw::isis_gr_raw_link_metric(words.as_ptr(), circuit) }
+}
+
+pub(crate) fn next_hello_flags(words: &Words, circuit: u8) -> u32 {
+    // SAFETY: the reference is valid for 640 words.
+    unsafe { raw::isis_gr_raw_next_hello_flags(words.as_ptr(), circuit) }
+}
+
+pub(crate) fn waiting(words: &Words) -> u32 {
+    // SAFETY: the reference is valid for 640 words.
+    unsafe { raw::isis_gr_raw_waiting(words.as_ptr()) }
+}

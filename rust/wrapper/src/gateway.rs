@@ -1,0 +1,86 @@
+//! The gateway and its calls.
+use crate::answers::{Received, Record, Refusal, Ticked, Timers, Waiting};
+use crate::ffi;
+use crate::names::{Circuit, Circuits, Level, Mac, SystemId};
+use crate::settings::Settings;
+
+/// The octets of a reply, and the least reply buffer that `receive` takes.
+pub const REPLY_OCTETS: usize = 11;
+
+/// A gateway: 5,120 octets, moved and cloned as such.
+#[derive(Clone)]
+pub struct Gateway {
+    words: ffi::Words,
+}
+
+impl Gateway {
+    /// A new gateway, and the circuits on which a hello with RR is ordered (none in the mode Running). Refused 12 where a setting is out of
+    /// its range; [`Settings::check`] names it.
+    pub fn set_up(settings: &Settings) -> Result<(Gateway, Circuits), Refusal> {
+        assert_eq!(ffi::gateway_words() as usize, ffi::GATEWAY_WORDS, "the archive is of another version");
+        let mut gateway = Gateway { words: [0; ffi::GATEWAY_WORDS] };
+        let word = u64::from(ffi::set_up(&mut gateway.words, &settings.octets()));
+        Refusal::unless(word, (gateway, Circuits((word >> 8) as u8)))
+    }
+
+    /// Takes one hello frame from a source MAC. A reply, where one is due, is the first 11 octets of `reply`; else the buffer is untouched.
+    /// Refused 1 to 9.
+    pub fn receive(&mut self, circuit: Circuit, from: Mac, frame: &[u8], reply: &mut [u8]) -> Result<Received, Refusal> {
+        let word = ffi::receive(&mut self.words, circuit.number(), &from.0, frame, reply);
+        Refusal::unless(word, Received::of_word(word))
+    }
+
+    /// The clock in seconds. Refused 10 where it is lower than the held one.
+    pub fn tick(&mut self, clock: u32) -> Result<Ticked, Refusal> {
+        let word = ffi::tick(&mut self.words, clock);
+        Refusal::unless(word, Ticked::of_word(word))
+    }
+
+    /// Removes a circuit's Planned records. Refused 1.
+    pub fn release(&mut self, circuit: Circuit) -> Result<(), Refusal> {
+        Refusal::unless(u64::from(ffi::release(&mut self.words, circuit.number())), ())
+    }
+
+    /// The CSNP set of a level is complete on a circuit. Refused 1 or 11.
+    pub fn csnp_complete(&mut self, circuit: Circuit, level: Level) -> Result<Timers, Refusal> {
+        let word = ffi::csnp_complete(&mut self.words, circuit.number(), level.number());
+        Refusal::unless(word, Timers::of_word(word))
+    }
+
+    /// The database of a level is complete. Refused 1 or 11.
+    pub fn database_complete(&mut self, level: Level) -> Result<Timers, Refusal> {
+        let word = ffi::database_complete(&mut self.words, level.number());
+        Refusal::unless(word, Timers::of_word(word))
+    }
+
+    /// The record of a neighbour on a LAN circuit, by level, System ID and source MAC; on P2P only the System ID counts. Refused 1.
+    pub fn look_up(&self, circuit: Circuit, level: Level, system: SystemId, mac: Mac) -> Result<Option<Record>, Refusal> {
+        let mut record = [0; 2];
+        let word = ffi::look_up(&self.words, circuit.number(), level.number(), &system.0, &mac.0, &mut record);
+        Refusal::unless(u64::from(word), Record::of_words((word >> 8) as u8, record))
+    }
+
+    /// The metric of a circuit's link. Refused 1.
+    pub fn link_metric(&self, circuit: Circuit) -> Result<u32, Refusal> {
+        let word = ffi::link_metric(&self.words, circuit.number());
+        Refusal::unless(word, (word >> 32) as u32)
+    }
+
+    /// Whether the next hello on a circuit carries RR; it carries no other flag. Refused 1.
+    pub fn next_hello_has_rr(&self, circuit: Circuit) -> Result<bool, Refusal> {
+        let word = ffi::next_hello_flags(&self.words, circuit.number());
+        Refusal::unless(u64::from(word), word >> 8 & 1 == 1)
+    }
+
+    /// How many circuits still wait for T1, and the lowest of them.
+    pub fn waiting(&self) -> Waiting {
+        let word = ffi::waiting(&self.words);
+        Waiting { count: word & 0xFF, lowest: Circuit::new((word >> 8) as u8) }
+    }
+}
+
+impl std::fmt::Debug for Gateway {
+    fn fmt(&self, f: &mut std::fmt::Formatter<'_>) -> std::fmt::Result {
+        f.debug_struct("Gateway").field("waiting", &self.waiting()).finish_non_exhaustive()
+    }
+}

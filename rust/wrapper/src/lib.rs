@@ -1,0 +1,30 @@
+//! Restart signaling (RFC 8706) and reverse metric (RFC 8500) for an IS-IS router.
+//!
+//! A safe wrapper of `libisis_gr.a`, whose every call is proved against its definition. It adds no rule: each method hands its arguments on
+//! and names what comes back. There is no I/O, no allocation and no clock inside: hello frames and clock ticks go in; records, Restart TLVs,
+//! orders (actions that the caller must take) and link metrics come out.
+//!
+//! ```
+//! use isis_gr::{Circuit, CircuitSettings, Gateway, Kind, Levels, Mac, Mode, Refusal, Settings, SystemId};
+//!
+//! let p2p = CircuitSettings::new(Kind::P2p, Levels::BOTH, Mac([2, 0, 0, 0, 0, 1])).extended_circuit_id(7);
+//! let settings = Settings::new(SystemId([0x19, 0x21, 0x68, 0, 0x10, 1]), Mode::Running, 100).circuit(p2p);
+//! let (mut gateway, _hellos) = Gateway::set_up(&settings).expect("every setting is in range");
+//! let mut reply = [0; 11];
+//! let first = Circuit::new(1).expect("1 to 8");
+//! let answer = gateway.receive(first, Mac([2, 0, 0, 0, 0, 2]), b"no hello", &mut reply);
+//! assert_eq!(answer, Err(Refusal::NotHello));
+//! ```
+#![deny(missing_docs)]
+#![deny(unsafe_op_in_unsafe_fn)]
+
+mod answers;
+mod ffi;
+mod gateway;
+mod names;
+mod settings;
+
+pub use answers::{Ack, Freed, Mark, Overload, Phase, Received, Record, Refusal, Reply, ReverseMetric, Ticked, Timers, Waiting};
+pub use gateway::{Gateway, REPLY_OCTETS};
+pub use names::{Circuit, Circuits, Level, Levels, Mac, SystemId};
+pub use settings::{CircuitSettings, Kind, Mode, SettingError, Settings};

@@ -1,0 +1,137 @@
+//! What calls are about: circuits, levels, System IDs and MACs.
+use std::fmt;
+
+/// A circuit's number, 1 to 8.
+#[derive(Clone, Copy, PartialEq, Eq, PartialOrd, Ord, Hash, Debug)]
+pub struct Circuit(u8);
+
+impl Circuit {
+    /// The circuit of a number from 1 to 8. Whether the gateway has it is the gateway's to say.
+    ///
+    /// ```
+    /// # use isis_gr::Circuit;
+    /// assert!(Circuit::new(8).is_some());
+    /// assert!(Circuit::new(0).is_none());
+    /// ```
+    pub fn new(number: u8) -> Option<Circuit> {
+        (1..=8).contains(&number).then_some(Circuit(number))
+    }
+
+    /// Its number.
+    pub fn number(self) -> u8 {
+        self.0
+    }
+}
+
+/// A set of circuits.
+#[derive(Clone, Copy, PartialEq, Eq, Hash, Default)]
+pub struct Circuits(pub(crate) u8);
+
+impl Circuits {
+    /// Whether the circuit is in the set.
+    pub fn contains(self, circuit: Circuit) -> bool {
+        self.0 >> (circuit.0 - 1) & 1 == 1
+    }
+
+    /// Whether there is none.
+    pub fn is_empty(self) -> bool {
+        self.0 == 0
+    }
+
+    /// The circuits of the set, lowest first.
+    ///
+    /// ```
+    /// # use isis_gr::Circuits;
+    /// assert_eq!(Circuits::default().iter().count(), 0);
+    /// ```
+    pub fn iter(self) -> impl Iterator<Item = Circuit> {
+        (1..=8).map(Circuit).filter(move |circuit| self.contains(*circuit))
+    }
+}
+
+impl fmt::Debug for Circuits {
+    fn fmt(&self, f: &mut fmt::Formatter<'_>) -> fmt::Result {
+        f.debug_set().entries(self.iter().map(Circuit::number)).finish()
+    }
+}
+
+/// An IS-IS level.
+#[derive(Clone, Copy, PartialEq, Eq, Hash, Debug)]
+pub enum Level {
+    /// Level 1.
+    One,
+    /// Level 2.
+    Two,
+}
+
+impl Level {
+    pub(crate) fn number(self) -> u8 {
+        match self {
+            Level::One => 1,
+            Level::Two => 2,
+        }
+    }
+}
+
+/// A set of levels.
+#[derive(Clone, Copy, PartialEq, Eq, Hash, Debug, Default)]
+pub struct Levels {
+    /// Level 1 is in it.
+    pub one: bool,
+    /// Level 2 is in it.
+    pub two: bool,
+}
+
+impl Levels {
+    /// Level 1 alone.
+    pub const ONE: Levels = Levels { one: true, two: false };
+    /// Level 2 alone.
+    pub const TWO: Levels = Levels { one: false, two: true };
+    /// Both levels.
+    pub const BOTH: Levels = Levels { one: true, two: true };
+
+    /// Whether there is none.
+    pub fn is_empty(self) -> bool {
+        self == Levels::default()
+    }
+
+    /// Whether the level is in the set.
+    pub fn contains(self, level: Level) -> bool {
+        match level {
+            Level::One => self.one,
+            Level::Two => self.two,
+        }
+    }
+
+    pub(crate) fn mask(self) -> u8 {
+        u8::from(self.one) + 2 * u8::from(self.two)
+    }
+
+    pub(crate) fn of_mask(mask: u8) -> Levels {
+        Levels { one: mask & 1 == 1, two: mask & 2 == 2 }
+    }
+}
+
+/// A System ID.
+#[derive(Clone, Copy, PartialEq, Eq, PartialOrd, Ord, Hash)]
+pub struct SystemId(pub [u8; 6]);
+
+impl fmt::Debug for SystemId {
+    /// As 1921.6800.1001.
+    fn fmt(&self, f: &mut fmt::Formatter<'_>) -> fmt::Result {
+        let [a, b, c, d, e, g] = self.0;
+        write!(f, "{a:02x}{b:02x}.{c:02x}{d:02x}.{e:02x}{g:02x}")
+    }
+}
+
+/// A MAC.
+#[derive(Clone, Copy, PartialEq, Eq, PartialOrd, Ord, Hash)]
+pub struct Mac(pub [u8; 6]);
+
+impl fmt::Debug for Mac {
+    /// As 02:00:00:00:00:01.
+    fn fmt(&self, f: &mut fmt::Formatter<'_>) -> fmt::Result {
+        let [a, b, c, d, e, g] = self.0;
+        write!(f, "{a:02x}:{b:02x}:{c:02x}:{d:02x}:{e:02x}:{g:02x}")
+    }
+}

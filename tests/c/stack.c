@@ -1,0 +1,138 @@
+/* Paints a stack and lets receive run on it: how deep it went on frames of 1,492 octets, and on short ones. Fails at 512 octets and more. */
+#define _XOPEN_SOURCE 700
+#include "isis_gr.h"
+
+#include <stdio.h>
+#include <stdlib.h>
+#include <ucontext.h>
+
+enum { STACK = 1 << 16, LIMIT = 512, PAINT = 0xA5 };
+
+static unsigned char stack[STACK];
+static ucontext_t caller, callee;
+static isis_gr_gateway g;
+static uint8_t frame[1492], reply[ISIS_GR_REPLY_OCTETS];
+static size_t length;
+static uint8_t circuit;
+static const uint8_t source[6] = {2, 0, 0, 0, 0, 2};
+static volatile uint64_t answer;
+static unsigned char *at_call;
+
+/* where the stack stands when receive is called */
+static void run(void) {
+    at_call = __builtin_frame_address(0);
+    answer = isis_gr_raw_receive(g.words, circuit, source, frame, length, reply, sizeof reply);
+}
+
+/* the same without the call */
+static void idle(void) {
+    at_call = __builtin_frame_address(0);
+    answer = 0;
+}
+
+static size_t depth(void (*what)(void)) {
+    size_t i;
+    memset(stack, PAINT, sizeof stack);
+    getcontext(&callee);
+    callee.uc_stack.ss_sp = stack;
+    callee.uc_stack.ss_size = sizeof stack;
+    callee.uc_link = &caller;
+    makecontext(&callee, what, 0);
+    swapcontext(&caller, &callee);
+    for (i = 0; i < sizeof stack && stack[i] == PAINT; i++) {
+    }
+    return (size_t)(at_call - (stack + i));
+}
+
+static void start(void) {
+    isis_gr_settings s;
+    size_t i;
+    memset(&s, 0, sizeof s);
+    s.system_id[5] = 1;
+    s.t1 = s.t2 = 60;
+    s.tries = 3;
+    s.mode = ISIS_GR_MODE_RESTARTING;
+    s.count = 2;
+    for (i = 0; i < 2; i++) {
+        s.circuits[i].kind = i == 0 ? ISIS_GR_KIND_P2P : ISIS_GR_KIND_LAN;
+        s.circuits[i].levels = ISIS_GR_LEVEL_BOTH;
+        s.circuits[i].hold = 30;
+        s.circuits[i].mac[5] = 9;
+    }
+    if (isis_gr_set_up(&g, &s).code != ISIS_GR_OK) {
+        exit(1);
+    }
+}
+
+static void header(uint8_t kind) {
+    const uint8_t p2p[20] = {0x83, 20, 1, 0, 17, 1, 0, 0, 3, 0, 0, 0, 0, 0, 2, 0, 27, 0, 0, 1};
+    const uint8_t lan[27] = {0x83, 27, 1, 0, 15, 1, 0, 0, 3, 0, 0, 0, 0, 0, 2, 0, 27, 0, 0, 64};
+    length = kind == ISIS_GR_KIND_P2P ? sizeof p2p : sizeof lan;
+    memcpy(frame, kind == ISIS_GR_KIND_P2P ? p2p : lan, length);
+}
+
+static void tlv(uint8_t type, uint8_t n, const uint8_t *value) {
+    frame[length] = type;
+    frame[length + 1] = n;
+    if (value) {
+        memcpy(frame + length + 2, value, n);
+    } else {
+        memset(frame + length + 2, 7, n);
+    }
+    length += 2u + n;
+}
+
+static void seal(void) {
+    frame[17] = (uint8_t)(length >> 8);
+    frame[18] = (uint8_t)length;
+}
+
+static size_t most;
+
+static void measure(const char *name) {
+    size_t used = depth(run), base = depth(idle);
+    used = used > base ? used : base;
+    printf("%4zu octets of stack: %s (code %u)\n", used, name, (unsigned)(answer & 255u));
+    depth(run);
+    most = used > most ? used : most;
+}
+
+int main(void) {
+    const uint8_t up[1] = {0}, starting[1] = {1}, request[3] = {1, 0, 0}, planned[3] = {8, 0, 9}, ack[9] = {2, 0, 20, 0, 0, 0, 0, 0, 1};
+    const uint8_t metric[5] = {2, 0, 0, 5, 0};
+    int i;
+    start();
+    circuit = 1;
+    header(ISIS_GR_KIND_P2P);
+    tlv(240, 1, starting);
+    seal();
+    measure("P2P, no Restart TLV");
+    header(ISIS_GR_KIND_P2P);
+    tlv(240, 1, up);
+    tlv(211, 9, ack);
+    tlv(16, 5, metric);
+    while (length + 257 <= sizeof frame) {
+        tlv(8, 255, NULL);
+    }
+    tlv(8, (uint8_t)(sizeof frame - length - 2), NULL);
+    seal();
+    measure("P2P, 1,492 octets, RA while Restarting");
+    header(ISIS_GR_KIND_P2P);
+    tlv(240, 1, up);
+    tlv(211, 3, planned);
+    seal();
+    measure("P2P, PR, reply PA");
+    circuit = 2;
+    for (i = 0; i < 2; i++) {
+        header(ISIS_GR_KIND_LAN);
+        tlv(211, 3, request);
+        while (length + 254 <= sizeof frame) {
+            tlv(6, 252, NULL);
+        }
+        tlv(6, (uint8_t)((sizeof frame - length - 2) / 6 * 6), NULL);
+        seal();
+        measure("LAN, 1,492 octets of neighbours, RR, reply RA");
+    }
+    printf("%4zu octets at most; the limit is %d\n", most, LIMIT);
+    return most < LIMIT ? 0 : 1;
+}
