@@ -64,7 +64,7 @@ fn look_on(gateway: &[u64], n: u8, s: Circuit, key: Key) -> Looked
 }
 
 // The record with a key on a circuit.
-pub fn look_in(gateway: &[u64], n: u8, key: Key) -> Looked
+pub(crate) fn look_in(gateway: &[u64], n: u8, key: Key) -> Looked
     requires { ⌜ length (now gateway) ≡ gatewayWords ⌝ }
     ensures { λ r. ⌜ Meets (lookedOf r) (step (gatewayOf (now (gateway .entry))) (At n (LookUp key))) (now (gateway .entry)) (now (gateway .entry)) [] ⌝ }
 {
@@ -74,7 +74,7 @@ pub fn look_in(gateway: &[u64], n: u8, key: Key) -> Looked
     look_on(gateway, n, s, key)
 }
 
-pub fn metric_in(gateway: &[u64], n: u8) -> Metric
+pub(crate) fn metric_in(gateway: &[u64], n: u8) -> Metric
     requires { ⌜ length (now gateway) ≡ gatewayWords ⌝ }
     ensures { λ r. ⌜ Meets (metricOf r) (step (gatewayOf (now (gateway .entry))) (At n LinkMetric)) (now (gateway .entry)) (now (gateway .entry)) [] ⌝ }
 {
@@ -87,7 +87,7 @@ pub fn metric_in(gateway: &[u64], n: u8) -> Metric
     Metric::Link(link_metric(kind, s.metric, stood))
 }
 
-pub fn flags_in(gateway: &[u64], n: u8) -> NextFlags
+pub(crate) fn flags_in(gateway: &[u64], n: u8) -> NextFlags
     requires { ⌜ length (now gateway) ≡ gatewayWords ⌝ }
     ensures { λ r. ⌜ Meets (flagsOf r) (step (gatewayOf (now (gateway .entry))) (At n NextHello)) (now (gateway .entry)) (now (gateway .entry)) [] ⌝ }
 {
@@ -99,7 +99,7 @@ pub fn flags_in(gateway: &[u64], n: u8) -> NextFlags
     NextFlags::Next(flags)
 }
 
-pub fn waiting_in(gateway: &[u64]) -> Waiting
+pub(crate) fn waiting_in(gateway: &[u64]) -> Waiting
     requires { ⌜ length (now gateway) ≡ gatewayWords ⌝ }
     ensures { λ r. ⌜ Meets (waitingOf r) (step (gatewayOf (now (gateway .entry))) (Over Waits)) (now (gateway .entry)) (now (gateway .entry)) [] ⌝ }
 {

@@ -14,7 +14,7 @@ ghost use Rattle.model.specs.Step.{step, Over, DatabaseComplete};
 ghost use Rattle.gateway.specs.Words.{gatewayWords, gatewayOf, Meets};
 
 // A level that is enabled on no circuit (1), then 11.
-pub fn database_in(gateway: &mut [u64], level: u8) -> Noticed
+pub(crate) fn database_in(gateway: &mut [u64], level: u8) -> Noticed
     requires { ⌜ length (now gateway) ≡ gatewayWords ⌝ }
     ensures { λ r. ⌜ Meets (noticedOf r) (step (gatewayOf (now (gateway .entry))) (Over (DatabaseComplete level))) (now (gateway .entry)) (now (gateway .exit)) [] ⌝ }
 {

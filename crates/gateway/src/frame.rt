@@ -168,7 +168,7 @@ fn read_in(
 }
 
 // Refusal 1.
-pub fn receive_in(
+pub(crate) fn receive_in(
     gateway: &mut [u64],
     n: u8,
     source: &[u8],

@@ -36,7 +36,7 @@ fn csnp_on(gateway: &mut [u64], n: u8, s: Circuit, level: u8) -> Noticed
 }
 
 // The CSNP set of a level is complete on a circuit.
-pub fn csnp_in(gateway: &mut [u64], n: u8, level: u8) -> Noticed
+pub(crate) fn csnp_in(gateway: &mut [u64], n: u8, level: u8) -> Noticed
     requires { ⌜ length (now gateway) ≡ gatewayWords ⌝ }
     ensures { λ r. ⌜ Meets (noticedOf r) (step (gatewayOf (now (gateway .entry))) (At n (CsnpComplete level))) (now (gateway .entry)) (now (gateway .exit)) [] ⌝ }
 {

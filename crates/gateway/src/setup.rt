@@ -57,7 +57,7 @@ fn circuits_given(all: [CircuitSettings; 8]) -> [Circuit; 8]
     read
 }
 
-pub fn settings_given(s: GatewaySettings) -> Settings
+pub(crate) fn settings_given(s: GatewaySettings) -> Settings
     ensures { λ r. ⌜ r ≡ settingsGiven s ⌝ }
 {
     let octets = s.system;
@@ -99,7 +99,7 @@ fn open_rooms(gateway: &mut [u64], all: [Circuit; 8])
 }
 
 // Refusal 12, or a new gateway, whatever the words were.
-pub fn set_up_in(gateway: &mut [u64], s: Settings) -> SetUp
+pub(crate) fn set_up_in(gateway: &mut [u64], s: Settings) -> SetUp
     requires { ⌜ length (now gateway) ≡ gatewayWords ⌝ }
     ensures { λ r. ⌜ SetsUp (setup s) (now (gateway .entry)) (now (gateway .exit)) r ⌝ }
 {

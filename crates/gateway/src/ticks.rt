@@ -45,7 +45,7 @@ fn sweep_rooms(gateway: &mut [u64], clock: u32) -> u8
 }
 
 // Refusal 10, or the tick. Memory that was never set up has no circuit: there a tick does nothing.
-pub fn tick_in(gateway: &mut [u64], clock: u32) -> Ticked
+pub(crate) fn tick_in(gateway: &mut [u64], clock: u32) -> Ticked
     requires { ⌜ length (now gateway) ≡ gatewayWords ⌝ }
     ensures { λ r. ⌜ Meets (tickedOf r) (step (gatewayOf (now (gateway .entry))) (Over (Tick clock))) (now (gateway .entry)) (now (gateway .exit)) [] ⌝ }
 {
@@ -71,7 +71,7 @@ pub fn tick_in(gateway: &mut [u64], clock: u32) -> Ticked
 }
 
 // Refusal 1, or the circuit's Planned records go.
-pub fn release_in(gateway: &mut [u64], n: u8) -> Released
+pub(crate) fn release_in(gateway: &mut [u64], n: u8) -> Released
     requires { ⌜ length (now gateway) ≡ gatewayWords ⌝ }
     ensures { λ r. ⌜ Meets (releasedOf r) (step (gatewayOf (now (gateway .entry))) (At n Release)) (now (gateway .entry)) (now (gateway .exit)) [] ⌝ }
 {

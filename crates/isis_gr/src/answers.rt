@@ -45,7 +45,7 @@ fn orders_word(o: Orders) -> u64
     first + FIFTH * outcome_number(outcome) as u64 + SIXTH * reply_time(reply) as u64
 }
 
-pub fn received_word(a: Received) -> u64
+pub(crate) fn received_word(a: Received) -> u64
     ensures { λ r. ⌜ r ≡ answerNo (receivedOf a) ⌝ }
 {
     match a {
@@ -54,7 +54,7 @@ pub fn received_word(a: Received) -> u64
     }
 }
 
-pub fn ticked_word(a: Ticked) -> u64
+pub(crate) fn ticked_word(a: Ticked) -> u64
     ensures { λ r. ⌜ r ≡ answerNo (tickedOf a) ⌝ }
 {
     match a {
@@ -67,7 +67,7 @@ pub fn ticked_word(a: Ticked) -> u64
     }
 }
 
-pub fn released_word(a: Released) -> u32
+pub(crate) fn released_word(a: Released) -> u32
     ensures { λ r. ⌜ r ≡ answerNo (releasedOf a) ⌝ }
 {
     match a {
@@ -76,7 +76,7 @@ pub fn released_word(a: Released) -> u32
     }
 }
 
-pub fn noticed_word(a: Noticed) -> u64
+pub(crate) fn noticed_word(a: Noticed) -> u64
     ensures { λ r. ⌜ r ≡ answerNo (noticedOf a) ⌝ }
 {
     match a {
@@ -85,7 +85,7 @@ pub fn noticed_word(a: Noticed) -> u64
     }
 }
 
-pub fn looked_word(a: Looked) -> u32
+pub(crate) fn looked_word(a: Looked) -> u32
     ensures { λ r. ⌜ r ≡ answerNo (lookedOf a) ⌝ }
 {
     match a {
@@ -95,7 +95,7 @@ pub fn looked_word(a: Looked) -> u32
     }
 }
 
-pub fn metric_word(a: Metric) -> u64
+pub(crate) fn metric_word(a: Metric) -> u64
     ensures { λ r. ⌜ r ≡ answerNo (metricOf a) ⌝ }
 {
     match a {
@@ -104,7 +104,7 @@ pub fn metric_word(a: Metric) -> u64
     }
 }
 
-pub fn flags_word(a: NextFlags) -> u32
+pub(crate) fn flags_word(a: NextFlags) -> u32
     ensures { λ r. ⌜ r ≡ answerNo (flagsOf a) ⌝ }
 {
     match a {
@@ -113,7 +113,7 @@ pub fn flags_word(a: NextFlags) -> u32
     }
 }
 
-pub fn waiting_word(a: Waiting) -> u32
+pub(crate) fn waiting_word(a: Waiting) -> u32
     requires { ⌜ a .count ≤ 8 ⌝ }
     ensures { λ r. ⌜ r ≡ answerNo (waitingOf a) ⌝ }
 {
@@ -121,7 +121,7 @@ pub fn waiting_word(a: Waiting) -> u32
     a.count + 256 * lowest_number(low) as u32
 }
 
-pub fn set_up_word(a: SetUp) -> u32
+pub(crate) fn set_up_word(a: SetUp) -> u32
     ensures { λ r. ⌜ r ≡ reportNo (reportOf a) ⌝ }
 {
     match a {
@@ -147,7 +147,7 @@ fn write_state(out: &mut [u64], s: State)
 }
 
 // The words of the record that a look up found; nothing, where it found none.
-pub fn write_found(out: &mut [u64], a: Looked)
+pub(crate) fn write_found(out: &mut [u64], a: Looked)
     requires { ⌜ length (now out) ≡ 2 ⌝ }
     ensures { λ _. ⌜ now (out .exit) ≡ foundWords (lookedOf a) (now (out .entry)) ⌝ }
 {

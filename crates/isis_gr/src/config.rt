@@ -90,7 +90,7 @@ fn circuits_in(s: &[u8]) -> [CircuitSettings; 8]
     ]
 }
 
-pub fn settings_in(s: &[u8]) -> GatewaySettings
+pub(crate) fn settings_in(s: &[u8]) -> GatewaySettings
     requires { ⌜ length (now s) ≡ settingsOctets ⌝ }
     ensures { λ r. ⌜ settingsGiven r ≡ settingsFrom (now (s .entry)) ⌝ }
 {
@@ -139,7 +139,7 @@ fn are_circuits_known(s: &[u8], count: usize) -> bool
 }
 
 // Where a number is not known, setup is refused (12).
-pub fn are_settings_known(s: &[u8]) -> bool
+pub(crate) fn are_settings_known(s: &[u8]) -> bool
     requires { ⌜ length (now s) ≡ settingsOctets ⌝ }
     ensures { λ r. ⌜ r ≡ settingsKnown (now (s .entry)) ⌝ }
 {

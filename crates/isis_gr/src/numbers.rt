@@ -41,7 +41,7 @@ fn levels_number(l: Levels) -> u8
     bit(l.one) + 2 * bit(l.two)
 }
 
-pub fn csnps_number(c: Csnps) -> u8
+pub(crate) fn csnps_number(c: Csnps) -> u8
     ensures { λ r. ⌜ r ≡ csnpsNo c ⌝ }
 {
     match c {
@@ -50,7 +50,7 @@ pub fn csnps_number(c: Csnps) -> u8
     }
 }
 
-pub fn freed_number(f: Freed) -> u8
+pub(crate) fn freed_number(f: Freed) -> u8
     ensures { λ r. ⌜ r ≡ freedNo f ⌝ }
 {
     match f {
@@ -71,7 +71,7 @@ fn overload_number(o: Overload) -> u8
     }
 }
 
-pub fn outcome_number(o: Outcome) -> u8
+pub(crate) fn outcome_number(o: Outcome) -> u8
     ensures { λ r. ⌜ r ≡ outcomeNo o ⌝ }
 {
     match o {
@@ -94,7 +94,7 @@ fn ack_flags(ack: Ack) -> u8
     }
 }
 
-pub fn reply_flags(a: Acknowledgement) -> u8
+pub(crate) fn reply_flags(a: Acknowledgement) -> u8
     ensures { λ r. ⌜ r ≡ replyFlags a ⌝ }
 {
     match a {
@@ -103,7 +103,7 @@ pub fn reply_flags(a: Acknowledgement) -> u8
     }
 }
 
-pub fn reply_time(a: Acknowledgement) -> u16
+pub(crate) fn reply_time(a: Acknowledgement) -> u16
     ensures { λ r. ⌜ r ≡ replyTime a ⌝ }
 {
     match a {
@@ -112,7 +112,7 @@ pub fn reply_time(a: Acknowledgement) -> u16
     }
 }
 
-pub fn lowest_number(low: Lowest) -> u8
+pub(crate) fn lowest_number(low: Lowest) -> u8
     ensures { λ r. ⌜ r ≡ lowestNo low ⌝ }
 {
     match low {
@@ -144,7 +144,7 @@ fn reverse_number(m: ReverseMetric) -> u64
     }
 }
 
-pub fn data_number(m: Mark, d: Data) -> u64
+pub(crate) fn data_number(m: Mark, d: Data) -> u64
     ensures { λ r. ⌜ r ≡ dataNo m d ⌝ }
 {
     let last = d.last;
@@ -153,7 +153,7 @@ pub fn data_number(m: Mark, d: Data) -> u64
     marks as u64 + SECOND * last.priority as u64 + reverse_number(reverse)
 }
 
-pub fn state_number(s: State) -> u8
+pub(crate) fn state_number(s: State) -> u8
     ensures { λ r. ⌜ r ≡ stateNo s ⌝ }
 {
     match s {
