@@ -20,6 +20,8 @@ boundary: archive
 	@for name in every_call stack; do \
 		$(CC) -std=c99 -O1 -Wall -Wextra -Werror -Iinclude tests/c/$$name.c -Ltarget/staticlib -lisis_gr -o target/c/$$name && target/c/$$name || exit 1; \
 	done
+	@$(CC) -std=c99 -O1 -Wall -Wextra -Werror -Iinclude tests/fuzz/receive.c tests/fuzz/replay.c -Ltarget/staticlib -lisis_gr -o target/c/replay
+	@tools/fuzz_seeds target/seeds && target/c/replay $$(find target/seeds tests/fuzz/cases -type f 2>/dev/null)
 	@cd rust && cargo test --offline --release --quiet
 
 archive:

@@ -2,7 +2,7 @@
 use crate::answers::{Received, Record, Refusal, Ticked, Timers, Waiting};
 use crate::ffi;
 use crate::names::{Circuit, Circuits, Level, Mac, SystemId};
-use crate::settings::Settings;
+use crate::settings::{SettingError, Settings};
 
 /// The octets of a reply, and the least reply buffer that `receive` takes.
 pub const REPLY_OCTETS: usize = 11;
@@ -14,13 +14,24 @@ pub struct Gateway {
 }
 
 impl Gateway {
-    /// A new gateway, and the circuits on which a hello with RR is ordered (none in the mode Running). Refused 12 where a setting is out of
-    /// its range; [`Settings::check`] names it.
-    pub fn set_up(settings: &Settings) -> Result<(Gateway, Circuits), Refusal> {
+    /// A new gateway, and the circuits on which a hello with RR is ordered (none in the mode Running). Where the archive refuses the settings
+    /// (12), the error names the first that is out of its range.
+    ///
+    /// ```
+    /// # use isis_gr::{CircuitSettings, Gateway, Kind, Levels, Mac, Mode, Settings, SystemId};
+    /// let lan = CircuitSettings::new(Kind::Lan, Levels::ONE, Mac([2; 6])).hold(0);
+    /// let settings = Settings::new(SystemId([1; 6]), Mode::Running, 0).circuit(lan);
+    /// let error = Gateway::set_up(&settings).unwrap_err();
+    /// assert_eq!(error.to_string(), "circuit 1: hold is out of its range");
+    /// ```
+    pub fn set_up(settings: &Settings) -> Result<(Gateway, Circuits), SettingError> {
         assert_eq!(ffi::gateway_words() as usize, ffi::GATEWAY_WORDS, "the archive is of another version");
         let mut gateway = Gateway { words: [0; ffi::GATEWAY_WORDS] };
-        let word = u64::from(ffi::set_up(&mut gateway.words, &settings.octets()));
-        Refusal::unless(word, (gateway, Circuits((word >> 8) as u8)))
+        let word = ffi::set_up(&mut gateway.words, &settings.octets());
+        match word & 0xFF {
+            0 => Ok((gateway, Circuits((word >> 8) as u8))),
+            _ => Err(settings.fault()),
+        }
     }
 
     /// Takes one hello frame from a source MAC. A reply, where one is due, is the first 11 octets of `reply`; else the buffer is untouched.

@@ -122,43 +122,23 @@ impl Settings {
         Settings { tries, ..self }
     }
 
-    /// Names the first setting that is out of its range. Setup refuses exactly these settings.
-    ///
-    /// ```
-    /// # use isis_gr::{Mode, Settings, SystemId};
-    /// let none = Settings::new(SystemId([1; 6]), Mode::Running, 0);
-    /// assert_eq!(none.check().unwrap_err().field, "circuit");
-    /// ```
-    pub fn check(&self) -> Result<(), SettingError> {
+    /// The first setting that is out of its range, of settings that the archive refused.
+    pub(crate) fn fault(&self) -> SettingError {
         let whole = |field| SettingError { field, circuit: None };
-        if !(1..=8).contains(&self.count) {
-            return Err(whole("circuit"));
-        }
-        for (number, circuit) in (1..).zip(&self.circuits[..self.count]) {
+        let circuits = self.circuits.iter().take(self.count).zip(1..).find_map(|(circuit, number)| {
             let of = |field| SettingError { field, circuit: Some(number) };
-            if circuit.levels.is_empty() {
-                return Err(of("levels"));
-            }
-            if circuit.priority > 127 {
-                return Err(of("priority"));
-            }
-            if circuit.hold == 0 {
-                return Err(of("hold"));
-            }
-            if circuit.metric > 16_777_214 {
-                return Err(of("metric"));
-            }
+            let CircuitSettings { levels, priority, hold, metric, .. } = *circuit;
+            let faults =
+                [(levels.is_empty(), "levels"), (priority > 127, "priority"), (hold == 0, "hold"), (metric > 16_777_214, "metric")];
+            faults.into_iter().find(|(bad, _)| *bad).map(|(_, field)| of(field))
+        });
+        let faults = [(self.t1 == 0, "t1"), (self.t2 == 0, "t2"), (self.tries == 0, "tries")];
+        let lengths = faults.into_iter().find(|(bad, _)| *bad).map(|(_, field)| whole(field));
+        if (1..=8).contains(&self.count) {
+            circuits.or(lengths).unwrap_or(whole("settings"))
+        } else {
+            whole("circuit")
         }
-        if self.t1 == 0 {
-            return Err(whole("t1"));
-        }
-        if self.t2 == 0 {
-            return Err(whole("t2"));
-        }
-        if self.tries == 0 {
-            return Err(whole("tries"));
-        }
-        Ok(())
     }
 
     /// The octets that the archive takes.
