@@ -1,3 +1,4 @@
 pub mod NumberLaws
 pub mod TellsLaws
 pub mod SettingsLaws
+pub mod PartLaws

@@ -1,11 +1,10 @@
 -- The laws of the numbers: a mask's number is the mask.
-use Prim.Native.Nat.{ℕ, zero, suc, _+_, _*_, _/_, _%_, _^_, _<_}
+use Prim.Native.Nat.{ℕ, zero, suc, _/_, _%_, _^_, _<_}
 use native.Mathlib.Omega.{arith}
 use native.Mathlib.Nat.{pow-suc}
-use mathlib.Core.Path.{_≡_, refl, ap, sym, _∙_}
-use mathlib.Core.Bool.{true, false}
+use mathlib.Core.Path.{_≡_, refl}
 use lib.Dec.{eqb}
-use Rattle.timer_parts.specs.Mask.{bits, bitsOf}
+use Rattle.timer_parts.specs.Mask.{bitsOf}
 use Rattle.isis_gr.specs.Numbers.{bitNo, maskNo}
 
 digit : (d : ℕ) → d < 2 → bitNo (eqb d 1) ≡ d

@@ -1,7 +1,7 @@
 -- The laws of the exported calls: what the gateway's call meets, told by a number; and how many circuits wait at most.
 use Prim.Native.Nat.{ℕ, _≤_}
 use native.Mathlib.Omega.{arith}
-use mathlib.Core.Path.{_≡_, refl, ap, sym, _∙_}
+use mathlib.Core.Path.{_≡_, ap, _∙_}
 use mathlib.Core.Bool.{Bool, true, false, cond}
 use mathlib.Core.List.{List, [], _∷_}
 use lib.ListN.{length, set}
@@ -11,7 +11,7 @@ use Rattle.timers.specs.Timers.{countRuns}
 use Rattle.timers.specs.Memory.{timersOf}
 use Rattle.timers.proofs.T1sLaws.{length-joined}
 use Rattle.common.specs.Common.{commonOf}
-use Rattle.model.specs.Answers.{Answer, Told, Waits, waitingOf}
+use Rattle.model.specs.Answers.{Answer, waitingOf}
 use Rattle.model.specs.declared.answers.Waiting.{Waiting}
 use Rattle.model.specs.Step.{Outcome, step, judge, carry, Over}
 use Rattle.model.specs.Step.{Waiting as WaitingCall}

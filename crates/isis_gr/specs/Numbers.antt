@@ -5,7 +5,6 @@ use Prim.Native.Nat.{ℕ, _+_, _*_, _/_, _%_, _^_}
 use mathlib.Core.Bool.{Bool, true, false, cond}
 use mathlib.Core.List.{List, [], _∷_}
 use lib.Dec.{eqb, ltb}
-use Rattle.restart_tlv.specs.declared.flags.Flags.{Flags}
 use Rattle.hello.specs.Refusal.{refusalNo}
 use Rattle.hello.specs.declared.header.CircuitKind.{CircuitKind}
 use Rattle.hello.specs.declared.header.CircuitKind.the-variants.{Lan, P2p}

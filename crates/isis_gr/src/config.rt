@@ -9,14 +9,13 @@ use tlv::octets::four;
 use tlv::octets::two;
 use tlv::octets::wide;
 ghost use mathlib.Core.Path.{_≡_};
-ghost use mathlib.Core.Bool.{_&&_};
 ghost use mathlib.Core.List.{map};
 ghost use Prim.Native.Nat.{_+_, _<_, _≤_};
 ghost use lib.ListN.{length, take};
 ghost use Rattle.tlv.specs.Octets.{big};
 ghost use Rattle.settings.specs.Settings.{every};
 ghost use Rattle.gateway.specs.Setup.{circuitGiven, settingsGiven};
-ghost use Rattle.isis_gr.specs.Numbers.{modeOf, modeKnown, kindOf, kindKnown, levelsOf, levelsKnown};
+ghost use Rattle.isis_gr.specs.Numbers.{modeOf, kindOf, levelsOf};
 ghost use Rattle.isis_gr.specs.Settings.{settingsOctets, circuitPlaces, circuitFrom, settingsFrom, circuitKnown, settingsKnown};
 
 pub const SETTINGS_OCTETS: usize = 169;

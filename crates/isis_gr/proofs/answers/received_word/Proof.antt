@@ -1,3 +1,4 @@
+-- One line a case.
 use borrow.Author.Needs.{needs}
 use Rattle.isis_gr.proofs.answers.received_word.Statement.{statement}
 use Rattle.isis_gr.proofs.answers.received_word.Tie as tie

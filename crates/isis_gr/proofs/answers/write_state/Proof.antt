@@ -1,3 +1,4 @@
+-- Both words are written.
 use Rattle.isis_gr.proofs.TellsLaws.{set-both}
 use borrow.Author.Needs.{needs}
 use Rattle.isis_gr.proofs.answers.write_state.Statement.{statement}

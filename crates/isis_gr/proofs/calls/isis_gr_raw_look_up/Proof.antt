@@ -1,3 +1,4 @@
+-- The call's answer, told by its number and by the record's two words.
 use Rattle.isis_gr.proofs.TellsLaws.{tells-found}
 use borrow.Author.Needs.{needs}
 use Rattle.isis_gr.proofs.calls.isis_gr_raw_look_up.Statement.{statement}

@@ -1,3 +1,4 @@
+-- Known settings are set up as crate gateway does; others are refused 12, and nothing is written.
 use Rattle.isis_gr.proofs.SettingsLaws.{tells-known, tells-unknown}
 use mathlib.Core.Path.{sym, _∙_}
 use borrow.Author.Needs.{needs}

@@ -1,3 +1,4 @@
+-- The call's answer, told by its number: at most all eight circuits wait.
 use Rattle.isis_gr.proofs.TellsLaws.{tells, waiting-le}
 use borrow.Author.Needs.{needs}
 use Rattle.isis_gr.proofs.calls.isis_gr_raw_waiting.Statement.{statement}

@@ -1,3 +1,4 @@
+-- Each field is a callee's answer or an octet.
 use Prim.Native.Nat.{_+_}
 use Rattle.tlv.specs.Octets.{octet}
 use Rattle.isis_gr.specs.Settings.{circuitFrom}

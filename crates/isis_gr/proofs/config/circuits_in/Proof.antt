@@ -1,3 +1,4 @@
+-- Eight circuits, each by its own place.
 use mathlib.Core.List.{[], _∷_}
 use borrow.Author.Needs.{needs}
 use Rattle.isis_gr.proofs.config.circuits_in.Statement.{statement}

@@ -1,3 +1,4 @@
+-- Two tests.
 use borrow.Author.Tests.{lt-ltb, le-ltb}
 use borrow.Author.Needs.{needs}
 use Rattle.isis_gr.proofs.config.is_circuit_known.Statement.{statement}

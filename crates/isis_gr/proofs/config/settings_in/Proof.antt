@@ -1,3 +1,4 @@
+-- Each field is a callee's answer or an octet.
 use Rattle.tlv.specs.Octets.{octet}
 use Rattle.isis_gr.specs.Settings.{settingsFrom}
 use borrow.Author.Needs.{needs}

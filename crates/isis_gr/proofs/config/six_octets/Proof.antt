@@ -1,3 +1,4 @@
+-- The definition at six octets.
 use Rattle.tlv.specs.Octets.{big}
 use native.Mathlib.Nat.{add-zero, zero-add}
 use borrow.Author.Needs.{needs}

@@ -1,3 +1,4 @@
+-- One line a case.
 use borrow.Author.Needs.{needs}
 use Rattle.isis_gr.proofs.numbers.csnps_number.Statement.{statement}
 use Rattle.isis_gr.proofs.numbers.csnps_number.Tie as tie
