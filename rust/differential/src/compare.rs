@@ -260,6 +260,9 @@ pub fn run(seed: u64, calls: u64) -> Coverage {
             eprintln!("{text}");
             std::panic::resume_unwind(why);
         }
+        if i % 50 == 49 {
+            pair.look_at_all();
+        }
     }
     pair.look_at_all();
     c
