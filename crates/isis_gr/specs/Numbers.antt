@@ -1,6 +1,6 @@
 -- The numbers that cross to C, case by case: what each part of an answer is as a number, and each answer as one word. The refusals'
--- numbers and the flags are those of document 01 ("Refusals by number", "TLVs read"); the others and their places in the word are
--- house. 0 is "done", and no code but a refusal's stands for anything else.
+-- numbers and the flags are those of document 01, "Refusals by number" and "TLVs read"; the others and their places in the word are
+-- house. The lowest octet of a word is the code: 0 where the call was done, else the refusal's number; no other code exists.
 use Prim.Native.Nat.{ℕ, _+_, _*_, _/_, _%_, _^_}
 use mathlib.Core.Bool.{Bool, true, false, cond}
 use mathlib.Core.List.{List, [], _∷_}

@@ -1,4 +1,4 @@
-// Each answer as one word; specs/Numbers.antt gives it, case by case. The lowest octet is 0, or a refusal's number and then the word.
+// Each answer as one word; specs/Numbers.antt gives it, case by case. A refusal's word is its number.
 use crate::numbers::FIFTH;
 use crate::numbers::FOURTH;
 use crate::numbers::SECOND;

@@ -1,5 +1,5 @@
-// The calls of crate gateway, each with its answer as one word (specs/Numbers.antt): the lowest octet is 0, or a refusal's number and then
-// the whole word. A refusal leaves every lent word and octet as it was.
+// The calls of crate gateway, each with its answer as one word (specs/Numbers.antt). The lowest octet is the code: 0 where the call was
+// done, else the refusal's number, which then is the whole word. A refusal leaves every lent word and octet as it was.
 use crate::answers::flags_word;
 use crate::answers::looked_word;
 use crate::answers::metric_word;

@@ -20,6 +20,38 @@ ghost use Rattle.isis_gr.specs.Settings.{settingsOctets, circuitPlaces, 
 
 pub const SETTINGS_OCTETS: usize = 169;
 
+// Where the settings stand.
+const SYSTEM: usize = 0;
+
+const T1: usize = 6;
+
+const T2: usize = 8;
+
+const TRIES: usize = 10;
+
+const CLOCK: usize = 11;
+
+const MODE: usize = 15;
+
+const COUNT: usize = 16;
+
+const CIRCUITS: usize = 17;
+
+// The octets of a circuit, and where its settings stand among them.
+const CIRCUIT_OCTETS: usize = 19;
+
+const LEVELS: usize = 1;
+
+const MAC: usize = 2;
+
+const PRIORITY: usize = 8;
+
+const HOLD: usize = 9;
+
+const METRIC: usize = 11;
+
+const ID: usize = 15;
+
 fn mode_of(n: u8) -> Mode
     ensures { λ r. ⌜ r ≡ modeOf n ⌝ }
 {
@@ -60,16 +92,16 @@ fn circuit_at(s: &[u8], at: usize) -> CircuitSettings
     ensures { λ r. ⌜ circuitGiven r ≡ circuitFrom (now (s .entry)) at ⌝ }
 {
     let kind = kind_of(s[at]);
-    let levels = levels_of(s[at + 1]);
-    let mac = six_octets(s, at + 2);
+    let levels = levels_of(s[at + LEVELS]);
+    let mac = six_octets(s, at + MAC);
     CircuitSettings {
         kind,
         levels,
         mac,
-        priority: s[at + 8],
-        hold: two(s, at + 9),
-        metric: four(s, at + 11),
-        id: four(s, at + 15),
+        priority: s[at + PRIORITY],
+        hold: two(s, at + HOLD),
+        metric: four(s, at + METRIC),
+        id: four(s, at + ID),
     }
 }
 
@@ -78,14 +110,14 @@ fn circuits_in(s: &[u8]) -> [CircuitSettings; 8]
     ensures { λ r. ⌜ map circuitGiven r ≡ map (circuitFrom (now (s .entry))) circuitPlaces ⌝ }
 {
     [
-        circuit_at(s, 17),
-        circuit_at(s, 36),
-        circuit_at(s, 55),
-        circuit_at(s, 74),
-        circuit_at(s, 93),
-        circuit_at(s, 112),
-        circuit_at(s, 131),
-        circuit_at(s, 150),
+        circuit_at(s, CIRCUITS),
+        circuit_at(s, CIRCUITS + CIRCUIT_OCTETS),
+        circuit_at(s, CIRCUITS + 2 * CIRCUIT_OCTETS),
+        circuit_at(s, CIRCUITS + 3 * CIRCUIT_OCTETS),
+        circuit_at(s, CIRCUITS + 4 * CIRCUIT_OCTETS),
+        circuit_at(s, CIRCUITS + 5 * CIRCUIT_OCTETS),
+        circuit_at(s, CIRCUITS + 6 * CIRCUIT_OCTETS),
+        circuit_at(s, CIRCUITS + 7 * CIRCUIT_OCTETS),
     ]
 }
 
@@ -93,21 +125,21 @@ pub(crate) fn settings_in(s: &[u8]) -> GatewaySettings
     requires { ⌜ length (now s) ≡ settingsOctets ⌝ }
     ensures { λ r. ⌜ settingsGiven r ≡ settingsFrom (now (s .entry)) ⌝ }
 {
-    let system = six_octets(s, 0);
+    let system = six_octets(s, SYSTEM);
     let lengths = Lengths {
-        t1: two(s, 6),
-        t2: two(s, 8),
-        tries: s[10],
+        t1: two(s, T1),
+        t2: two(s, T2),
+        tries: s[TRIES],
     };
-    let clock = four(s, 11);
-    let mode = mode_of(s[15]);
+    let clock = four(s, CLOCK);
+    let mode = mode_of(s[MODE]);
     let circuits = circuits_in(s);
     GatewaySettings {
         system,
         lengths,
         clock,
         mode,
-        count: s[16],
+        count: s[COUNT],
         circuits,
     }
 }
@@ -117,7 +149,7 @@ fn is_circuit_known(s: &[u8], at: usize) -> bool
     ensures { λ r. ⌜ r ≡ circuitKnown (now (s .entry)) at ⌝ }
 {
     if s[at] < 2 {
-        return s[at + 1] < 4;
+        return s[at + LEVELS] < 4;
     }
     false
 }
@@ -128,7 +160,7 @@ fn are_circuits_known(s: &[u8], count: usize) -> bool
 {
     let mut i = 0;
     while i < count {
-        if is_circuit_known(s, 17 + 19 * i) {
+        if is_circuit_known(s, CIRCUITS + CIRCUIT_OCTETS * i) {
             i += 1;
         } else {
             return false;
@@ -142,8 +174,8 @@ pub(crate) fn are_settings_known(s: &[u8]) -> bool
     requires { ⌜ length (now s) ≡ settingsOctets ⌝ }
     ensures { λ r. ⌜ r ≡ settingsKnown (now (s .entry)) ⌝ }
 {
-    let count = wide(s[16]);
-    if s[15] < 2 {
+    let count = wide(s[COUNT]);
+    if s[MODE] < 2 {
         if count < 8 {
             return are_circuits_known(s, count);
         }
