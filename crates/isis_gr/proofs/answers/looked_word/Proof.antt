@@ -3,10 +3,6 @@ use native.Mathlib.Omega.{arith}
 use borrow.Author.Needs.{needs}
 use Rattle.isis_gr.proofs.answers.looked_word.Statement.{statement}
 use Rattle.isis_gr.proofs.answers.looked_word.Tie as tie
-use Rattle.isis_gr.proofs.answers.looked_word.Reads as reads
-use Rattle.isis_gr.proofs.answers.looked_word.Lts as lts
-use Rattle.hello.proofs.refusal.number_of.Reads as number-of-reads
-use Rattle.isis_gr.proofs.numbers.state_number.Reads as state-number-reads
 
 enum-known-a : tie.Need-enum-known-a
 enum-known-a c = search needs

@@ -3,13 +3,6 @@ use native.Mathlib.Omega.{arith}
 use borrow.Author.Needs.{needs}
 use Rattle.isis_gr.proofs.answers.orders_word.Statement.{statement}
 use Rattle.isis_gr.proofs.answers.orders_word.Tie as tie
-use Rattle.isis_gr.proofs.answers.orders_word.Reads as reads
-use Rattle.isis_gr.proofs.answers.orders_word.Lts as lts
-use Rattle.isis_gr.proofs.numbers.csnps_number.Reads as csnps-number-reads
-use Rattle.isis_gr.proofs.numbers.freed_number.Reads as freed-number-reads
-use Rattle.isis_gr.proofs.numbers.outcome_number.Reads as outcome-number-reads
-use Rattle.isis_gr.proofs.numbers.reply_flags.Reads as reply-flags-reads
-use Rattle.isis_gr.proofs.numbers.reply_time.Reads as reply-time-reads
 
 reply-flags-requires : tie.Need-reply-flags-requires
 reply-flags-requires c κs = search needs

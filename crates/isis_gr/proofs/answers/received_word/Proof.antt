@@ -2,10 +2,6 @@
 use borrow.Author.Needs.{needs}
 use Rattle.isis_gr.proofs.answers.received_word.Statement.{statement}
 use Rattle.isis_gr.proofs.answers.received_word.Tie as tie
-use Rattle.isis_gr.proofs.answers.received_word.Reads as reads
-use Rattle.isis_gr.proofs.answers.received_word.Lts as lts
-use Rattle.hello.proofs.refusal.number_of.Reads as number-of-reads
-use Rattle.isis_gr.proofs.answers.orders_word.Reads as orders-word-reads
 
 enum-known-a : tie.Need-enum-known-a
 enum-known-a c = search needs

@@ -3,9 +3,6 @@ use Rattle.isis_gr.proofs.TellsLaws.{set-both}
 use borrow.Author.Needs.{needs}
 use Rattle.isis_gr.proofs.answers.write_state.Statement.{statement}
 use Rattle.isis_gr.proofs.answers.write_state.Tie as tie
-use Rattle.isis_gr.proofs.answers.write_state.Reads as reads
-use Rattle.isis_gr.proofs.answers.write_state.Lts as lts
-use Rattle.isis_gr.proofs.numbers.data_number.Reads as data-number-reads
 
 enum-known-s : tie.Need-enum-known-s
 enum-known-s c = search needs

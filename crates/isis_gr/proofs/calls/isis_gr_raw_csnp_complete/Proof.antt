@@ -3,10 +3,6 @@ use Rattle.isis_gr.proofs.TellsLaws.{tells}
 use borrow.Author.Needs.{needs}
 use Rattle.isis_gr.proofs.calls.isis_gr_raw_csnp_complete.Statement.{statement}
 use Rattle.isis_gr.proofs.calls.isis_gr_raw_csnp_complete.Tie as tie
-use Rattle.isis_gr.proofs.calls.isis_gr_raw_csnp_complete.Reads as reads
-use Rattle.isis_gr.proofs.calls.isis_gr_raw_csnp_complete.Lts as lts
-use Rattle.gateway.proofs.calls.csnp_complete.Reads as csnp-complete-reads
-use Rattle.isis_gr.proofs.answers.noticed_word.Reads as noticed-word-reads
 
 csnp-complete-requires : tie.Need-csnp-complete-requires
 csnp-complete-requires c κs = search needs

@@ -3,10 +3,6 @@ use Rattle.isis_gr.proofs.TellsLaws.{tells}
 use borrow.Author.Needs.{needs}
 use Rattle.isis_gr.proofs.calls.isis_gr_raw_database_complete.Statement.{statement}
 use Rattle.isis_gr.proofs.calls.isis_gr_raw_database_complete.Tie as tie
-use Rattle.isis_gr.proofs.calls.isis_gr_raw_database_complete.Reads as reads
-use Rattle.isis_gr.proofs.calls.isis_gr_raw_database_complete.Lts as lts
-use Rattle.gateway.proofs.calls.database_complete.Reads as database-complete-reads
-use Rattle.isis_gr.proofs.answers.noticed_word.Reads as noticed-word-reads
 
 database-complete-requires : tie.Need-database-complete-requires
 database-complete-requires c κs = search needs

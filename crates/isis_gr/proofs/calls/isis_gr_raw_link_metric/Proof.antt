@@ -3,10 +3,6 @@ use Rattle.isis_gr.proofs.TellsLaws.{tells}
 use borrow.Author.Needs.{needs}
 use Rattle.isis_gr.proofs.calls.isis_gr_raw_link_metric.Statement.{statement}
 use Rattle.isis_gr.proofs.calls.isis_gr_raw_link_metric.Tie as tie
-use Rattle.isis_gr.proofs.calls.isis_gr_raw_link_metric.Reads as reads
-use Rattle.isis_gr.proofs.calls.isis_gr_raw_link_metric.Lts as lts
-use Rattle.gateway.proofs.calls.link_metric.Reads as link-metric-reads
-use Rattle.isis_gr.proofs.answers.metric_word.Reads as metric-word-reads
 
 link-metric-requires : tie.Need-link-metric-requires
 link-metric-requires c κs = search needs

@@ -3,11 +3,6 @@ use Rattle.isis_gr.proofs.TellsLaws.{tells-found}
 use borrow.Author.Needs.{needs}
 use Rattle.isis_gr.proofs.calls.isis_gr_raw_look_up.Statement.{statement}
 use Rattle.isis_gr.proofs.calls.isis_gr_raw_look_up.Tie as tie
-use Rattle.isis_gr.proofs.calls.isis_gr_raw_look_up.Reads as reads
-use Rattle.isis_gr.proofs.calls.isis_gr_raw_look_up.Lts as lts
-use Rattle.gateway.proofs.calls.look_up.Reads as look-up-reads
-use Rattle.isis_gr.proofs.answers.looked_word.Reads as looked-word-reads
-use Rattle.isis_gr.proofs.answers.write_found.Reads as write-found-reads
 
 look-up-requires : tie.Need-look-up-requires
 look-up-requires c κs = search needs

@@ -3,10 +3,6 @@ use Rattle.isis_gr.proofs.TellsLaws.{tells}
 use borrow.Author.Needs.{needs}
 use Rattle.isis_gr.proofs.calls.isis_gr_raw_next_hello_flags.Statement.{statement}
 use Rattle.isis_gr.proofs.calls.isis_gr_raw_next_hello_flags.Tie as tie
-use Rattle.isis_gr.proofs.calls.isis_gr_raw_next_hello_flags.Reads as reads
-use Rattle.isis_gr.proofs.calls.isis_gr_raw_next_hello_flags.Lts as lts
-use Rattle.gateway.proofs.calls.next_hello_flags.Reads as next-hello-flags-reads
-use Rattle.isis_gr.proofs.answers.flags_word.Reads as flags-word-reads
 
 next-hello-flags-requires : tie.Need-next-hello-flags-requires
 next-hello-flags-requires c κs = search needs

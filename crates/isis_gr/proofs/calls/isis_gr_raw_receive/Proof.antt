@@ -3,10 +3,6 @@ use Rattle.isis_gr.proofs.TellsLaws.{tells}
 use borrow.Author.Needs.{needs}
 use Rattle.isis_gr.proofs.calls.isis_gr_raw_receive.Statement.{statement}
 use Rattle.isis_gr.proofs.calls.isis_gr_raw_receive.Tie as tie
-use Rattle.isis_gr.proofs.calls.isis_gr_raw_receive.Reads as reads
-use Rattle.isis_gr.proofs.calls.isis_gr_raw_receive.Lts as lts
-use Rattle.gateway.proofs.calls.receive.Reads as receive-reads
-use Rattle.isis_gr.proofs.answers.received_word.Reads as received-word-reads
 
 receive-requires : tie.Need-receive-requires
 receive-requires c κs = search needs

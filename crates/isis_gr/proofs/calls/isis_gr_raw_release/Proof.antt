@@ -3,10 +3,6 @@ use Rattle.isis_gr.proofs.TellsLaws.{tells}
 use borrow.Author.Needs.{needs}
 use Rattle.isis_gr.proofs.calls.isis_gr_raw_release.Statement.{statement}
 use Rattle.isis_gr.proofs.calls.isis_gr_raw_release.Tie as tie
-use Rattle.isis_gr.proofs.calls.isis_gr_raw_release.Reads as reads
-use Rattle.isis_gr.proofs.calls.isis_gr_raw_release.Lts as lts
-use Rattle.gateway.proofs.calls.release.Reads as release-reads
-use Rattle.isis_gr.proofs.answers.released_word.Reads as released-word-reads
 
 release-requires : tie.Need-release-requires
 release-requires c κs = search needs

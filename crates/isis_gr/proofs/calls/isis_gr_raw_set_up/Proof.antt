@@ -4,12 +4,6 @@ use mathlib.Core.Path.{sym, _∙_}
 use borrow.Author.Needs.{needs}
 use Rattle.isis_gr.proofs.calls.isis_gr_raw_set_up.Statement.{statement}
 use Rattle.isis_gr.proofs.calls.isis_gr_raw_set_up.Tie as tie
-use Rattle.isis_gr.proofs.calls.isis_gr_raw_set_up.Reads as reads
-use Rattle.isis_gr.proofs.calls.isis_gr_raw_set_up.Lts as lts
-use Rattle.gateway.proofs.calls.set_up.Reads as set-up-reads
-use Rattle.isis_gr.proofs.answers.set_up_word.Reads as set-up-word-reads
-use Rattle.isis_gr.proofs.config.are_settings_known.Reads as are-settings-known-reads
-use Rattle.isis_gr.proofs.config.settings_in.Reads as settings-in-reads
 
 are-settings-known-requires : tie.Need-are-settings-known-requires
 are-settings-known-requires c κs = search needs

@@ -3,10 +3,6 @@ use Rattle.isis_gr.proofs.TellsLaws.{tells}
 use borrow.Author.Needs.{needs}
 use Rattle.isis_gr.proofs.calls.isis_gr_raw_tick.Statement.{statement}
 use Rattle.isis_gr.proofs.calls.isis_gr_raw_tick.Tie as tie
-use Rattle.isis_gr.proofs.calls.isis_gr_raw_tick.Reads as reads
-use Rattle.isis_gr.proofs.calls.isis_gr_raw_tick.Lts as lts
-use Rattle.gateway.proofs.calls.tick.Reads as tick-reads
-use Rattle.isis_gr.proofs.answers.ticked_word.Reads as ticked-word-reads
 
 tick-requires : tie.Need-tick-requires
 tick-requires c κs = search needs

@@ -3,10 +3,6 @@ use Rattle.isis_gr.proofs.TellsLaws.{tells, waiting-le}
 use borrow.Author.Needs.{needs}
 use Rattle.isis_gr.proofs.calls.isis_gr_raw_waiting.Statement.{statement}
 use Rattle.isis_gr.proofs.calls.isis_gr_raw_waiting.Tie as tie
-use Rattle.isis_gr.proofs.calls.isis_gr_raw_waiting.Reads as reads
-use Rattle.isis_gr.proofs.calls.isis_gr_raw_waiting.Lts as lts
-use Rattle.gateway.proofs.calls.waiting_circuits.Reads as waiting-circuits-reads
-use Rattle.isis_gr.proofs.answers.waiting_word.Reads as waiting-word-reads
 
 waiting-circuits-requires : tie.Need-waiting-circuits-requires
 waiting-circuits-requires c κs = search needs

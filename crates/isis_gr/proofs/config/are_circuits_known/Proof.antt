@@ -9,9 +9,6 @@ use Rattle.isis_gr.specs.Settings.{circuitPlaces, circuitKnown}
 use Rattle.isis_gr.proofs.SettingsLaws.{known-here, known-skip, known-end}
 use Rattle.isis_gr.proofs.config.are_circuits_known.Statement.{statement}
 use Rattle.isis_gr.proofs.config.are_circuits_known.Tie as tie
-use Rattle.isis_gr.proofs.config.are_circuits_known.Reads as reads
-use Rattle.isis_gr.proofs.config.are_circuits_known.Lts as lts
-use Rattle.isis_gr.proofs.config.is_circuit_known.Reads as is-circuit-known-reads
 
 abbrev Inv-loop : tie.InvT-loop
 Inv-loop s count i₀ i = (i ≤ count) × (every (circuitKnown s) (take count circuitPlaces) ≡ every (circuitKnown s) (drop i (take count circuitPlaces)))

@@ -5,10 +5,6 @@ use borrow.Author.Tests.{lt-ltb, le-ltb}
 use borrow.Author.Needs.{needs}
 use Rattle.isis_gr.proofs.config.are_settings_known.Statement.{statement}
 use Rattle.isis_gr.proofs.config.are_settings_known.Tie as tie
-use Rattle.isis_gr.proofs.config.are_settings_known.Reads as reads
-use Rattle.isis_gr.proofs.config.are_settings_known.Lts as lts
-use Rattle.isis_gr.proofs.config.are_circuits_known.Reads as are-circuits-known-reads
-use Rattle.tlv.proofs.octets.wide.Reads as wide-reads
 
 shared-slice-read-wide : tie.Need-shared-slice-read-wide
 shared-slice-read-wide c = search needs

@@ -5,13 +5,6 @@ use Rattle.isis_gr.specs.Settings.{circuitFrom}
 use borrow.Author.Needs.{needs}
 use Rattle.isis_gr.proofs.config.circuit_at.Statement.{statement}
 use Rattle.isis_gr.proofs.config.circuit_at.Tie as tie
-use Rattle.isis_gr.proofs.config.circuit_at.Reads as reads
-use Rattle.isis_gr.proofs.config.circuit_at.Lts as lts
-use Rattle.isis_gr.proofs.config.kind_of.Reads as kind-of-reads
-use Rattle.isis_gr.proofs.config.levels_of.Reads as levels-of-reads
-use Rattle.isis_gr.proofs.config.six_octets.Reads as six-octets-reads
-use Rattle.tlv.proofs.octets.four.Reads as four-reads
-use Rattle.tlv.proofs.octets.two.Reads as two-reads
 
 shared-slice-read-kind-of : tie.Need-shared-slice-read-kind-of
 shared-slice-read-kind-of c = search needs

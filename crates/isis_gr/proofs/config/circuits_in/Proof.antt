@@ -3,9 +3,6 @@ use mathlib.Core.List.{[], _∷_}
 use borrow.Author.Needs.{needs}
 use Rattle.isis_gr.proofs.config.circuits_in.Statement.{statement}
 use Rattle.isis_gr.proofs.config.circuits_in.Tie as tie
-use Rattle.isis_gr.proofs.config.circuits_in.Reads as reads
-use Rattle.isis_gr.proofs.config.circuits_in.Lts as lts
-use Rattle.isis_gr.proofs.config.circuit_at.Reads as circuit-at-reads
 
 circuit-at-requires : tie.Need-circuit-at-requires
 circuit-at-requires c κs = search needs

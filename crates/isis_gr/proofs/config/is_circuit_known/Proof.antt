@@ -3,8 +3,6 @@ use borrow.Author.Tests.{lt-ltb, le-ltb}
 use borrow.Author.Needs.{needs}
 use Rattle.isis_gr.proofs.config.is_circuit_known.Statement.{statement}
 use Rattle.isis_gr.proofs.config.is_circuit_known.Tie as tie
-use Rattle.isis_gr.proofs.config.is_circuit_known.Reads as reads
-use Rattle.isis_gr.proofs.config.is_circuit_known.Lts as lts
 
 shared-slice-read-if1 : tie.Need-shared-slice-read-if1
 shared-slice-read-if1 c = search needs

@@ -2,8 +2,6 @@
 use borrow.Author.Tests.{eq-eqb, ne-eqb}
 use Rattle.isis_gr.proofs.config.mode_of.Statement.{statement}
 use Rattle.isis_gr.proofs.config.mode_of.Tie as tie
-use Rattle.isis_gr.proofs.config.mode_of.Reads as reads
-use Rattle.isis_gr.proofs.config.mode_of.Lts as lts
 
 returns : tie.Need-returns
 returns c = simp (eq-eqb _ _ (c .if1 .taken))

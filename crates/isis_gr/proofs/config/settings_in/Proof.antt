@@ -4,13 +4,6 @@ use Rattle.isis_gr.specs.Settings.{settingsFrom}
 use borrow.Author.Needs.{needs}
 use Rattle.isis_gr.proofs.config.settings_in.Statement.{statement}
 use Rattle.isis_gr.proofs.config.settings_in.Tie as tie
-use Rattle.isis_gr.proofs.config.settings_in.Reads as reads
-use Rattle.isis_gr.proofs.config.settings_in.Lts as lts
-use Rattle.isis_gr.proofs.config.circuits_in.Reads as circuits-in-reads
-use Rattle.isis_gr.proofs.config.mode_of.Reads as mode-of-reads
-use Rattle.isis_gr.proofs.config.six_octets.Reads as six-octets-reads
-use Rattle.tlv.proofs.octets.four.Reads as four-reads
-use Rattle.tlv.proofs.octets.two.Reads as two-reads
 
 six-octets-requires : tie.Need-six-octets-requires
 six-octets-requires c κs = search needs

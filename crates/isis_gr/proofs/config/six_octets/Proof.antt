@@ -4,8 +4,6 @@ use native.Mathlib.Nat.{add-zero, zero-add}
 use borrow.Author.Needs.{needs}
 use Rattle.isis_gr.proofs.config.six_octets.Statement.{statement}
 use Rattle.isis_gr.proofs.config.six_octets.Tie as tie
-use Rattle.isis_gr.proofs.config.six_octets.Reads as reads
-use Rattle.isis_gr.proofs.config.six_octets.Lts as lts
 
 shared-slice-read-t4 : tie.Need-shared-slice-read-t4
 shared-slice-read-t4 c = search needs

@@ -2,9 +2,6 @@
 use borrow.Author.Needs.{needs}
 use Rattle.isis_gr.proofs.numbers.csnps_number.Statement.{statement}
 use Rattle.isis_gr.proofs.numbers.csnps_number.Tie as tie
-use Rattle.isis_gr.proofs.numbers.csnps_number.Reads as reads
-use Rattle.isis_gr.proofs.numbers.csnps_number.Lts as lts
-use Rattle.isis_gr.proofs.numbers.levels_number.Reads as levels-number-reads
 
 enum-told : tie.Need-enum-told
 enum-told c = search needs

@@ -3,10 +3,6 @@ use native.Mathlib.Omega.{arith}
 use borrow.Author.Needs.{needs}
 use Rattle.isis_gr.proofs.numbers.outcome_number.Statement.{statement}
 use Rattle.isis_gr.proofs.numbers.outcome_number.Tie as tie
-use Rattle.isis_gr.proofs.numbers.outcome_number.Reads as reads
-use Rattle.isis_gr.proofs.numbers.outcome_number.Lts as lts
-use Rattle.isis_gr.proofs.numbers.levels_number.Reads as levels-number-reads
-use Rattle.isis_gr.proofs.numbers.overload_number.Reads as overload-number-reads
 
 enum-told : tie.Need-enum-told
 enum-told c = search needs

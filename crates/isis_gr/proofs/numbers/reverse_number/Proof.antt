@@ -3,9 +3,6 @@ use native.Mathlib.Omega.{arith}
 use borrow.Author.Needs.{needs}
 use Rattle.isis_gr.proofs.numbers.reverse_number.Statement.{statement}
 use Rattle.isis_gr.proofs.numbers.reverse_number.Tie as tie
-use Rattle.isis_gr.proofs.numbers.reverse_number.Reads as reads
-use Rattle.isis_gr.proofs.numbers.reverse_number.Lts as lts
-use Rattle.isis_gr.proofs.numbers.bit.Reads as bit-reads
 
 enum-told : tie.Need-enum-told
 enum-told c = search needs
