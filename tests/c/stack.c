@@ -1,6 +1,6 @@
 /* Paints a stack and lets receive run on it: how deep it went on frames of 1,492 octets, and on short ones. Fails at 512 octets and more. */
 #define _XOPEN_SOURCE 700
-#include "isis_gr.h"
+#include "two_circuits.h"
 
 #include <stdio.h>
 #include <stdlib.h>
@@ -45,20 +45,7 @@ static size_t depth(void (*what)(void)) {
 }
 
 static void start(void) {
-    isis_gr_settings s;
-    size_t i;
-    memset(&s, 0, sizeof s);
-    s.system_id[5] = 1;
-    s.t1 = s.t2 = 60;
-    s.tries = 3;
-    s.mode = ISIS_GR_MODE_RESTARTING;
-    s.count = 2;
-    for (i = 0; i < 2; i++) {
-        s.circuits[i].kind = i == 0 ? ISIS_GR_KIND_P2P : ISIS_GR_KIND_LAN;
-        s.circuits[i].levels = ISIS_GR_LEVEL_BOTH;
-        s.circuits[i].hold = 30;
-        s.circuits[i].mac[5] = 9;
-    }
+    isis_gr_settings s = two_circuits(ISIS_GR_MODE_RESTARTING, 60, 60);
     if (isis_gr_set_up(&g, &s).code != ISIS_GR_OK) {
         exit(1);
     }

@@ -1,26 +1,12 @@
 /* Fuzzes receive: an input is a list of calls. Each call's octets: circuit, source's last octet, clock step, reply room, frame length (2), frame. The
    lent frame and reply are copies of exactly their length, so that AddressSanitizer sees every octet past them. A refusal must leave gateway and
    reply as they were, and octets past 11 are never written. With clang's libFuzzer: make fuzz. */
-#include "isis_gr.h"
+#include "../c/two_circuits.h"
 
 #include <stdlib.h>
 
 static void start(isis_gr_gateway *g, uint8_t mode) {
-    isis_gr_settings s;
-    size_t i;
-    memset(&s, 0, sizeof s);
-    s.system_id[5] = 1;
-    s.t1 = 2;
-    s.t2 = 9;
-    s.tries = 3;
-    s.mode = mode;
-    s.count = 2;
-    for (i = 0; i < 2; i++) {
-        s.circuits[i].kind = i == 0 ? ISIS_GR_KIND_P2P : ISIS_GR_KIND_LAN;
-        s.circuits[i].levels = ISIS_GR_LEVEL_BOTH;
-        s.circuits[i].hold = 30;
-        s.circuits[i].mac[5] = 9;
-    }
+    isis_gr_settings s = two_circuits(mode, 2, 9);
     if (isis_gr_set_up(g, &s).code != ISIS_GR_OK) {
         abort();
     }
