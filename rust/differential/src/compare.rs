@@ -48,8 +48,10 @@ fn line(c: &mut Coverage, flags: Option<u8>, stood: Option<Record>, after: Optio
     let counted = flags.map(|f| if f & 1 == 1 { f & 0x1F & !8 } else { f & 0x1F });
     let valid = counted.filter(|f| f.count_ones() < 2 || *f == 5);
     let name = match valid {
-        None if from == "Restart" => return,
-        None => format!("ordinary, from {from}"),
+        None => {
+            c.hit_if(flags.is_some(), "ordinary, TLV ignored");
+            format!("ordinary, from {from}")
+        }
         Some(f) if f & 1 == 1 && up => format!("line 1, from {from}"),
         Some(f) if f & 1 == 1 => format!("line 2, from {from}"),
         Some(f) if f & 8 == 8 && up && after.is_some_and(|r| r.up) => format!("line 3, from {from}"),
@@ -134,6 +136,10 @@ impl Pair {
         let line1 = meant.flags.is_some_and(|f| f & 1 == 1) && stood.is_some_and(|r| r.up) && got.reply.is_some();
         c.hit_if(line1 && lan && got.csnps.is_none(), "no CSNPs on a LAN: another has the duty");
         line(c, meant.flags, stood, after);
+        let up = stood.is_some_and(|r| r.up);
+        c.hit_if(stood.is_none() && after.is_none(), "no record, and none is kept");
+        c.hit_if(up && (meant.wrong_system || meant.wrong_circuit), "wrong ID excused by RR on an UP record");
+        c.hit_if(!up && meant.wrong_circuit, "wrong circuit ID excused while Restarting");
         if let Some(record) = after {
             c.hit_if(!record.up, "record INIT");
             c.hit_if(record.up, "record UP");
@@ -170,11 +176,14 @@ impl Pair {
     /// One call on both; the refusal, if it was refused.
     pub fn step(&mut self, c: &mut Coverage, call: &Call) -> Option<Refusal> {
         let before = self.memory.clone();
+        let waited = self.memory.waiting().0;
+        let mut quiet = false;
         let refused = match *call {
             Call::Receive(n, source, ref frame, room, meant) => self.receive(c, n, source, frame, room, meant),
             Call::Tick(clock) => match Pair::told(self.memory.tick(clock), self.reference.tick(clock)) {
                 Ok(t) => {
                     timers(c, t.timers);
+                    quiet = matches!(t.timers, TimerOutcome::Goes { overload: Overload::Quiet, .. });
                     c.hit_if(t.marks.contains(&true), "tick marks a circuit");
                     c.hit_if(t.hellos.contains(&true), "tick orders a hello");
                     None
@@ -241,6 +250,11 @@ impl Pair {
         if refused.is_some() {
             assert!(self.memory == before, "a refusal changed the memory");
         }
+        let fewer = self.memory.waiting().0 < waited;
+        let acknowledged = matches!(call, Call::Receive(.., m) if !m.damaged && m.flags.is_some_and(|f| f & 2 == 2));
+        c.hit_if(fewer && acknowledged, "T1 stops by an acknowledgement");
+        c.hit_if(fewer && matches!(call, Call::Csnp(..)), "T1 stops by a CSNP set");
+        c.hit_if(fewer && quiet, "T1 stops at its last expiry");
         refused
     }
 }

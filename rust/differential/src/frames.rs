@@ -30,6 +30,10 @@ pub struct Meant {
     pub level: u8,
     /// The flags of its one Restart TLV, if it has one that is well formed.
     pub flags: Option<u8>,
+    /// Its three-way TLV names another system.
+    pub wrong_system: bool,
+    /// Its three-way TLV names another circuit of ours.
+    pub wrong_circuit: bool,
     /// It was damaged afterwards, or made of garbage.
     pub damaged: bool,
 }
@@ -78,7 +82,8 @@ fn reverse(r: &mut Random, out: &mut Vec<u8>) {
     out.extend(subs);
 }
 
-fn three_way(r: &mut Random, circuit: &CircuitSettings, out: &mut Vec<u8>) {
+/// Whether it names another system, and another circuit.
+fn three_way(r: &mut Random, circuit: &CircuitSettings, out: &mut Vec<u8>) -> (bool, bool) {
     let state = if r.chance(2) { 3 } else { r.below(3) as u8 };
     let len = if r.chance(2) { r.below(17) as u8 } else { r.pick(&[1u8, 5, 11, 15]) };
     let named = if r.chance(80) { OWN } else { system(3) };
@@ -86,6 +91,7 @@ fn three_way(r: &mut Random, circuit: &CircuitSettings, out: &mut Vec<u8>) {
     let value = [&[state][..], &[0, 0, 0, 9], &named, &id.to_be_bytes(), &[0, 0]].concat();
     out.extend([240, len]);
     out.extend(&value[..usize::from(len)]);
+    (len >= 11 && named != OWN, len == 15 && id != circuit.id)
 }
 
 fn neighbours(r: &mut Random, own: Mac, out: &mut Vec<u8>) {
@@ -124,12 +130,13 @@ pub fn frame(r: &mut Random, circuit: &CircuitSettings) -> (Vec<u8>, Meant) {
     out.resize(usize::from(header), 7);
     let mut flags = None;
     let mut once = 0;
+    let (mut wrong_system, mut wrong_circuit) = (false, false);
     for _ in 0..r.below(2) {
         out.extend([r.pick(&[1u8, 129, 132, 229]), 2, 0, 0]);
     }
     if p2p {
         if !r.chance(2) {
-            three_way(r, circuit, &mut out);
+            (wrong_system, wrong_circuit) = three_way(r, circuit, &mut out);
         }
     } else {
         for _ in 0..r.below(3) {
@@ -163,5 +170,5 @@ pub fn frame(r: &mut Random, circuit: &CircuitSettings) -> (Vec<u8>, Meant) {
         out[at] = r.octet();
         damaged = true;
     }
-    (out, Meant { system: from, level, flags, damaged })
+    (out, Meant { system: from, level, flags, wrong_system, wrong_circuit, damaged })
 }

@@ -291,3 +291,13 @@ pub struct Waiting {
     /// The lowest of them.
     pub lowest: Option<Circuit>,
 }
+
+#[cfg(test)]
+mod tests {
+    #[test]
+    fn each_refusal_stands_at_its_number() {
+        for (number, refusal) in (1..).zip(super::REFUSALS) {
+            assert_eq!(refusal.number(), number);
+        }
+    }
+}
