@@ -46,10 +46,9 @@ use Rattle.gateway.proofs.WordLaws.{along, refuses, common-at, common-p
 pub hears-said : {i : ℕ} {l : Levels} {d d′ : Heard} {ws u : List ℕ} {o : Timed} {r : Freed} → d ≡ d′ → CommonHears i l d ws u o r → CommonHears i l d′ ws u o r
 hears-said e h = rw (← e) h
 
-pub received-is : (g : Gateway) (n : ℕ) (s : Circuit) (mac own : ℕ) (frame b : List ℕ) → mac ≡ own
-    → lift g n (receive n s mac frame b) ≡ lift g n (act n s (Receive own frame b))
+pub received-is : (g : Gateway) (n : ℕ) (s : Circuit) (mac : ℕ) (frame b : List ℕ) → lift g n (receive n s mac frame b) ≡ lift g n (act n s (Receive mac frame b))
 unfolding lift act
-received-is g n s mac own frame b e = rw e refl
+received-is g n s mac frame b = refl
 
 -- ---- refusals 2 to 7
 
@@ -72,9 +71,10 @@ module _ (ws : List ℕ) (n : ℕ) (s : Circuit) (mac : ℕ) (h : Hello) (b : Li
   unfolding lift checked gatewayOf
   source-wrong e = rw (← o, e) refl
 
-  pub source-right : wrongSource (s .levels) own h ≡ false → lift (gatewayOf ws) n (seated n s mac b h) ≡ lift (gatewayOf ws) n (checked n s mac b h)
+  pub source-right : (m : ℕ) → m ≡ mac → wrongSource (s .levels) own h ≡ false
+      → lift (gatewayOf ws) n (seated n s m b h) ≡ lift (gatewayOf ws) n (checked n s mac b h)
   unfolding lift checked gatewayOf
-  source-right e = rw (← o, e) refl
+  source-right m q e = rw (q, ← o, e) refl
 
 -- ---- refusals 8 and 9, and the frame's effect
 

@@ -125,23 +125,24 @@ fn settle_in(
     }
 }
 
-// Refusal 7.
+// Refusal 7. The source MAC is read once it counts.
 fn check_in(
     gateway: &mut [u64],
     n: u8,
     s: Circuit,
-    mac: u64,
+    source: &[u8],
     frame: Hello,
     reply: &mut [u8],
 ) -> Received
-    requires { ⌜ (length (now gateway) ≡ gatewayWords) × (0 < n) × (n ≤ 8) × (11 ≤ length (now reply)) ⌝ }
-    ensures { λ r. ⌜ Meets (receivedOf r) (lift (gatewayOf (now (gateway .entry))) n (checked n s mac (now (reply .entry)) frame)) (now (gateway .entry)) (now (gateway .exit)) (now (reply .exit)) ⌝ }
+    requires { ⌜ (length (now gateway) ≡ gatewayWords) × (0 < n) × (n ≤ 8) × (11 ≤ length (now reply)) × (length (now source) ≡ 6) ⌝ }
+    ensures { λ r. ⌜ Meets (receivedOf r) (lift (gatewayOf (now (gateway .entry))) n (checked n s (big 6 (now (source .entry)) 0) (now (reply .entry)) frame)) (now (gateway .entry)) (now (gateway .exit)) (now (reply .exit)) ⌝ }
 {
     let levels = s.levels;
     let own = system_of(&gateway[0..128]);
     if is_wrong_source(levels, own, frame) {
         return Received::Refused(Refusal::WrongSource);
     }
+    let mac = six(source, 0);
     settle_in(gateway, n, s, mac, frame, reply)
 }
 
@@ -150,12 +151,12 @@ fn read_in(
     gateway: &mut [u64],
     n: u8,
     s: Circuit,
-    mac: u64,
+    source: &[u8],
     frame: &[u8],
     reply: &mut [u8],
 ) -> Received
-    requires { ⌜ (length (now gateway) ≡ gatewayWords) × (0 < n) × (n ≤ 8) ⌝ }
-    ensures { λ r. ⌜ Meets (receivedOf r) (lift (gatewayOf (now (gateway .entry))) n (Rattle.model.specs.Receive.receive n s mac (now (frame .entry)) (now (reply .entry)))) (now (gateway .entry)) (now (gateway .exit)) (now (reply .exit)) ⌝ }
+    requires { ⌜ (length (now gateway) ≡ gatewayWords) × (0 < n) × (n ≤ 8) × (length (now source) ≡ 6) ⌝ }
+    ensures { λ r. ⌜ Meets (receivedOf r) (lift (gatewayOf (now (gateway .entry))) n (Rattle.model.specs.Receive.receive n s (big 6 (now (source .entry)) 0) (now (frame .entry)) (now (reply .entry)))) (now (gateway .entry)) (now (gateway .exit)) (now (reply .exit)) ⌝ }
 {
     let kind = s.kind;
     if reply.len() < 11 {
@@ -163,7 +164,7 @@ fn read_in(
     }
     match read_hello(frame, kind, s.mac) {
         Read::Refused(x) => Received::Refused(x),
-        Read::Accepted(hello) => check_in(gateway, n, s, mac, hello, reply),
+        Read::Accepted(hello) => check_in(gateway, n, s, source, hello, reply),
     }
 }
 
@@ -181,6 +182,5 @@ pub(crate) fn receive_in(
     let Chosen::Known(s) = circuit_of(&gateway[0..128], n) else {
         return Received::Refused(Refusal::NoCircuit);
     };
-    let mac = six(source, 0);
-    read_in(gateway, n, s, mac, frame, reply)
+    read_in(gateway, n, s, source, frame, reply)
 }

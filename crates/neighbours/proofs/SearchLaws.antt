@@ -1,35 +1,40 @@
--- Laws of the search for a MAC, for the proofs of this crate: it may go by one MAC or by four, and octets that differ from
--- the MAC's rule it out.
-use Prim.Native.Nat.{ℕ, zero, suc, _+_, _*_, _/_, _<_, _≤_}
-use mathlib.Core.Path.{_≡_, sym, ap, _∙_}
+-- Laws of the search for a MAC, for the proofs of this crate: it may go by one MAC or by four, and a MAC is told by its octets
+-- in either order.
+use Prim.Native.Nat.{ℕ, zero, suc, _+_, _*_, _/_, _%_, _^_, _<_, _≤_}
+use mathlib.Core.Path.{_≡_, refl, sym, ap, _∙_}
 use mathlib.Core.Logic.{⊎-elim}
 use mathlib.Core.List.{List}
-use mathlib.Core.Bool.{true, false, _||_, or-assoc}
+use mathlib.Core.Bool.{true, false, _||_, or-assoc, true≢false}
 use native.Mathlib.Omega.{arith}
-use native.Mathlib.Nat.{add-assoc, le-of-suc-le-suc, eq-or-lt-of-le}
+use native.Mathlib.Nat.{add-zero, add-suc, pow-zero, pow-suc, not-suc-le-zero, le-of-suc-le-suc, eq-or-lt-of-le}
 use lib.Arith.{le-zero}
-use lib.Dec.{eqb}
-use borrow.Author.Tests.{ne-eqb, eqb-false}
-use Rattle.tlv.specs.Octets.{octet, big}
-use Rattle.tlv.proofs.BoolLaws.{neither}
-use Rattle.tlv.proofs.OctetsLaws.{big-add, big-mod, big-div, big-lt}
+use lib.Dec.{eqb, ltb}
+use borrow.Author.Tests.{eq-eqb, ne-eqb, eqb-true, eqb-false, ltb-true, ltb-false}
+use Rattle.tlv.specs.Octets.{octet, big, little}
+use Rattle.tlv.proofs.BoolLaws.{by-test}
+use Rattle.tlv.proofs.OctetsLaws.{big-mod, big-div, big-lt}
 use Rattle.neighbours.specs.Neighbours.{listedTo}
-use Rattle.neighbours.specs.Search.{wordAt, keyOf, nearAt, fourAt}
+use Rattle.neighbours.specs.Search.{digit, turned, fourAt}
 
 -- one MAC more, at octet j
 pub by-one : (m : ℕ) (v : List ℕ) (k j n : ℕ) → j ≡ 6 * k → n ≡ suc k → listedTo m v n ≡ (listedTo m v k || eqb (big 6 v j) m)
 unfolding listedTo
 by-one m v k j n p q = rw (p, q)
 
--- four MACs more
-pub by-four : (m : ℕ) (v : List ℕ) (k j n : ℕ) → j ≡ 6 * k → n ≡ k + 4 → listedTo m v n ≡ (listedTo m v k || fourAt v j m)
+-- the first MAC
+pub first-one : (m : ℕ) (v : List ℕ) → listedTo m v 1 ≡ eqb (big 6 v 0) m
+unfolding listedTo
+first-one m v = refl
+
+-- four MACs more, two octets past j
+pub by-four : (m : ℕ) (v : List ℕ) (k j n : ℕ) → j + 2 ≡ 6 * k → n ≡ k + 4 → listedTo m v n ≡ (listedTo m v k || fourAt v j m)
 unfolding fourAt
 by-four m v k j n p q =
     rw (
-      by-one m v (k + 3) (j + 18) n (omega arith) (omega arith),
-      by-one m v (k + 2) (j + 12) (k + 3) (omega arith) (omega arith),
-      by-one m v (k + 1) (j + 6) (k + 2) (omega arith) (omega arith),
-      by-one m v k j (k + 1) p (omega arith),
+      by-one m v (k + 3) (j + 18 + 2) n (omega arith) (omega arith),
+      by-one m v (k + 2) (j + 12 + 2) (k + 3) (omega arith) (omega arith),
+      by-one m v (k + 1) (j + 6 + 2) (k + 2) (omega arith) (omega arith),
+      by-one m v k (j + 2) (k + 1) p (omega arith),
     )
     (simp or-assoc)
 
@@ -40,41 +45,88 @@ listed-more m v a zero h e = rw (le-zero h) at e
 listed-more m v a (suc b) h e =
     ⊎-elim (λ q. rw q at e) (λ l. rw (listed-more m v a b (le-of-suc-le-suc l) e)) (eq-or-lt-of-le h)
 
+pub listed-fewer : (m : ℕ) (v : List ℕ) (a b : ℕ) → a ≤ b → listedTo m v b ≡ false → listedTo m v a ≡ false
+listed-fewer m v a b h e = by-test (listedTo m v a) (λ t. absurd (true≢false (sym (listed-more m v a b h t) ∙ e))) (λ t. t)
+
+-- ---- the octets of a number
+
+digit-lt : (k m : ℕ) → digit k m < 256
+unfolding digit
+digit-lt zero m = omega arith
+digit-lt (suc k) m = digit-lt k (m / 256)
+
+one-octet : (a b x y : ℕ) → a < 256 → b < 256 → a + 256 * x ≡ b + 256 * y → (a ≡ b) × (x ≡ y)
+one-octet a b x y la lb e = (omega arith, omega arith)
+
+pub turned-lt : (n m : ℕ) → turned n m < 256 ^ n
+unfolding turned
+turned-lt zero m = rw pow-zero (omega arith)
+turned-lt (suc n) m = rw pow-suc (omega (arith, digit-lt n m, turned-lt n m))
+
+-- numbers that are alike when turned have the same octets ..
+same-digits : (n m m′ : ℕ) → turned n m ≡ turned n m′ → (k : ℕ) → k < n → digit k m ≡ digit k m′
+unfolding turned
+same-digits zero m m′ e k l = absurd (not-suc-le-zero l)
+same-digits (suc n) m m′ e k l =
+    let h = one-octet (digit n m) (digit n m′) (turned n m) (turned n m′) (digit-lt n m) (digit-lt n m′) e in
+    ⊎-elim (λ q. rw q (h .0)) (λ b. same-digits n m m′ (h .1) k b) (eq-or-lt-of-le (le-of-suc-le-suc l))
+
+-- .. and numbers of n octets with the same octets are the same
+digits-tell : (n m m′ : ℕ) → ((k : ℕ) → k < n → digit k m ≡ digit k m′) → m < 256 ^ n → m′ < 256 ^ n → m ≡ m′
+unfolding digit
+digits-tell zero m m′ h l l′ = omega (arith, pow-zero 256)
+digits-tell (suc n) m m′ h l l′ =
+    let p : m < 256 ^ n * 256 = rw pow-suc at l in
+    let p′ : m′ < 256 ^ n * 256 = rw pow-suc at l′ in
+    let high = digits-tell n (m / 256) (m′ / 256) (λ k b. h (suc k) (omega arith)) (omega arith) (omega arith) in
+    let low : m % 256 ≡ m′ % 256 = h zero (omega arith) in
+    omega arith
+
 module _ (v : List ℕ) (h : (k : ℕ) → octet v k < 256) where
-  module _ (at : ℕ) where
-    -- other first two octets: not the MAC
-    pub other-start : (m : ℕ) → (big 2 v at ≡ m / 4294967296 → ⊥) → eqb (big 6 v at) m ≡ false
-    other-start m p = ne-eqb (big 6 v at) m (λ e. p (omega (arith, big-add 2 4 v at, big-lt v (at + 2) h 4)))
+  digit-big : (at k j w : ℕ) → w ≡ k + suc j → digit k (big w v at) ≡ octet v (at + j)
+  unfolding digit
+  digit-big at zero j w e = let p : w ≡ suc j = omega arith in rw p (big-mod v at h j)
+  digit-big at (suc k) j w e =
+      let p : w ≡ suc (k + suc j) = omega arith in
+      rw p (ap (digit k) (big-div v at h (k + suc j)) ∙ digit-big at k j (k + suc j) refl)
 
-    -- the last four octets of a MAC are its key
-    key-word : keyOf (big 6 v at) ≡ wordAt v (at + 2)
-    unfolding keyOf wordAt
-    key-word =
-        rw (
-          big-div v at h 5,
-          big-div v at h 4,
-          big-div v at h 3,
-          big-mod v at h 2,
-          big-mod v at h 3,
-          big-mod v at h 4,
-          big-mod v at h 5,
-        )
-        (simp add-assoc)
+  -- octets read in one order are those read in the other, turned
+  turned-big : (at n j w : ℕ) → w ≡ n + j → turned n (big w v at) ≡ little n v (at + j)
+  unfolding turned little
+  turned-big at zero j w e = refl
+  turned-big at (suc n) j w e =
+      let q : at + suc j ≡ at + j + 1 = omega arith in
+      rw (digit-big at n j w (omega arith), turned-big at n (suc j) w (omega arith), q)
 
-    -- another key: not the MAC
-    other-key : (m : ℕ) → eqb (wordAt v (at + 2)) (keyOf m) ≡ false → eqb (big 6 v at) m ≡ false
-    other-key m e = ne-eqb (big 6 v at) m (λ q. eqb-false (wordAt v (at + 2)) (keyOf m) e (sym key-word ∙ ap keyOf q))
+  -- a MAC is ours just where its octets are ours turned
+  pub told-turned : (at m : ℕ) → m < 281474976710656 → eqb (little 6 v at) (turned 6 m) ≡ eqb (big 6 v at) m
+  told-turned at m l =
+      let t : turned 6 (big 6 v at) ≡ little 6 v at = turned-big at 6 0 6 refl ∙ rw (add-zero at) in
+      by-test (eqb (little 6 v at) (turned 6 m))
+      (λ e.
+      let d = same-digits 6 (big 6 v at) m (t ∙ eqb-true (little 6 v at) (turned 6 m) e) in
+      e ∙ sym (eq-eqb (big 6 v at) m (digits-tell 6 (big 6 v at) m d (big-lt v at h 6) l)))
+      (λ e.
+      e ∙ sym (ne-eqb (big 6 v at) m (λ q. eqb-false (little 6 v at) (turned 6 m) e (sym t ∙ ap (turned 6) q))))
 
-  -- no key fits: none of the four is the MAC
-  pub far : (at m : ℕ) → nearAt v at (keyOf m) ≡ false → fourAt v at m ≡ false
-  unfolding nearAt fourAt
-  far at m e =
-      let e₁ = neither (eqb (wordAt v (at + 2)) (keyOf m)) _ e in
-      let e₂ = neither (eqb (wordAt v (at + 8)) (keyOf m)) _ (e₁ .1) in
-      let e₃ = neither (eqb (wordAt v (at + 14)) (keyOf m)) _ (e₂ .1) in
-      rw (
-        other-key at m (e₁ .0),
-        other-key (at + 6) m (rw add-assoc (e₂ .0)),
-        other-key (at + 12) m (rw add-assoc (e₃ .0)),
-        other-key (at + 18) m (rw add-assoc (e₃ .1)),
-      )
+  -- a number that is no MAC is in no list
+  pub no-mac : (m n : ℕ) → 281474976710656 ≤ m → listedTo m v n ≡ false
+  unfolding listedTo
+  no-mac m zero l = refl
+  no-mac m (suc n) l = rw (no-mac m n l, ne-eqb (big 6 v (6 * n)) m (λ e. omega (arith, big-lt v (6 * n) h 6)))
+
+-- ---- the comparison
+
+-- x lies less than 65536 above 65536 * t just where the number above its lowest two octets is t
+pub told-above : (x r s l t : ℕ) → x ≡ s + 65536 * l → s < 65536 → t < 281474976710656 → r < 18446744073709551616 → (r + 65536 * t) % 18446744073709551616 ≡ x
+    → ltb r 65536 ≡ eqb l t
+told-above x r s l t e ls lt lr w =
+    by-test (ltb r 65536)
+    (λ b. b ∙ sym (eq-eqb l t (let k : r < 65536 = ltb-true r 65536 b in omega arith)))
+    (λ b. b ∙ sym (ne-eqb l t (λ q. let k : 65536 ≤ r = ltb-false r 65536 b in omega arith)))
+
+pub told-times : (x y t : ℕ) → y ≡ 65536 * t → eqb (65536 * x) y ≡ eqb x t
+told-times x y t e =
+    by-test (eqb x t)
+    (λ q. eq-eqb (65536 * x) y (let k : x ≡ t = eqb-true x t q in omega arith) ∙ sym q)
+    (λ q. ne-eqb (65536 * x) y (λ k. eqb-false x t q (omega arith)) ∙ sym q)

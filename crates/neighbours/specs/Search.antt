@@ -1,22 +1,21 @@
 -- What the steps of the fast search find. No contract of a caller cites these.
-use Prim.Native.Nat.{ℕ, _+_, _*_, _/_, _%_}
+use Prim.Native.Nat.{ℕ, zero, suc, _+_, _*_, _/_, _%_}
 use mathlib.Core.List.{List}
 use mathlib.Core.Bool.{Bool, _||_}
 use lib.Dec.{eqb}
-use Rattle.tlv.specs.Octets.{octet, big}
+use Rattle.tlv.specs.Octets.{big}
 
--- four octets as a number, the first lowest, and the last four octets of a MAC so
-unfoldable pub wordAt : List ℕ → ℕ → ℕ
-wordAt v at = octet v at + octet v (at + 1) * 256 + octet v (at + 2) * 65536 + octet v (at + 3) * 16777216
+-- octet k of a number, the lowest being octet 0
+unfoldable pub digit : ℕ → ℕ → ℕ
+digit zero m = m % 256
+digit (suc k) m = digit k (m / 256)
 
-unfoldable pub keyOf : ℕ → ℕ
-keyOf m = m / 256 / 256 / 256 % 256 + m / 256 / 256 % 256 * 256 + m / 256 % 256 * 65536 + m % 256 * 16777216
+-- the lowest n octets of a number, in the other order
+unfoldable pub turned : ℕ → ℕ → ℕ
+turned zero m = 0
+turned (suc n) m = digit n m + 256 * turned n m
 
--- of the four MACs at a position: one ends in the key; one is the MAC
-unfoldable pub nearAt : List ℕ → ℕ → ℕ → Bool
-nearAt v at key =
-    eqb (wordAt v (at + 2)) key || (eqb (wordAt v (at + 8)) key || (eqb (wordAt v (at + 14)) key || eqb (wordAt v (at + 20)) key))
-
+-- one of the four MACs two octets past a position is the MAC
 unfoldable pub fourAt : List ℕ → ℕ → ℕ → Bool
 fourAt v at m =
-    eqb (big 6 v at) m || (eqb (big 6 v (at + 6)) m || (eqb (big 6 v (at + 12)) m || eqb (big 6 v (at + 18)) m))
+    eqb (big 6 v (at + 2)) m || (eqb (big 6 v (at + 6 + 2)) m || (eqb (big 6 v (at + 12 + 2)) m || eqb (big 6 v (at + 18 + 2)) m))

@@ -1,111 +1,93 @@
 // The search for a MAC in the value of an IS Neighbours TLV (document 01, "TLVs read", type 6), a list of MACs of six
 // octets each. No state; caller: hello.
 //
-// A value may hold 42 MACs and a PDU 240, so the search is made for speed: it goes four MACs a turn, and of each it first
-// compares the last four octets, which differ most often, as one number of one load.
-use tlv::octets::six;
-use tlv::octets::two;
-use tlv::octets::wide;
+// A value may hold 42 MACs and a PDU 242, so the search is made for speed: each MAC is compared whole, by one load of eight
+// octets, the two before it and its own, and no list takes longer than another.
+//
+//   octets   at  at+1   at+2 .. at+7        the first is lowest, so the number is 65536 * (the MAC's octets) + (the two before):
+//            two before    a MAC            it lies less than 65536 above 65536 * (our octets) where the MAC is ours
+//
+// The first MAC of a value has no two octets before it, and is compared by itself.
+use std::num::wrapping_sub_usize;
+use tlv::octets::half;
+use tlv::octets::word;
 ghost use mathlib.Core.Path.{_≡_};
 ghost use mathlib.Core.Bool.{false};
-ghost use Prim.Native.Nat.{_+_, _-_, _≤_, _<_, _%_, _/_};
+ghost use Prim.Native.Nat.{_+_, _*_, _≤_, _<_, _%_, _/_};
 ghost use lib.ListN.{length};
 ghost use lib.Dec.{eqb};
-ghost use Rattle.tlv.specs.Octets.{big};
+ghost use Rattle.tlv.specs.Octets.{big, little};
 ghost use Rattle.neighbours.specs.Neighbours.{listedTo, listedIn};
-ghost use Rattle.neighbours.specs.Search.{wordAt, keyOf, nearAt, fourAt};
+ghost use Rattle.neighbours.specs.Search.{turned, fourAt};
 
-// Four octets as a number, the first lowest: one load on the machine.
-fn word(s: &[u8], at: usize) -> usize
-    requires { ⌜ at + 3 < length (now s) ⌝ }
-    ensures { λ r. ⌜ r ≡ wordAt (now (s .entry)) at ⌝ }
+// Numbers from here on are longer than six octets.
+const PAST_MAC: u64 = 281474976710656;
+
+// Eight octets as a number, the first lowest: one load on the machine.
+fn eight(s: &[u8], at: usize) -> usize
+    requires { ⌜ at + 7 < length (now s) ⌝ }
+    ensures { λ r. ⌜ r ≡ little 8 (now (s .entry)) at ⌝ }
 {
-    wide(s[at]) + wide(s[at + 1]) * 256 + wide(s[at + 2]) * 65536 + wide(s[at + 3]) * 16777216
+    word(s, at) + word(s, at + 4) * 4294967296
 }
 
-// The last four octets of a MAC, as `word` has them.
-fn key_of(mac: u64) -> usize
-    ensures { λ r. ⌜ r ≡ keyOf mac ⌝ }
+// The octets of a MAC as a number, the first lowest.
+fn turn(mac: u64) -> usize
+    ensures { λ r. ⌜ r ≡ turned 6 mac ⌝ }
+    ensures { λ r. ⌜ r < 281474976710656 ⌝ }
 {
     let a = mac / 256;
     let b = a / 256;
     let c = b / 256;
-    (c % 256 + b % 256 * 256 + a % 256 * 65536 + mac % 256 * 16777216) as usize
+    let d = c / 256;
+    let e = d / 256;
+    let last = a % 256 + 256 * (mac % 256);
+    let middle = c % 256 + 256 * (b % 256 + 256 * last);
+    (e % 256 + 256 * (d % 256 + 256 * middle)) as usize
 }
 
-// Whether the six octets at a position are the MAC. The first two are compared first: where this is asked, the last four
-// were equal for one of four MACs.
-fn same_at(v: &[u8], at: usize, mac: u64) -> bool
-    requires { ⌜ at + 5 < length (now v) ⌝ }
-    ensures { λ r. ⌜ r ≡ eqb (big 6 (now (v .entry)) at) mac ⌝ }
+// Whether the MAC stands two octets past a position; `start` is 65536 times its octets.
+fn is_at(v: &[u8], at: usize, mac: u64, start: usize) -> bool
+    requires { ⌜ (at + 7 < length (now v)) × (mac < 281474976710656) × (start ≡ 65536 * turned 6 mac) ⌝ }
+    ensures { λ r. ⌜ r ≡ eqb (big 6 (now (v .entry)) (at + 2)) mac ⌝ }
 {
-    if two(v, at) as u64 != mac / 4294967296 {
-        return false;
-    }
-    six(v, at) == mac
+    wrapping_sub_usize(eight(v, at), start) < 65536
 }
 
-// Whether one of the four MACs at a position ends in the key: nearly always no, and then no more is compared.
-fn near(v: &[u8], at: usize, key: usize) -> bool
-    requires { ⌜ at + 23 < length (now v) ⌝ }
-    ensures { λ r. ⌜ r ≡ nearAt (now (v .entry)) at key ⌝ }
-{
-    if word(v, at + 2) == key {
-        return true;
-    }
-    if word(v, at + 8) == key {
-        return true;
-    }
-    if word(v, at + 14) == key {
-        return true;
-    }
-    word(v, at + 20) == key
-}
-
-// Whether the MAC is one of the four at a position.
-fn one_of_four(v: &[u8], at: usize, mac: u64, key: usize) -> bool
-    requires { ⌜ (at + 23 < length (now v)) × (key ≡ keyOf mac) ⌝ }
+// Whether it is one of the four MACs there.
+fn one_of_four(v: &[u8], at: usize, mac: u64, start: usize) -> bool
+    requires { ⌜ (at + 25 < length (now v)) × (mac < 281474976710656) × (start ≡ 65536 * turned 6 mac) ⌝ }
     ensures { λ r. ⌜ r ≡ fourAt (now (v .entry)) at mac ⌝ }
 {
-    if !near(v, at, key) {
-        return false;
-    }
-    if same_at(v, at, mac) {
+    if is_at(v, at, mac, start) {
         return true;
     }
-    if same_at(v, at + 6, mac) {
+    if is_at(v, at + 6, mac, start) {
         return true;
     }
-    if same_at(v, at + 12, mac) {
+    if is_at(v, at + 12, mac, start) {
         return true;
     }
-    same_at(v, at + 18, mac)
+    is_at(v, at + 18, mac, start)
 }
 
-// Whether the MAC is among those before octet `n`, by fours.
-fn listed_by_fours(v: &[u8], n: usize, mac: u64, key: usize) -> bool
-    requires { ⌜ (n ≤ length (now v)) × (n % 24 ≡ 0) × (key ≡ keyOf mac) ⌝ }
-    ensures { λ r. ⌜ r ≡ listedTo mac (now (v .entry)) (n / 6) ⌝ }
+// Whether it is the first in a value.
+fn is_first(v: &[u8], mac: u64, start: usize) -> bool
+    requires { ⌜ (5 < length (now v)) × (mac < 281474976710656) × (start ≡ 65536 * turned 6 mac) ⌝ }
+    ensures { λ r. ⌜ r ≡ eqb (big 6 (now (v .entry)) 0) mac ⌝ }
 {
-    let mut i = 0;
-    while i < n {
-        if one_of_four(v, i, mac, key) {
-            return true;
-        }
-        i += 24;
-    }
-    false
+    65536 * (word(v, 0) + half(v, 4) * 4294967296) == start
 }
 
-// Whether the MAC is among all of them, where it is not among those before `from`.
-fn listed_after(v: &[u8], from: usize, mac: u64) -> bool
-    requires { ⌜ (from ≤ length (now v) - length (now v) % 6) × (from % 6 ≡ 0) × (listedTo mac (now v) (from / 6) ≡ false) ⌝ }
+// Whether it is in a value of few MACs, of which the first is another.
+fn listed_short(v: &[u8], mac: u64, start: usize) -> bool
+    requires { ⌜ (6 ≤ length (now v)) × (listedTo mac (now v) 1 ≡ false) × (mac < 281474976710656) × (start ≡ 65536 * turned 6 mac) ⌝ }
     ensures { λ r. ⌜ r ≡ listedIn mac (now (v .entry)) ⌝ }
 {
     let n = v.len() - v.len() % 6;
-    let mut i = from;
-    while i < n {
-        if same_at(v, i, mac) {
+    let mut i = 4;
+    while i + 2 < n {
+        if is_at(v, i, mac, start) {
             return true;
         }
         i += 6;
@@ -113,14 +95,38 @@ fn listed_after(v: &[u8], from: usize, mac: u64) -> bool
     false
 }
 
+// The same of a value of five or more, by fours. The last four are asked together, some of them for the second time.
+fn listed_long(v: &[u8], mac: u64, start: usize) -> bool
+    requires { ⌜ (30 ≤ length (now v)) × (listedTo mac (now v) 1 ≡ false) × (mac < 281474976710656) × (start ≡ 65536 * turned 6 mac) ⌝ }
+    ensures { λ r. ⌜ r ≡ listedIn mac (now (v .entry)) ⌝ }
+{
+    let n = v.len() - v.len() % 6 - 26;
+    let mut i = 4;
+    while i < n {
+        if one_of_four(v, i, mac, start) {
+            return true;
+        }
+        i += 24;
+    }
+    one_of_four(v, n, mac, start)
+}
+
 // Whether the MAC is one of those in a value. Octets past the last whole six are no MAC.
 pub fn is_listed_in(v: &[u8], mac: u64) -> bool
     ensures { λ r. ⌜ r ≡ listedIn mac (now (v .entry)) ⌝ }
 {
-    let key = key_of(mac);
-    let n = v.len() - v.len() % 24;
-    if listed_by_fours(v, n, mac, key) {
+    if v.len() < 6 {
+        return false;
+    }
+    if PAST_MAC <= mac {
+        return false;
+    }
+    let start = 65536 * turn(mac);
+    if is_first(v, mac, start) {
         return true;
     }
-    listed_after(v, n, mac)
+    if v.len() < 30 {
+        return listed_short(v, mac, start);
+    }
+    listed_long(v, mac, start)
 }

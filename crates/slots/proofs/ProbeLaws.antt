@@ -17,7 +17,7 @@ use Rattle.adjacency.specs.declared.record.State.the-variants.{Init, Up}
 use Rattle.adjacency.specs.declared.record.Key.{Key}
 use Rattle.adjacency.specs.declared.record.Record.{Record}
 use Rattle.slots.specs.Word.{stateAt, dataAt, markAt}
-use Rattle.slots.specs.Slots.{tableOf, heldWord, isFree, isHeld, sameKey, expiredBy, marksPlanned, plannedState, outrankedAt}
+use Rattle.slots.specs.Slots.{tableOf, heldWord, isFree, isHeld, sameKey, meets, expiredBy, dueAt, marksPlanned, plannedState, outrankedAt}
 use Rattle.slots.specs.declared.slot.Slot.{Slot}
 use Rattle.slots.specs.declared.slot.Slot.the-variants.{Free, Held, Closed}
 use Rattle.slots.proofs.SlotLaws.{table-at}
@@ -78,7 +78,7 @@ expiry-by : (b : Bool) (d : Data) (m : Mark) → expiryOf (cond b (Init d) (Up d
 expiry-by true d m = refl
 expiry-by false d m = refl
 
-pub expired-state : (clock e w : ℕ) → expiredBy clock (stateAt e w) ≡ leb e clock
+expired-state : (clock e w : ℕ) → expiredBy clock (stateAt e w) ≡ leb e clock
 expired-state clock e w = ap (λ (x : ℕ). leb x clock) (expiry-by (eqb (w % 4) 1) (dataAt e w) (markAt w))
 
 planned-mark : (w : ℕ) → leb 2 (w / 4 % 4) ≡ marksPlanned (markAt w)
@@ -137,6 +137,16 @@ module _ (ws : List ℕ) (i : ℕ) (lt : i < 16) where
         by-test (eqb (getD ws (4 * i + 3) 0 % 4) 1)
         (λ q. told-false (rw q (init (dataAt (getD ws (4 * i + 2) 0) (getD ws (4 * i + 3) 0)))))
         (λ q. told-none (tag-none (getD ws (4 * i + 3) 0) ne (eqb-false (getD ws (4 * i + 3) 0 % 4) 1 q)))
+
+-- whether a record's expiry is reached is told by its expiry word
+module _ (clock : ℕ) (ws : List ℕ) (i : ℕ) (lt : i < 16) where
+  pub due : dueAt clock ws i ≡ true → heldWord (getD ws (4 * i + 3) 0) ≡ meets (expiredBy clock) (getD (tableOf ws) i Free)
+  due e =
+      told-true ws i lt (meets (expiredBy clock)) refl refl (expired-state clock (getD ws (4 * i + 2) 0) (getD ws (4 * i + 3) 0) ∙ e)
+
+  pub not-due : dueAt clock ws i ≡ false → false ≡ meets (expiredBy clock) (getD (tableOf ws) i Free)
+  not-due e =
+      told-false ws i lt (meets (expiredBy clock)) refl refl (expired-state clock (getD ws (4 * i + 2) 0) (getD ws (4 * i + 3) 0) ∙ e)
 
 -- CSNP duty
 

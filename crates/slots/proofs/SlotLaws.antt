@@ -107,15 +107,19 @@ other : (ws : List ℕ) (i p q v : ℕ) → p / 4 ≡ i → (q / 4 ≡ i → ⊥
 other ws i p q v e ne = getD-set-other ws p q v 0 (λ (z : q ≡ p). ne (ap (λ (n : ℕ). n / 4) z ∙ e))
 
 module _ (ws : List ℕ) (i : ℕ) (len : length ws ≡ 64) (lt : i < 16) where
-  pub cleared : tableOf (set ws (4 * i + 3) 0) ≡ set (tableOf ws) i Free
-  cleared =
-      stored ws (set ws (4 * i + 3) 0) i Free lt (simp (getD-set-same ws (4 * i + 3) 0 0 (omega arith)))
-      (λ q ne. other ws i (4 * i + 3) q 0 (omega arith) ne)
+  -- the expiry and the tag change, and the tag alone decides
+  emptied : (e v : ℕ) (s : Slot) → ((system mac expiry : ℕ) → slotOf system mac expiry v ≡ s)
+      → tableOf (set (set ws (4 * i + 2) e) (4 * i + 3) v) ≡ set (tableOf ws) i s
+  emptied e v s means =
+      stored ws (set (set ws (4 * i + 2) e) (4 * i + 3) v) i s lt
+      (rw (getD-set-same (set ws (4 * i + 2) e) (4 * i + 3) v 0 (simp length-set (omega arith))) (means _ _ _))
+      (λ q ne. other (set ws (4 * i + 2) e) i (4 * i + 3) q v (omega arith) ne ∙ other ws i (4 * i + 2) q e (omega arith) ne)
 
-  pub closed : tableOf (set ws (4 * i + 3) 3) ≡ set (tableOf ws) i Closed
-  closed =
-      stored ws (set ws (4 * i + 3) 3) i Closed lt (simp (getD-set-same ws (4 * i + 3) 3 0 (omega arith)))
-      (λ q ne. other ws i (4 * i + 3) q 3 (omega arith) ne)
+  pub cleared : (e : ℕ) → tableOf (set (set ws (4 * i + 2) e) (4 * i + 3) 0) ≡ set (tableOf ws) i Free
+  cleared e = emptied e 0 Free (λ system mac expiry. refl)
+
+  pub closed : (e : ℕ) → tableOf (set (set ws (4 * i + 2) e) (4 * i + 3) 3) ≡ set (tableOf ws) i Closed
+  closed e = emptied e 3 Closed (λ system mac expiry. refl)
 
 abbrev set3 : List ℕ → ℕ → ℕ → ℕ → ℕ → List ℕ
 set3 ws i a b c = set (set (set ws (4 * i) a) (4 * i + 1) b) (4 * i + 2) c

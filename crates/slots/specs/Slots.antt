@@ -73,6 +73,10 @@ meets p Free = false
 meets p (Held r) = p (r .state)
 meets p Closed = false
 
+-- the expiry word of place i is at or below the clock, whatever stands there
+abbrev pub dueAt : ℕ → List ℕ → ℕ → Bool
+dueAt clock ws i = leb (getD ws (4 * i + 2) 0) clock
+
 -- document 01, "Marks and holding time": a tick removes each record with expiry at or below the clock
 abbrev pub expiredBy : ℕ → State → Bool
 expiredBy clock s = leb (expiryOf s) clock

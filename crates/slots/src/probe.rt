@@ -7,7 +7,7 @@ use adjacency::record::Key;
 ghost use mathlib.Core.Path.{_≡_};
 ghost use Prim.Native.Nat.{_+_, _*_, _<_};
 ghost use lib.ListN.{length, getD};
-ghost use Rattle.slots.specs.Slots.{tableOf, heldWord, isHeld, isFree, hasKey, meets, expiredBy, plannedState, outrankedAt};
+ghost use Rattle.slots.specs.Slots.{tableOf, heldWord, isHeld, isFree, hasKey, meets, expiredBy, dueAt, plannedState, outrankedAt};
 ghost use Rattle.slots.specs.declared.slot.Slot.the-variants.{Free};
 
 // The tag is INIT or UP.
@@ -52,12 +52,20 @@ pub fn is_key_at(words: &[u64], i: usize, key: Key) -> bool
     is_held_word(w)
 }
 
+// Where this is false no record at the place has expired.
+pub fn is_due_at(words: &[u64], i: usize, clock: u64) -> bool
+    requires { ⌜ (length (now words) ≡ 64) × (i < 16) ⌝ }
+    ensures { λ r. ⌜ r ≡ dueAt clock (now (words .entry)) i ⌝ }
+{
+    words[4 * i + 2] <= clock
+}
+
 pub fn is_expired_at(words: &[u64], i: usize, clock: u64) -> bool
     requires { ⌜ (length (now words) ≡ 64) × (i < 16) ⌝ }
     ensures { λ r. ⌜ r ≡ meets (expiredBy clock) (getD (tableOf (now (words .entry))) i Free) ⌝ }
 {
-    if is_held_word(words[4 * i + 3]) {
-        return words[4 * i + 2] <= clock;
+    if is_due_at(words, i, clock) {
+        return is_held_word(words[4 * i + 3]);
     }
     false
 }

@@ -77,11 +77,15 @@ pub fn store(words: &mut [u64], i: usize, entry: Record)
     words[4 * i + 3] = w;
 }
 
+// The expiry word of a place without a record: past every clock, so that a tick passes the place by this word alone. It means nothing.
+const NEVER: u64 = 18446744073709551615;
+
 // No record stands at a place any more.
 pub fn clear(words: &mut [u64], i: usize)
     requires { ⌜ (length (now words) ≡ 64) × (i < 16) ⌝ }
     ensures { λ _. ⌜ tableOf (now (words .exit)) ≡ set (tableOf (now (words .entry))) i Slot.Free ⌝ }
 {
+    words[4 * i + 2] = NEVER;
     words[4 * i + 3] = 0;
 }
 
@@ -90,5 +94,6 @@ pub fn close(words: &mut [u64], i: usize)
     requires { ⌜ (length (now words) ≡ 64) × (i < 16) ⌝ }
     ensures { λ _. ⌜ tableOf (now (words .exit)) ≡ set (tableOf (now (words .entry))) i Slot.Closed ⌝ }
 {
+    words[4 * i + 2] = NEVER;
     words[4 * i + 3] = 3;
 }

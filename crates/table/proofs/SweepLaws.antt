@@ -4,9 +4,10 @@ use native.Mathlib.Omega.{arith}
 use native.Mathlib.Numerals.{add-one}
 use mathlib.Core.Path.{_≡_, refl, sym}
 use mathlib.Core.Bool.{Bool, true, false, _||_}
-use mathlib.Core.List.{List, _++_, map, append-nil}
+use mathlib.Core.List.{List, [], _∷_, _++_, map, append-nil}
 use lib.ListN.{length, getD, set, take, drop, drop-of-length-le}
 use lib.Seq.{drop-cons, take-suc-set, drop-set-lt, append-snoc, take-all}
+use Rattle.tlv.proofs.BoolLaws.{neither}
 use Rattle.hello.specs.declared.header.CircuitKind.{CircuitKind}
 use Rattle.adjacency.specs.declared.record.State.{State}
 use Rattle.slots.specs.Slots.{tableOf, meets}
@@ -52,6 +53,12 @@ swept-gone p s e = rw e refl
 
 pub swept-kept : (p : State → Bool) (s : Slot) → meets p s ≡ false → s ≡ swept p s
 swept-kept p s e = rw e refl
+
+-- where the test is true of no place, all stay
+pub sweep-none : (p : State → Bool) (t : List Slot) → anyOf (meets p) t ≡ false → t ≡ sweep p t
+unfolding sweep anyOf
+sweep-none p [] e = refl
+sweep-none p (s ∷ t) e = let n = neither (meets p s) (anyOf (meets p) t) e in cc (swept-kept p s (n .0), sweep-none p t (n .1))
 
 -- a room emptied
 

@@ -1,14 +1,15 @@
 // Records removed: by a tick those whose expiry is reached, by a release those marked Planned.
+use slots::probe::is_due_at;
 use slots::probe::is_expired_at;
 use slots::probe::is_planned_at;
 use slots::slot::clear;
 ghost use mathlib.Core.Path.{_≡_};
 ghost use Prim.Native.Nat.{_<_};
-ghost use mathlib.Core.Bool.{_||_};
+ghost use mathlib.Core.Bool.{false, _||_};
 ghost use lib.ListN.{length, getD, set};
 ghost use Rattle.slots.specs.Slots.{tableOf, meets, expiredBy};
 ghost use Rattle.slots.specs.declared.slot.Slot.the-variants.{Free};
-ghost use Rattle.table.specs.Table.{swept, released};
+ghost use Rattle.table.specs.Table.{swept, anyExpired, released};
 ghost use Rattle.table.specs.Sweep.{testOf, Swept};
 
 // Which records go: at a clock, those whose expiry is at or below it; or those marked Planned.
@@ -58,11 +59,29 @@ fn sweep_in(words: &mut [u64], which: Sweep) -> bool
     any
 }
 
+// Where this is false no record of the room has expired: nearly always, and then a tick reads one word of each place and writes none.
+fn is_due(words: &[u64], clock: u64) -> bool
+    requires { ⌜ length (now words) ≡ 64 ⌝ }
+    ensures { λ r. ⌜ (r ≡ false → anyExpired clock (tableOf (now (words .entry))) ≡ false) ⌝ }
+{
+    let mut i = 0;
+    while i < 16 {
+        if is_due_at(words, i, clock) {
+            return true;
+        }
+        i += 1;
+    }
+    false
+}
+
 // A tick: whether any record went.
 pub fn expire(words: &mut [u64], clock: u64) -> bool
     requires { ⌜ length (now words) ≡ 64 ⌝ }
     ensures { λ r. ⌜ Swept (expiredBy clock) (tableOf (now (words .entry))) (tableOf (now (words .exit))) r ⌝ }
 {
+    if !is_due(words, clock) {
+        return false;
+    }
     sweep_in(words, Sweep::Expired(clock))
 }
 

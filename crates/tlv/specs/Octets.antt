@@ -16,6 +16,11 @@ unfoldable pub big : ℕ → List ℕ → ℕ → ℕ
 big zero s at = 0
 big (suc n) s at = big n s at * 256 + octet s (at + n)
 
+-- the same octets, the first lowest: what the machine loads at once. No document has this order, and no caller's contract.
+unfoldable pub little : ℕ → List ℕ → ℕ → ℕ
+little zero s at = 0
+little (suc n) s at = octet s at + 256 * little n s (at + 1)
+
 -- a number as n octets, the other way round: what does not fit is lost
 unfoldable pub octetsOf : ℕ → ℕ → List ℕ
 octetsOf zero x = []

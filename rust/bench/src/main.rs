@@ -1,153 +1,152 @@
-//! Prints a table: for each shape the nanoseconds of the archive, of the reference, and their ratio. Both are measured in turns of one run, and of
-//! each the least of many batches counts. The archive is called as C calls it, and its answer is the word that it returns.
+//! The archive's calls against the reference's, shape by shape. Each round is a process of its own, so that code and data lie elsewhere in memory, and
+//! has the two in turns, so that a ratio is of one round. Prints the table of medians, and writes it and its picture where the two arguments say: into a
+//! page, between its marks, and to a file of its own.
+mod measure;
+mod report;
 mod shapes;
 
-use isis_gr_differential::proved::{octets, Memory};
-use isis_gr_reference::{Gateway, Mac, Settings};
-use isis_gr_sys::{isis_gr_raw_receive, isis_gr_raw_tick};
-use shapes::{full, lan, lans, listed, p2p, settings, OWN, SOURCE};
-use std::hint::black_box;
-use std::time::Instant;
+use isis_gr_reference::{Kind, Mode, Settings};
+use measure::{expiring, look_up, receive, set_up, tick, Both, Pair, Shape};
+use report::Line;
+use shapes::{empty, far, first_two, full, lan, last_four, last_octet, listed, lists, p2p, settings, tlv, with, OWN, SOURCE, WHOLE};
+use std::io::{Error, Result};
+use std::process::Command;
 
-const BATCH: u32 = 500;
-const BATCHES: u32 = 400;
-
-struct Both {
-    memory: Memory,
-    reference: Gateway,
-}
-
-impl Both {
-    fn new() -> Both {
-        Both::of(&settings())
-    }
-
-    fn of(settings: &Settings) -> Both {
-        let mut memory = Memory([0; 640]);
-        memory.set_up(&octets(settings)).expect("in range");
-        Both { memory, reference: Gateway::set_up(settings).expect("in range").0 }
-    }
-
-    fn feed(&mut self, circuit: u8, source: Mac, frame: &[u8]) {
-        let mut reply = [0; 11];
-        let a = self.memory.receive(circuit, source, frame, &mut reply);
-        assert_eq!(a, self.reference.receive(circuit, source, frame, &mut reply));
-    }
-
-    /// Sixteen records on a LAN circuit.
-    fn fill(mut self, circuit: u8) -> Both {
-        for router in 1..=16 {
-            self.feed(circuit, [2, 0, 0, 0, 0, router], &lan(router, &listed()));
-        }
-        self
-    }
-}
-
-fn nanoseconds(mut call: impl FnMut()) -> f64 {
-    let start = Instant::now();
-    for _ in 0..BATCH {
-        call();
-    }
-    start.elapsed().as_nanos() as f64 / f64::from(BATCH)
-}
-
-/// The least of the batches of each, in turns.
-fn measure(mut ours: impl FnMut(), mut theirs: impl FnMut()) -> (f64, f64) {
-    let (mut a, mut b) = (f64::MAX, f64::MAX);
-    for _ in 0..BATCHES {
-        a = a.min(nanoseconds(&mut ours));
-        b = b.min(nanoseconds(&mut theirs));
-    }
-    (a, b)
-}
-
-fn print(name: &str, (a, b): (f64, f64)) {
-    println!("| {name} | {a:.1} | {b:.1} | {:.2} |", a / b);
-}
-
-fn receive(name: &str, both: Both, circuit: u8, source: Mac, frame: &[u8], room: usize) {
-    let Both { mut memory, mut reference } = both;
-    let (mut x, mut y) = (vec![0; room], vec![0; room]);
-    let a = memory.receive(circuit, source, frame, &mut x);
-    assert_eq!(a, reference.receive(circuit, source, frame, &mut y), "{name}");
-    let answer = match a {
-        Ok(_) => String::new(),
-        Err(why) => format!(" (refused {})", why.number()),
-    };
-    let times = measure(
-        || {
-            let source = black_box(source);
-            let frame = black_box(frame);
-            // SAFETY: every pointer is of a live buffer, and goes with its length.
-            black_box(unsafe {
-                isis_gr_raw_receive(memory.0.as_mut_ptr(), circuit, source.as_ptr(), frame.as_ptr(), frame.len(), x.as_mut_ptr(), x.len())
-            });
-        },
-        || {
-            black_box(reference.receive(circuit, black_box(source), black_box(frame), &mut y)).ok();
-        },
-    );
-    print(&format!("{name}{answer}"), times);
-}
-
-fn tick(name: &str, both: Both) {
-    let Both { mut memory, mut reference } = both;
-    let times = measure(
-        || {
-            // SAFETY: the pointer is of a live gateway.
-            black_box(unsafe { isis_gr_raw_tick(memory.0.as_mut_ptr(), black_box(100)) });
-        },
-        || {
-            black_box(reference.tick(black_box(100))).ok();
-        },
-    );
-    print(name, times);
-}
+const ROUNDS: usize = 5;
+/// The word that makes a process one round.
+const ROUND: &str = "round";
 
 fn up() -> Both {
-    let mut both = Both::new();
-    both.feed(1, SOURCE, &p2p(&[1], &[]));
-    both
+    Both::new().fed(1, SOURCE, &p2p(&[1], &[]))
 }
 
-fn main() {
-    println!("| shape | archive, ns | reference, ns | ratio |");
-    println!("|---|---|---|---|");
-    let far = |n: u16| [4, 1, (n >> 8) as u8, n as u8, n as u8 ^ 0x55, (n % 101) as u8];
-    let octet = |n: u16| [4, 1, (n >> 8) as u8, n as u8, n as u8, OWN[5]];
-    let four = |n: u16| [4, n as u8 ^ 0x11, OWN[2], OWN[3], OWN[4], OWN[5]];
-    receive("1,492 octets of neighbours, we are absent", Both::new(), 2, SOURCE, &full(far, None), 11);
-    receive("1,492 octets of neighbours, we are last", Both::new(), 2, SOURCE, &full(far, Some(OWN)), 11);
-    receive("1,492 octets, all share our last octet", Both::new(), 2, SOURCE, &full(octet, None), 11);
-    receive("1,492 octets, all share our last four octets", Both::new(), 2, SOURCE, &full(four, None), 11);
-    receive("shortest P2P frame, record UP", up(), 1, SOURCE, &p2p(&[0], &[]), 11);
-    receive("shortest LAN frame, no other record", Both::new(), 2, SOURCE, &lan(1, &[]), 11);
-    receive("LAN frame that lists us, first of 16 records", Both::new().fill(2), 2, [2, 0, 0, 0, 0, 1], &lan(1, &listed()), 11);
-    receive("LAN frame that lists us, last of 16 records", Both::new().fill(2), 2, [2, 0, 0, 0, 0, 16], &lan(16, &listed()), 11);
-    let whole = [&[0][..], &[0, 0, 0, 9], &[0x19, 0x21, 0x68, 0, 0x10, 1], &[0, 0, 0, 7]].concat();
-    receive("P2P, three-way whole, Restart TLV with flags 0", up(), 1, SOURCE, &p2p(&whole, &[0, 0, 0]), 11);
-    receive("P2P, RR, reply RA", up(), 1, SOURCE, &p2p(&[0], &[1, 0, 0]), 11);
-    receive("P2P, PR, reply PA", up(), 1, SOURCE, &p2p(&[0], &[8, 1, 44]), 11);
-    let request = [&listed()[..], &[211, 1, 1]].concat();
-    receive("LAN, RR, reply RA and duty over 16 records", Both::new().fill(2), 2, [2, 0, 0, 0, 0, 16], &lan(16, &request), 11);
-    receive("no circuit", up(), 9, SOURCE, &p2p(&[0], &[]), 11);
-    receive("reply buffer of 10", up(), 1, SOURCE, &p2p(&[0], &[]), 10);
-    receive("not a hello", up(), 1, SOURCE, &lan(1, &[]), 11);
-    let mut long = p2p(&[0], &[]);
-    long[18] += 1;
-    receive("PDU Length past the octets", up(), 1, SOURCE, &long, 11);
-    let mut cut = p2p(&[0], &[]);
-    cut[21] = 9;
-    receive("TLV past the end", up(), 1, SOURCE, &cut, 11);
-    receive("TLV 240 with state 3", up(), 1, SOURCE, &p2p(&[3], &[]), 11);
-    let mut own = p2p(&[0], &[]);
-    own[14] = 1;
-    receive("our own System ID", up(), 1, SOURCE, &own, 11);
-    let mut other = whole.clone();
+fn long_lists() -> Vec<Shape> {
+    let on = |name: &str, frame: Vec<u8>| receive(name, Both::new(), 2, SOURCE, &frame, 11);
+    let one_in = |n: u16, one: fn(u16) -> [u8; 6], others: fn(u16) -> [u8; 6]| move |i| if i % n == 0 { one(i) } else { others(i) };
+    vec![
+        on("1,492 octets of neighbours, we are absent", full(far, None)),
+        on("1,492 octets of neighbours, we are last", full(far, Some(OWN))),
+        on("1,492 octets, all share our last octet", full(last_octet, None)),
+        on("1,492 octets, all share our last four octets", full(last_four, None)),
+        on("1,492 octets, all share our first two octets", full(first_two, None)),
+        on("1,492 octets, each fourth shares our last four", full(one_in(4, last_four, far), None)),
+        on("1,492 octets, in turns our last four, our first two", full(one_in(2, last_four, first_two), None)),
+        on("1,492 octets, one in five our last four, the others our first two", full(one_in(5, last_four, first_two), None)),
+    ]
+}
+
+fn long_walks() -> Vec<Shape> {
+    let on = |name: &str, tlvs: Vec<u8>| receive(name, Both::new(), 2, SOURCE, &lan(1, &tlvs), 11);
+    let six: Vec<_> = (0..5).map(far).chain([OWN]).collect();
+    let late = [empty(690), tlv(16, &[0, 0, 0, 5, 0]), tlv(211, &[0]), listed()].concat();
+    vec![
+        on("six type 6 TLVs of one neighbour each, we are last", lists(&six, 1)),
+        on("700 empty TLVs", empty(700)),
+        on("690 empty TLVs, then types 16, 211 and 6", late),
+    ]
+}
+
+fn short_frames() -> Vec<Shape> {
+    let request = [listed(), tlv(211, &[1])].concat();
+    let on_p2p = |name: &str, three: &[u8], restart: &[u8]| receive(name, up(), 1, SOURCE, &p2p(three, restart), 11);
+    let on_lan =
+        |name: &str, router: u8, tlvs: &[u8]| receive(name, Both::new().filled(2, 16), 2, [2, 0, 0, 0, 0, router], &lan(router, tlvs), 11);
+    vec![
+        on_p2p("shortest P2P frame, record UP", &[0], &[]),
+        receive("shortest LAN frame, no other record", Both::new(), 2, SOURCE, &lan(1, &[]), 11),
+        on_lan("LAN frame that lists us, first of 16 records", 1, &listed()),
+        on_lan("LAN frame that lists us, last of 16 records", 16, &listed()),
+        on_p2p("P2P, three-way whole, Restart TLV with flags 0", &WHOLE, &[0, 0, 0]),
+        on_p2p("P2P, RR, reply RA", &[0], &[1, 0, 0]),
+        on_p2p("P2P, PR, reply PA", &[0], &[8, 1, 44]),
+        on_lan("LAN, RR, reply RA and duty over 16 records", 16, &request),
+    ]
+}
+
+fn refusals() -> Vec<Shape> {
+    let plain = p2p(&[0], &[]);
+    let edited = |at: usize, octet: u8| {
+        let mut frame = plain.clone();
+        frame[at] = octet;
+        frame
+    };
+    let mut other = WHOLE;
     other[10] = 9;
-    receive("another's Neighbor System ID", up(), 1, SOURCE, &p2p(&other, &[]), 11);
-    receive("a 17th router", Both::new().fill(2), 2, [2, 0, 0, 0, 0, 17], &lan(17, &listed()), 11);
-    tick("tick, no record", Both::new());
-    tick("tick, 16 records", Both::new().fill(2));
-    tick("tick, 128 records", (1..=8).fold(Both::of(&lans()), Both::fill));
+    let on = |name: &str, frame: &[u8]| receive(name, up(), 1, SOURCE, frame, 11);
+    vec![
+        receive("no circuit", up(), 9, SOURCE, &plain, 11),
+        receive("reply buffer of 10", up(), 1, SOURCE, &plain, 10),
+        on("not a hello", &lan(1, &[])),
+        on("PDU Length past the octets", &edited(18, plain[18] + 1)),
+        on("TLV past the end", &edited(21, 9)),
+        on("TLV 240 with state 3", &p2p(&[3], &[])),
+        on("our own System ID", &edited(14, 1)),
+        on("another's Neighbor System ID", &p2p(&other, &[])),
+        receive("a 17th router", Both::new().filled(2, 16), 2, [2, 0, 0, 0, 0, 17], &lan(17, &listed()), 11),
+    ]
+}
+
+fn ticks() -> Vec<Shape> {
+    let eight = |kind: Kind| Both::of(&with(&[kind; 8]));
+    let of_lans = || (1..=8).fold(eight(Kind::Lan), |both, circuit| both.filled(circuit, 16));
+    let of_p2ps = (1..=8).fold(eight(Kind::PointToPoint), |both, circuit| both.fed(circuit, SOURCE, &p2p(&[1], &[])));
+    let restarting = Settings { mode: Mode::Restarting, ..settings() };
+    vec![
+        tick("tick, no record", Both::new()),
+        tick("tick, 16 records", Both::new().filled(2, 16)),
+        tick("tick, 128 records", of_lans()),
+        tick("tick, eight P2P circuits, 8 records", of_p2ps),
+        tick("tick, one LAN, 3 records", Both::of(&with(&[Kind::Lan])).filled(1, 3)),
+        tick("tick, Restarting, eight T1s run", Both::of(&restarting)),
+        expiring("tick that removes 16 records", Both::new().filled(2, 16)),
+        expiring("tick that removes 128 records", of_lans()),
+    ]
+}
+
+fn others() -> Vec<Shape> {
+    vec![set_up("set up, eight circuits", settings()), look_up("look up, last of 16 records", Both::new().filled(2, 16), 2, 16)]
+}
+
+fn shapes() -> Vec<Shape> {
+    [long_lists(), long_walks(), short_frames(), refusals(), ticks(), others()].into_iter().flatten().collect()
+}
+
+/// A round: a line a shape, its name and the nanoseconds of both.
+fn round() {
+    for mut shape in shapes() {
+        let (ours, theirs) = (shape.round)();
+        println!("{}\t{ours}\t{theirs}", shape.name);
+    }
+}
+
+/// What a round printed.
+fn parse(text: &str) -> Option<Vec<(String, Pair)>> {
+    let line = |line: &str| {
+        let mut fields = line.split('\t');
+        Some((fields.next()?.to_string(), (fields.next()?.parse().ok()?, fields.next()?.parse().ok()?)))
+    };
+    text.lines().map(line).collect()
+}
+
+fn main() -> Result<()> {
+    let words: Vec<String> = std::env::args().skip(1).collect();
+    if words == [ROUND] {
+        round();
+        return Ok(());
+    }
+    let mut lines: Vec<Line> = Vec::new();
+    for _ in 0..ROUNDS {
+        let out = Command::new(std::env::current_exe()?).arg(ROUND).output()?;
+        let text = String::from_utf8_lossy(&out.stdout);
+        let found = parse(&text).filter(|_| out.status.success());
+        let found = found.ok_or_else(|| Error::other(String::from_utf8_lossy(&out.stderr)))?;
+        report::add(&mut lines, found);
+    }
+    let table = report::table(&lines);
+    print!("{table}");
+    if let [page, picture] = &words[..] {
+        report::put(page.as_ref(), &table)?;
+        std::fs::write(picture, report::picture(&lines))?;
+    }
+    Ok(())
 }

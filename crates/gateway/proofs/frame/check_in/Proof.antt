@@ -1,6 +1,7 @@
 -- Refusal 7, or the next stage.
 use Rattle.gateway.proofs.FrameLaws.{source-wrong, source-right}
 use Rattle.gateway.proofs.WordLaws.{along, refuses}
+use Rattle.tlv.specs.Octets.{big}
 use Rattle.hello.specs.declared.refusal.Refusal.the-variants.{WrongSource}
 use mathlib.Core.Path.{sym, _∙_}
 use borrow.Author.Needs.{needs}
@@ -26,8 +27,11 @@ same-length : tie.Need-same-length
 same-length c = search needs
 
 returns : tie.Need-returns
-returns c = let a = c .before .before .before .before .before .before .before .before .args in
-    along (source-wrong (a .gateway .now) (a .n) (a .s) (a .mac) (a .frame) (a .reply .now) _ (c .before .before .system-of .ensures) (sym (c .before .is-wrong-source .ensures) ∙ c .if1 .taken)) (refuses (a .gateway .now) (a .n) (a .reply .now) WrongSource)
+returns c = let a = c .before .before .before .before .before .before .before .before .before .args in
+    along (source-wrong (a .gateway .now) (a .n) (a .s) (big 6 (a .source .now) 0) (a .frame) (a .reply .now) _ (c .before .before .system-of .ensures) (sym (c .before .is-wrong-source .ensures) ∙ c .if1 .taken)) (refuses (a .gateway .now) (a .n) (a .reply .now) WrongSource)
+
+six-requires : tie.Need-six-requires
+six-requires c κs = search needs
 
 settle-in-requires : tie.Need-settle-in-requires
 settle-in-requires c κs = search needs
@@ -39,8 +43,8 @@ same-length-3 : tie.Need-same-length-3
 same-length-3 c = search needs
 
 returns-2 : tie.Need-returns-2
-returns-2 c = let a = c .before .before .before .before .before .before .before .before .before .before .before .before .before .before .before .args in
-    along (source-right (a .gateway .now) (a .n) (a .s) (a .mac) (a .frame) (a .reply .now) _ (c .before .before .before .before .before .before .before .before .before .system-of .ensures) (sym (c .before .before .before .before .before .before .before .before .is-wrong-source .ensures) ∙ c .before .before .before .before .before .before .before .if1 .left)) (c .before .before .before .before .settle-in .ensures)
+returns-2 c = let a = c .before .before .before .before .before .before .before .before .before .before .before .before .before .before .before .before .before .args in
+    along (source-right (a .gateway .now) (a .n) (a .s) (big 6 (a .source .now) 0) (a .frame) (a .reply .now) _ (c .before .before .before .before .before .before .before .before .before .before .system-of .ensures) _ (c .before .before .before .before .before .before .before .six .ensures) (sym (c .before .before .before .before .before .before .before .before .before .is-wrong-source .ensures) ∙ c .before .before .before .before .before .before .before .before .if1 .left)) (c .before .before .before .before .settle-in .ensures)
 
 pub check-in-spec : {M : Type 1} → statement M
 check-in-spec =
@@ -53,6 +57,7 @@ check-in-spec =
     is-wrong-source-requires
     same-length
     returns
+    six-requires
     settle-in-requires
     same-length-2
     same-length-3

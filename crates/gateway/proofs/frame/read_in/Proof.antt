@@ -2,6 +2,7 @@
 use Rattle.gateway.proofs.FrameLaws.{small, reads-bad, reads-good}
 use Rattle.gateway.proofs.WordLaws.{along, refuses}
 use Rattle.gateway.specs.Words.{gatewayOf}
+use Rattle.tlv.specs.Octets.{big}
 use Rattle.hello.specs.declared.refusal.Refusal.the-variants.{ReplyRoom}
 use mathlib.Core.Path.{sym, _∙_}
 use borrow.Author.Needs.{needs}
@@ -9,8 +10,8 @@ use Rattle.gateway.proofs.frame.read_in.Statement.{statement}
 use Rattle.gateway.proofs.frame.read_in.Tie as tie
 
 returns : tie.Need-returns
-returns c = let a = c .before .before .before .before .args in
-    along (small (gatewayOf (a .gateway .now)) (a .n) (a .s) (a .mac) (a .frame .now) (a .reply .now) (c .if1 .taken)) (refuses (a .gateway .now) (a .n) (a .reply .now) ReplyRoom)
+returns c = let a = c .before .before .before .before .before .args in
+    along (small (gatewayOf (a .gateway .now)) (a .n) (a .s) (big 6 (a .source .now) 0) (a .frame .now) (a .reply .now) (c .if1 .taken)) (refuses (a .gateway .now) (a .n) (a .reply .now) ReplyRoom)
 
 read-hello-requires : tie.Need-read-hello-requires
 read-hello-requires c κs = search needs
@@ -25,8 +26,8 @@ check-in-requires : tie.Need-check-in-requires
 check-in-requires c κs = search needs
 
 returns-2 : tie.Need-returns-2
-returns-2 c = let a = c .before .before .before .before .before .before .before .before .args in
-    along (reads-bad (gatewayOf (a .gateway .now)) (a .n) (a .s) (a .mac) (a .frame .now) (a .reply .now) (c .before .before .before .before .if1 .left) _ (sym (c .before .before .before .read-hello .ensures) ∙ c .before .x .given .1)) (refuses (a .gateway .now) (a .n) (a .reply .now) _)
+returns-2 c = let a = c .before .before .before .before .before .before .before .before .before .args in
+    along (reads-bad (gatewayOf (a .gateway .now)) (a .n) (a .s) (big 6 (a .source .now) 0) (a .frame .now) (a .reply .now) (c .before .before .before .before .if1 .left) _ (sym (c .before .before .before .read-hello .ensures) ∙ c .before .x .given .1)) (refuses (a .gateway .now) (a .n) (a .reply .now) _)
 
 same-length : tie.Need-same-length
 same-length c = search needs
@@ -35,8 +36,8 @@ same-length-2 : tie.Need-same-length-2
 same-length-2 c = search needs
 
 returns-3 : tie.Need-returns-3
-returns-3 c = let a = c .before .before .before .before .before .before .before .before .before .before .before .before .before .before .before .args in
-    along (reads-good (gatewayOf (a .gateway .now)) (a .n) (a .s) (a .mac) (a .frame .now) (a .reply .now) (c .before .before .before .before .before .before .before .before .before .before .before .if1 .left) _ (sym (c .before .before .before .before .before .before .before .before .before .before .read-hello .ensures) ∙ c .before .before .before .before .before .before .before .before .hello .given .1)) (c .before .before .before .before .check-in .ensures)
+returns-3 c = let a = c .before .before .before .before .before .before .before .before .before .before .before .before .before .before .before .before .args in
+    along (reads-good (gatewayOf (a .gateway .now)) (a .n) (a .s) (big 6 (a .source .now) 0) (a .frame .now) (a .reply .now) (c .before .before .before .before .before .before .before .before .before .before .before .if1 .left) _ (sym (c .before .before .before .before .before .before .before .before .before .before .read-hello .ensures) ∙ c .before .before .before .before .before .before .before .before .hello .given .1)) (c .before .before .before .before .check-in .ensures)
 
 pub read-in-spec : {M : Type 1} → statement M
 read-in-spec =

@@ -36,11 +36,8 @@ returns : tie.Need-returns
 returns c = let a = c .before .before .before .before .before .before .before .before .before .args in
     along (no-circuit (gatewayOf (a .gateway .now)) (a .n) (Receive (big 6 (a .source .now) 0) (a .frame .now) (a .reply .now)) (choice (a .gateway .now) (a .n) _ _ (c .before .before .circuit-of .ensures) (c .enum-told .given .1))) (refuses-all (a .gateway .now) (a .reply .now) NoCircuit)
 
-six-requires : tie.Need-six-requires
-six-requires c κs = search needs
-
 read-in-requires : tie.Need-read-in-requires
-read-in-requires c κs = let s = c .before .before .before .before .before .before .before .before .before .before .before .before .before in let r = subst (InRange _) (c .before .before .before .before .s .given .1) (c .before .before .before .before .before .before .circuit-of .ensures .range) in (s .pre .0, r .0, r .1)
+read-in-requires c κs = let s = c .before .before .before .before .before .before .before .before .before .before .before .before in let r = subst (InRange _) (c .before .before .before .s .given .1) (c .before .before .before .before .before .circuit-of .ensures .range) in (s .pre .0, r .0, r .1, s .pre .1)
 
 same-length-2 : tie.Need-same-length-2
 same-length-2 c = search needs
@@ -49,8 +46,8 @@ same-length-3 : tie.Need-same-length-3
 same-length-3 c = search needs
 
 returns-2 : tie.Need-returns-2
-returns-2 c = let a = c .before .before .before .before .before .before .before .before .before .before .before .before .before .before .before .before .before .before .args in
-    along (received-is (gatewayOf (a .gateway .now)) (a .n) _ _ _ (a .frame .now) (a .reply .now) (c .before .before .before .before .before .before .before .six .ensures) ∙ a-circuit (gatewayOf (a .gateway .now)) (a .n) (Receive (big 6 (a .source .now) 0) (a .frame .now) (a .reply .now)) _ (choice (a .gateway .now) (a .n) _ _ (c .before .before .before .before .before .before .before .before .before .before .before .circuit-of .ensures) (c .before .before .before .before .before .before .before .before .before .s .given .1))) (c .before .before .before .before .read-in .ensures)
+returns-2 c = let a = c .before .before .before .before .before .before .before .before .before .before .before .before .before .before .before .before .before .args in
+    along (received-is (gatewayOf (a .gateway .now)) (a .n) _ (big 6 (a .source .now) 0) (a .frame .now) (a .reply .now) ∙ a-circuit (gatewayOf (a .gateway .now)) (a .n) (Receive (big 6 (a .source .now) 0) (a .frame .now) (a .reply .now)) _ (choice (a .gateway .now) (a .n) _ _ (c .before .before .before .before .before .before .before .before .before .before .circuit-of .ensures) (c .before .before .before .before .before .before .before .before .s .given .1))) (c .before .before .before .before .read-in .ensures)
 
 pub receive-in-spec : {M : Type 1} → statement M
 receive-in-spec =
@@ -64,7 +61,6 @@ receive-in-spec =
     enum-told
     same-length
     returns
-    six-requires
     read-in-requires
     same-length-2
     same-length-3

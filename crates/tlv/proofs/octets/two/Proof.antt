@@ -1,28 +1,15 @@
--- The definition at two octets.
-use native.Mathlib.Nat.{add-zero, zero-add}
+-- The law `turned-two`.
 use native.Mathlib.Omega.{arith}
-use Rattle.tlv.specs.Octets.{big}
+use Rattle.tlv.proofs.OctetsLaws.{turned-two}
 use borrow.Author.Needs.{needs}
 use Rattle.tlv.proofs.octets.two.Statement.{statement}
 use Rattle.tlv.proofs.octets.two.Tie as tie
 
-shared-slice-read-wide : tie.Need-shared-slice-read-wide
-shared-slice-read-wide c = search needs
-
-wide-requires : tie.Need-wide-requires
-wide-requires c κs = search needs
+half-requires : tie.Need-half-requires
+half-requires c κs = search needs
 
 mul-result : tie.Need-mul-result
 mul-result c = search needs
-
-add-wide : tie.Need-add-wide
-add-wide c = search needs
-
-shared-slice-read-wide-2 : tie.Need-shared-slice-read-wide-2
-shared-slice-read-wide-2 c = search needs
-
-wide-requires-2 : tie.Need-wide-requires-2
-wide-requires-2 c κs = search needs
 
 add-result : tie.Need-add-result
 add-result c = search needs
@@ -31,19 +18,7 @@ cast-result : tie.Need-cast-result
 cast-result c = search needs
 
 returns : tie.Need-returns
-unfolding big
-returns c = simp (add-zero, zero-add) (omega arith)
+returns c = turned-two _ (λ k. omega (arith, c .before .shared-slice-known .given k)) _ _ (c .half .ensures .0)
 
 pub two-spec : {M : Type 1} → statement M
-two-spec =
-    tie.close
-    (tie.spec
-    shared-slice-read-wide
-    wide-requires
-    mul-result
-    add-wide
-    shared-slice-read-wide-2
-    wide-requires-2
-    add-result
-    cast-result
-    returns)
+two-spec = tie.close (tie.spec half-requires mul-result add-result cast-result returns)

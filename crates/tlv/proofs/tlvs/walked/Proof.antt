@@ -1,11 +1,13 @@
--- The invariant: what is left to walk is cut where the whole is, and each type is counted so far.
-use Rattle.tlv.proofs.TlvLaws.{walk-cut, walk-whole, cut-end, cut-here, cut-one, count-one, count-le, none}
+-- The invariant: what is left to walk is cut where the whole is, and each type is counted so far. A TLV of a type that is not read
+-- counts for none, by the law `unread`.
+use Rattle.tlv.proofs.TlvLaws.{walk-cut, walk-whole, cut-end, cut-here, cut-one, count-one, count-le, unread, none}
 use Rattle.tlv.specs.Tlv.{tlvs, cutAt, oneIf, nextAt, ofType}
 use Rattle.tlv.specs.Octets.{octet}
 use lib.ListN.{length}
 use borrow.Author.Needs.{needs}
 use native.Mathlib.Omega.{arith}
-use mathlib.Core.Path.{_≡_, refl, ap, _∙_}
+use mathlib.Core.Path.{_≡_, refl, ap, sym, _∙_}
+use borrow.Author.Tests.{not-true}
 use mathlib.Core.List.{List}
 use Prim.Native.Nat.{ℕ, _+_, _-_, _≤_}
 use Rattle.tlv.proofs.tlvs.walked.Statement.{statement}
@@ -46,6 +48,9 @@ returns-2 c = walk-cut _ _ (c .before .before .before .before .before .loop .inv
 shared-slice-read-kind : tie.Need-shared-slice-read-kind Inv-loop μ-loop
 shared-slice-read-kind c = omega arith
 
+is-read-requires : tie.Need-is-read-requires Inv-loop μ-loop
+is-read-requires c κs = search needs
+
 one-if-requires : tie.Need-one-if-requires Inv-loop μ-loop
 one-if-requires c κs = search needs
 
@@ -55,27 +60,6 @@ turn : (f : tie.After-shared-slice-known3 Inv-loop μ-loop) (k : ℕ)
     ≡ oneIf (octet (f .before .before .before .before .before .before .before .before .args .pdu .now) (f .before .before .before .before .before .before .loop .at)) k
     + length (ofType k (tlvs (f .before .before .before .before .before .before .before .before .args .pdu .now) (nextAt (f .before .before .before .before .before .before .before .before .args .pdu .now) (f .before .before .before .before .before .before .loop .at))))
 turn f k = count-one _ _ (f .before .before .before .before .before .loop-test .taken) (omega arith) k
-
-add-neighbours : tie.Need-add-neighbours Inv-loop μ-loop
-add-neighbours c = omega (arith, turn (c .before) 6, count-le 6 (c .before .before .before .before .before .before .before .before .before .args .pdu .now) (c .before .before .before .before .before .before .before .before .before .args .from))
-
-one-if-requires-2 : tie.Need-one-if-requires-2 Inv-loop μ-loop
-one-if-requires-2 c κs = search needs
-
-add-reverse : tie.Need-add-reverse Inv-loop μ-loop
-add-reverse c = omega (arith, turn (c .before .before) 16, count-le 16 (c .before .before .before .before .before .before .before .before .before .before .args .pdu .now) (c .before .before .before .before .before .before .before .before .before .before .args .from))
-
-one-if-requires-3 : tie.Need-one-if-requires-3 Inv-loop μ-loop
-one-if-requires-3 c κs = search needs
-
-add-restart : tie.Need-add-restart Inv-loop μ-loop
-add-restart c = omega (arith, turn (c .before .before .before) 211, count-le 211 (c .before .before .before .before .before .before .before .before .before .before .before .args .pdu .now) (c .before .before .before .before .before .before .before .before .before .before .before .args .from))
-
-one-if-requires-4 : tie.Need-one-if-requires-4 Inv-loop μ-loop
-one-if-requires-4 c κs = search needs
-
-add-threeway : tie.Need-add-threeway Inv-loop μ-loop
-add-threeway c = omega (arith, turn (c .before .before .before .before) 240, count-le 240 (c .before .before .before .before .before .before .before .before .before .before .before .before .args .pdu .now) (c .before .before .before .before .before .before .before .before .before .before .before .before .args .from))
 
 add-at : tie.Need-add-at Inv-loop μ-loop
 add-at c = omega arith
@@ -88,13 +72,57 @@ loop-less c = omega arith
 
 loop-again : tie.Need-loop-again Inv-loop μ-loop
 loop-again c =
-    let l = c .before .before .before .before .before .before .before .before .before .before .loop in
-    rw (c .before .before .before .before .before .before .wide .ensures .is) (
-      l .inv .0 ∙ cut-one _ _ (c .before .before .before .before .before .before .before .before .before .loop-test .taken) (omega arith),
-      omega (arith, turn (c .before .before .before .before) 6),
-      omega (arith, turn (c .before .before .before .before) 16),
-      omega (arith, turn (c .before .before .before .before) 211),
-      omega (arith, turn (c .before .before .before .before) 240),
+    let f = c .before .before in
+    let l = f .before .before .before .before .before .before .loop in
+    let u = unread (octet (f .before .before .before .before .before .before .before .before .args .pdu .now) (l .at)) (sym (c .before .is-read .ensures) ∙ not-true _ (c .if3 .taken)) in
+    rw (f .before .before .wide .ensures .is) (
+      l .inv .0 ∙ cut-one _ _ (f .before .before .before .before .before .loop-test .taken) (omega arith),
+      omega (arith, turn f 6, u .0),
+      omega (arith, turn f 16, u .1),
+      omega (arith, turn f 211, u .2),
+      omega (arith, turn f 240, u .3),
+    )
+
+add-neighbours : tie.Need-add-neighbours Inv-loop μ-loop
+add-neighbours c = omega (arith, turn (c .before .before .before) 6, count-le 6 (c .before .before .before .before .before .before .before .before .before .before .before .args .pdu .now) (c .before .before .before .before .before .before .before .before .before .before .before .args .from))
+
+one-if-requires-2 : tie.Need-one-if-requires-2 Inv-loop μ-loop
+one-if-requires-2 c κs = search needs
+
+add-reverse : tie.Need-add-reverse Inv-loop μ-loop
+add-reverse c = omega (arith, turn (c .before .before .before .before) 16, count-le 16 (c .before .before .before .before .before .before .before .before .before .before .before .before .args .pdu .now) (c .before .before .before .before .before .before .before .before .before .before .before .before .args .from))
+
+one-if-requires-3 : tie.Need-one-if-requires-3 Inv-loop μ-loop
+one-if-requires-3 c κs = search needs
+
+add-restart : tie.Need-add-restart Inv-loop μ-loop
+add-restart c = omega (arith, turn (c .before .before .before .before .before) 211, count-le 211 (c .before .before .before .before .before .before .before .before .before .before .before .before .before .args .pdu .now) (c .before .before .before .before .before .before .before .before .before .before .before .before .before .args .from))
+
+one-if-requires-4 : tie.Need-one-if-requires-4 Inv-loop μ-loop
+one-if-requires-4 c κs = search needs
+
+add-threeway : tie.Need-add-threeway Inv-loop μ-loop
+add-threeway c = omega (arith, turn (c .before .before .before .before .before .before) 240, count-le 240 (c .before .before .before .before .before .before .before .before .before .before .before .before .before .before .args .pdu .now) (c .before .before .before .before .before .before .before .before .before .before .before .before .before .before .args .from))
+
+add-at-3 : tie.Need-add-at-3 Inv-loop μ-loop
+add-at-3 c = omega arith
+
+add-at-4 : tie.Need-add-at-4 Inv-loop μ-loop
+add-at-4 c = omega arith
+
+loop-less-2 : tie.Need-loop-less-2 Inv-loop μ-loop
+loop-less-2 c = omega arith
+
+loop-again-2 : tie.Need-loop-again-2 Inv-loop μ-loop
+loop-again-2 c =
+    let f = c .before .before .before .before .before .before in
+    let l = f .before .before .before .before .before .before .loop in
+    rw (f .before .before .wide .ensures .is) (
+      l .inv .0 ∙ cut-one _ _ (f .before .before .before .before .before .loop-test .taken) (omega arith),
+      omega (arith, turn f 6),
+      omega (arith, turn f 16),
+      omega (arith, turn f 211),
+      omega (arith, turn f 240),
     )
 
 returns-3 : tie.Need-returns-3 Inv-loop μ-loop
@@ -123,6 +151,11 @@ walked-spec =
     wide-requires
     returns-2
     shared-slice-read-kind
+    is-read-requires
+    add-at
+    add-at-2
+    loop-less
+    loop-again
     one-if-requires
     add-neighbours
     one-if-requires-2
@@ -131,8 +164,8 @@ walked-spec =
     add-restart
     one-if-requires-4
     add-threeway
-    add-at
-    add-at-2
-    loop-less
-    loop-again
+    add-at-3
+    add-at-4
+    loop-less-2
+    loop-again-2
     returns-3)

@@ -1,9 +1,10 @@
--- The sum of the four octets is `wordAt`, by arithmetic.
+-- The sum of the four octets is `little 4`, by arithmetic.
 use native.Mathlib.Omega.{arith}
+use native.Mathlib.Nat.{add-assoc}
+use Rattle.tlv.specs.Octets.{little}
 use borrow.Author.Needs.{needs}
-use Rattle.neighbours.specs.Search.{wordAt}
-use Rattle.neighbours.proofs.word.Statement.{statement}
-use Rattle.neighbours.proofs.word.Tie as tie
+use Rattle.tlv.proofs.octets.word.Statement.{statement}
+use Rattle.tlv.proofs.octets.word.Tie as tie
 
 shared-slice-read-wide : tie.Need-shared-slice-read-wide
 shared-slice-read-wide c = search needs
@@ -57,8 +58,8 @@ add-result-3 : tie.Need-add-result-3
 add-result-3 c = search needs
 
 returns : tie.Need-returns
-unfolding wordAt
-returns c = omega arith
+unfolding little
+returns c = (simp add-assoc (omega arith), omega arith)
 
 pub word-spec : {M : Type 1} → statement M
 word-spec =

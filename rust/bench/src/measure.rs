@@ -1,0 +1,201 @@
+//! One shape measured: the archive and the reference in turns, and of each the least of many batches. The archive is called as C calls it, and its
+//! answer is the word that it returns.
+use crate::shapes::{lan, listed, settings};
+use isis_gr_differential::proved::{octets, Memory};
+use isis_gr_reference::{Gateway, Mac, Settings};
+use isis_gr_sys::{isis_gr_raw_look_up, isis_gr_raw_receive, isis_gr_raw_set_up, isis_gr_raw_tick};
+use std::hint::black_box;
+use std::time::Instant;
+
+const BATCH: u32 = 500;
+const BATCHES: u32 = 400;
+
+/// Gateways in a batch of ticks that remove records. They stay in the nearest cache.
+const RING: usize = 4;
+
+/// Nanoseconds a call: the archive's, the reference's.
+pub type Pair = (f64, f64);
+
+/// A shape, and how one round of it is measured.
+pub struct Shape {
+    pub name: String,
+    pub round: Box<dyn FnMut() -> Pair>,
+}
+
+/// A gateway of each, alike.
+#[derive(Clone)]
+pub struct Both {
+    memory: Memory,
+    reference: Gateway,
+}
+
+impl Both {
+    pub fn new() -> Both {
+        Both::of(&settings())
+    }
+
+    pub fn of(settings: &Settings) -> Both {
+        let mut memory = Memory([0; 640]);
+        memory.set_up(&octets(settings)).expect("in range");
+        Both { memory, reference: Gateway::set_up(settings).expect("in range").0 }
+    }
+
+    /// Takes a frame; both must answer alike.
+    pub fn fed(mut self, circuit: u8, source: Mac, frame: &[u8]) -> Both {
+        let mut reply = [0; 11];
+        let a = self.memory.receive(circuit, source, frame, &mut reply);
+        assert_eq!(a, self.reference.receive(circuit, source, frame, &mut reply));
+        self
+    }
+
+    /// So many records on a LAN circuit.
+    pub fn filled(mut self, circuit: u8, count: u8) -> Both {
+        for router in 1..=count {
+            self = self.fed(circuit, [2, 0, 0, 0, 0, router], &lan(router, &listed()));
+        }
+        self
+    }
+}
+
+fn nanoseconds(calls: u32, mut batch: impl FnMut()) -> f64 {
+    let start = Instant::now();
+    batch();
+    start.elapsed().as_nanos() as f64 / f64::from(calls)
+}
+
+/// The least of the batches of each, in turns.
+fn turns(mut ours: impl FnMut(), mut theirs: impl FnMut()) -> Pair {
+    let (mut a, mut b) = (f64::MAX, f64::MAX);
+    for _ in 0..BATCHES {
+        a = a.min(nanoseconds(BATCH, || (0..BATCH).for_each(|_| ours())));
+        b = b.min(nanoseconds(BATCH, || (0..BATCH).for_each(|_| theirs())));
+    }
+    (a, b)
+}
+
+/// Receive, the same frame again and again.
+pub fn receive(name: &str, both: Both, circuit: u8, source: Mac, frame: &[u8], room: usize) -> Shape {
+    let Both { mut memory, mut reference } = both;
+    let frame = frame.to_vec();
+    let (mut x, mut y) = (vec![0; room], vec![0; room]);
+    let a = memory.receive(circuit, source, &frame, &mut x);
+    assert_eq!(a, reference.receive(circuit, source, &frame, &mut y), "{name}");
+    assert_eq!(x, y, "{name}");
+    let answer = match a {
+        Ok(_) => String::new(),
+        Err(why) => format!(" (refused {})", why.number()),
+    };
+    let round = move || {
+        turns(
+            || {
+                let source = black_box(source);
+                let frame = black_box(&frame[..]);
+                // SAFETY: every pointer is of a live buffer, and goes with its length.
+                black_box(unsafe {
+                    isis_gr_raw_receive(
+                        memory.0.as_mut_ptr(),
+                        circuit,
+                        source.as_ptr(),
+                        frame.as_ptr(),
+                        frame.len(),
+                        x.as_mut_ptr(),
+                        x.len(),
+                    )
+                });
+            },
+            || {
+                black_box(reference.receive(circuit, black_box(source), black_box(&frame[..]), &mut y)).ok();
+            },
+        )
+    };
+    Shape { name: format!("{name}{answer}"), round: Box::new(round) }
+}
+
+fn tick_once(memory: &mut Memory, clock: u32) -> u64 {
+    // SAFETY: the pointer is of a live gateway.
+    unsafe { isis_gr_raw_tick(memory.0.as_mut_ptr(), clock) }
+}
+
+/// A tick at the clock that is held: no record goes, and no timer ends.
+pub fn tick(name: &str, both: Both) -> Shape {
+    let Both { mut memory, mut reference } = both;
+    assert_eq!(memory.tick(100), reference.tick(100), "{name}");
+    let round = move || {
+        turns(
+            || {
+                black_box(tick_once(&mut memory, black_box(100)));
+            },
+            || {
+                black_box(reference.tick(black_box(100))).ok();
+            },
+        )
+    };
+    Shape { name: name.to_string(), round: Box::new(round) }
+}
+
+/// A tick that removes every record. The records are put back between batches, outside the time.
+pub fn expiring(name: &str, both: Both) -> Shape {
+    const CLOCK: u32 = 200;
+    let Both { mut memory, mut reference } = both.clone();
+    assert_eq!(memory.tick(CLOCK), reference.tick(CLOCK), "{name}");
+    let round = move || {
+        let (mut a, mut b) = (f64::MAX, f64::MAX);
+        for _ in 0..BATCH * BATCHES / 10 {
+            let mut ours: [Memory; RING] = std::array::from_fn(|_| both.memory.clone());
+            a = a.min(nanoseconds(RING as u32, || {
+                for one in black_box(&mut ours) {
+                    black_box(tick_once(one, black_box(CLOCK)));
+                }
+            }));
+            let mut theirs: [Gateway; RING] = std::array::from_fn(|_| both.reference.clone());
+            b = b.min(nanoseconds(RING as u32, || {
+                for one in black_box(&mut theirs) {
+                    black_box(one.tick(black_box(CLOCK))).ok();
+                }
+            }));
+        }
+        (a, b)
+    };
+    Shape { name: name.to_string(), round: Box::new(round) }
+}
+
+/// Setup, of memory that holds a gateway. The reference's time has the allocation and release of its circuits.
+pub fn set_up(name: &str, settings: Settings) -> Shape {
+    let Both { mut memory, .. } = Both::of(&settings);
+    let given = octets(&settings);
+    let round = move || {
+        turns(
+            || {
+                // SAFETY: both pointers are of live buffers of the sizes that the archive reads and writes.
+                black_box(unsafe { isis_gr_raw_set_up(memory.0.as_mut_ptr(), black_box(&given).as_ptr()) });
+            },
+            || {
+                black_box(Gateway::set_up(black_box(&settings))).ok();
+            },
+        )
+    };
+    Shape { name: name.to_string(), round: Box::new(round) }
+}
+
+/// The look-up of a level 1 record on a LAN circuit.
+pub fn look_up(name: &str, both: Both, circuit: u8, router: u8) -> Shape {
+    let Both { memory, reference } = both;
+    let (system, mac) = ([0x19, 0x21, 0x68, 0, 0x20, router], [2, 0, 0, 0, 0, router]);
+    assert_eq!(memory.look_up(circuit, 1, system, mac), reference.look_up(circuit, 1, system, mac), "{name}");
+    let mut record = [0; 2];
+    let round = move || {
+        turns(
+            || {
+                let (system, mac) = (black_box(system), black_box(mac));
+                // SAFETY: every pointer is of a live buffer of the size that the archive reads or writes.
+                black_box(unsafe {
+                    isis_gr_raw_look_up(memory.0.as_ptr(), circuit, 1, system.as_ptr(), mac.as_ptr(), record.as_mut_ptr())
+                });
+            },
+            || {
+                black_box(reference.look_up(circuit, 1, black_box(system), black_box(mac))).ok();
+            },
+        )
+    };
+    Shape { name: name.to_string(), round: Box::new(round) }
+}
