@@ -31,9 +31,10 @@ archive:
 differential: archive
 	@cd rust && cargo run --offline --release --quiet -p isis-gr-differential -- 10000000
 
-# receive and tick against the reference, as ratios in one run
+# the calls against the reference, five rounds pinned to one core; writes the table and the picture of docs/BENCH.md
 bench: archive
-	@cd rust && cargo run --offline --release --quiet -p isis-gr-bench
+	@cd rust && cargo build --offline --release --quiet -p isis-gr-bench
+	@$$(command -v taskset >/dev/null && echo taskset -c 1) rust/target/release/isis-gr-bench docs/BENCH.md docs/pictures/bench.svg
 
 # receive under clang's libFuzzer and AddressSanitizer, for FUZZ_SECONDS
 FUZZ_SECONDS ?= 600

@@ -13,7 +13,7 @@ use Rattle.settings.specs.Settings.{enabledLevels}
 use Rattle.settings.proofs.SettingsLaws.{enabled-step}
 use Rattle.timers.specs.Memory.{wordCount, timersAt}
 use Rattle.settings.specs.declared.circuit.Circuit.{Circuit}
-use Rattle.common.specs.Words.{commonWords, markPlace, countPlace, clockPlace, systemPlace, lengthsPlace, headPlace, entriesPlace, circuitsPlace, marked, countOf, circuitIn, circuitAt, circuitsFrom, headOf, entriesOf, lengthsIn}
+use Rattle.common.specs.Words.{commonWords, markPlace, countPlace, clockPlace, systemPlace, lengthsPlace, headPlace, entriesPlace, circuitsPlace, marked, countIn, countOf, circuitIn, circuitAt, circuitsFrom, headOf, entriesOf, lengthsIn}
 use Rattle.common.specs.Common.{commonOf, withClock, withTimers, circuitOf, Chooses}
 use Rattle.common.specs.declared.words.Chosen.the-variants.{Known, Unknown}
 
@@ -138,7 +138,7 @@ module _ (ws ws′ : List ℕ) where
         k systemPlace (inr (omega arith)),
         k lengthsPlace (inr (omega arith)),
         marked-kept 2 3 ws ws′ k countPlace (omega arith) (inl (omega arith)),
-        circuits-kept 2 3 ws ws′ k 0 (marked ws countPlace % 9) (omega arith),
+        circuits-kept 2 3 ws ws′ k 0 (countIn (marked ws countPlace)) (omega arith),
         head-kept 2 3 ws ws′ k (omega arith) (inl (omega arith)),
         entries-kept 2 3 ws ws′ k l l′ (omega arith),
       )
@@ -152,7 +152,7 @@ module _ (ws ws′ : List ℕ) where
         k lengthsPlace (inl (omega arith)),
         k clockPlace (inl (omega arith)),
         marked-kept 5 32 ws ws′ k countPlace (omega arith) (inl (omega arith)),
-        circuits-kept 5 32 ws ws′ k 0 (marked ws countPlace % 9) (omega arith),
+        circuits-kept 5 32 ws ws′ k 0 (countIn (marked ws countPlace)) (omega arith),
       )
 
 pub clock-set : (ws : List ℕ) (clock : ℕ) → length ws ≡ commonWords → clock < 4294967296

@@ -2,7 +2,7 @@
 use Prim.Native.Nat.{ℕ, zero, suc, _+_, _*_, _/_, _%_}
 use mathlib.Core.Bool.{cond}
 use mathlib.Core.List.{List, [], _∷_}
-use lib.Dec.{eqb}
+use lib.Dec.{eqb, ltb}
 use lib.ListN.{getD, take, drop}
 use Rattle.hello.specs.declared.header.CircuitKind.{CircuitKind}
 use Rattle.hello.specs.declared.header.CircuitKind.the-variants.{Lan, P2p}
@@ -90,9 +90,12 @@ unfoldable pub circuitsFrom : List ℕ → ℕ → ℕ → List Circuit
 circuitsFrom ws i zero = []
 circuitsFrom ws i (suc n) = circuitAt ws i ∷ circuitsFrom ws (suc i) n
 
--- at most 8; none in memory that was never set up
+-- at most 8, and a greater number counts for none; none in memory that was never set up
+abbrev pub countIn : ℕ → ℕ
+countIn n = cond (ltb 8 n) 0 n
+
 unfoldable pub countOf : List ℕ → ℕ
-countOf ws = marked ws countPlace % 9
+countOf ws = countIn (marked ws countPlace)
 
 -- ---- the timers' head
 

@@ -56,7 +56,11 @@ pub fn count_of(words: &[u64]) -> usize
     requires { ⌜ length (now words) ≡ commonWords ⌝ }
     ensures { λ r. ⌜ (r ≡ countOf (now (words .entry))) × (r ≤ 8) ⌝ }
 {
-    (marked_at(words, COUNT_AT) % 9) as usize
+    let n = marked_at(words, COUNT_AT);
+    if 8 < n {
+        return 0;
+    }
+    n as usize
 }
 
 fn kind_in(d: u64) -> CircuitKind

@@ -8,7 +8,7 @@ use lib.Dec.{ltb}
 use Rattle.tlv.proofs.BoolLaws.{by-test}
 use lib.ListN.{length, getD, set, take, length-set}
 use lib.Seq.{ext-getD, getD-set-same, getD-set-other}
-use borrow.Author.Tests.{eq-eqb, ltb-true, ltb-false}
+use borrow.Author.Tests.{eq-eqb, le-ltb, ltb-true, ltb-false}
 use Rattle.timer_parts.specs.declared.t1.Lengths.{Lengths}
 use Rattle.timers.specs.Timers.{Timers}
 use Rattle.timers.specs.Calls.{started, startHellos, Starts}
@@ -142,8 +142,7 @@ module _ (ws : List ℕ) (system clock count w : ℕ) (len : length ws ≡ commo
   counted : count ≤ 8 → countOf set5 ≡ count
   unfolding countOf marked
   counted h =
-      let z : count % 9 ≡ count = omega arith in
-      rw (eq-eqb (getD set5 markPlace 0) mark mark-there, count-there) z
+      rw (eq-eqb (getD set5 markPlace 0) mark mark-there, count-there, le-ltb 8 count h) refl
 
   pub settings-stored : (lengths : Lengths) → lengthsIn w ≡ lengths → clock < 4294967296 → count ≤ 8 → Stores system lengths clock count ws set5
   unfolding commonOf

@@ -11,17 +11,31 @@ ghost use lib.ListN.{length};
 ghost use Rattle.slots.specs.Slots.{tableOf};
 ghost use Rattle.room_calls.specs.Seat.{csnpsIn};
 
-// Of the lines only line 1 orders, so only then is the room looked through.
+// Line 1's order. On P2P it is given always, so only on a LAN is the room looked through.
+fn line_one_csnps(words: &[u64], rank: Rank, levels: Levels, link: Link) -> Csnps
+    requires { ⌜ length (now words) ≡ 64 ⌝ }
+    ensures { λ r. ⌜ r ≡ csnpsIn rank Line.One levels link (tableOf (now (words .entry))) ⌝ }
+{
+    let Link::Lan {
+        level: _,
+        priority: _,
+        listed: _,
+    } = link
+    else {
+        return Csnps::Ordered(levels);
+    };
+    let outranked = is_outranked(words, rank);
+    csnps_of(Line::One, levels, link, outranked)
+}
+
+// Of the lines only line 1 orders.
 pub fn csnps_in(words: &[u64], rank: Rank, line: Line, levels: Levels, link: Link) -> Csnps
     requires { ⌜ length (now words) ≡ 64 ⌝ }
     ensures { λ r. ⌜ r ≡ csnpsIn rank line levels link (tableOf (now (words .entry))) ⌝ }
 {
     match line {
         Line::Ordinary => Csnps::Nothing,
-        Line::One => {
-            let outranked = is_outranked(words, rank);
-            csnps_of(line, levels, link, outranked)
-        }
+        Line::One => line_one_csnps(words, rank, levels, link),
         Line::Two => Csnps::Nothing,
         Line::Three => Csnps::Nothing,
         Line::Four => Csnps::Nothing,

@@ -9,8 +9,8 @@ use lib.Seq.{length-take-le}
 use lib.Dec.{leb, ltb, eqb}
 use borrow.Author.Tests.{le-leb, lt-leb, lt-ltb, le-ltb, eq-eqb, ne-eqb}
 use Rattle.tlv.specs.Octets.{octet}
-use Rattle.tlv.proofs.BoolLaws.{by-test, neither}
-use Rattle.tlv.specs.Tlv.{Tlvs, done, cut, one, tlvsUp, tlvs, nextAt, valueAt, cutAt, oneIf, isRead, countsOf, walkAs, walkOf, ofType, Tlv, firstValue, several, FoundAt, loneFault, isFound, unless}
+use Rattle.tlv.proofs.BoolLaws.{by-test}
+use Rattle.tlv.specs.Tlv.{Tlvs, done, cut, one, tlvsUp, tlvs, nextAt, valueAt, cutAt, countsOf, walkAs, walkOf, ofType, Tlv, firstValue, several, FoundAt, loneFault, isFound, unless}
 use Rattle.tlv.specs.declared.tlvs.Counts.{Counts}
 use Rattle.tlv.specs.declared.tlvs.Walk.the-variants.{Whole, Cut}
 use Rattle.tlv.specs.declared.tlvs.Found.{Found}
@@ -43,6 +43,10 @@ cut-end s at q = ap cutAt (at-end s at q)
 pub none : (s : List ℕ) (at k : ℕ) → length s ≤ at → ofType k (tlvs s at) ≡ []
 unfolding ofType
 none s at k q = ap (ofType k) (at-end s at q)
+
+-- 1 where a TLV of type k counts for type j, else 0
+abbrev pub oneIf : ℕ → ℕ → ℕ
+oneIf k j = cond (eqb k j) 1 0
 
 count-cond : (b : Bool) (t : Tlv) (ts : List Tlv) → length (cond b (t ∷ ts) ts) ≡ cond b 1 0 + length ts
 count-cond true t ts = omega arith
@@ -108,13 +112,12 @@ count-up (suc n) k s at =
     (λ t. by-test (leb (nextAt s at) (length s)) (λ u. rw (t, u) (one-more (eqb (octet s at) k) _ _ n rest)) (λ u. rw (t, u) (omega arith)))
     (λ t. rw t (omega arith))
 
--- a type that is not read counts for none that is
-pub unread : (kind : ℕ) → isRead kind ≡ false → (oneIf kind 6 ≡ 0) × (oneIf kind 16 ≡ 0) × (oneIf kind 211 ≡ 0) × (oneIf kind 240 ≡ 0)
-unread kind e =
-    let a = neither (eqb kind 6) _ e in
-    let b = neither (eqb kind 16) _ (a .1) in
-    let d = neither (eqb kind 211) _ (b .1) in
-    (rw (a .0) refl, rw (b .0) refl, rw (d .0) refl, rw (d .1) refl)
+-- one of type k, or of another
+pub one-here : (k j : ℕ) → k ≡ j → oneIf k j ≡ 1
+one-here k j e = rw (eq-eqb k j e) refl
+
+pub one-not : (k j : ℕ) → (k ≡ j → ⊥) → oneIf k j ≡ 0
+one-not k j e = rw (ne-eqb k j e) refl
 
 pub count-le : (k : ℕ) (s : List ℕ) (at : ℕ) → length (ofType k (tlvs s at)) ≤ length s
 unfolding tlvs

@@ -3,7 +3,7 @@
 use Prim.Native.Nat.{ℕ, zero, suc, _+_, _-_, _≤_}
 use mathlib.Core.Path.{_≡_}
 use mathlib.Core.List.{List, [], _∷_}
-use mathlib.Core.Bool.{Bool, true, false, cond, _||_}
+use mathlib.Core.Bool.{Bool, true, false, cond}
 use lib.ListN.{length, take, drop}
 use lib.Dec.{leb, ltb, eqb}
 use Rattle.tlv.specs.Octets.{octet}
@@ -65,12 +65,6 @@ countsOf t =
       restart = length (ofType 211 t);
       threeway = length (ofType 240 t);
     }
-
-abbrev pub oneIf : ℕ → ℕ → ℕ
-oneIf kind wanted = cond (eqb kind wanted) 1 0
-
-abbrev pub isRead : ℕ → Bool
-isRead kind = eqb kind 6 || (eqb kind 16 || (eqb kind 211 || eqb kind 240))
 
 -- what a walk over them tells
 abbrev pub walkAs : Found → Counts → Walk

@@ -4,7 +4,7 @@ use crate::octets::wide;
 ghost use mathlib.Core.Path.{_≡_};
 ghost use Prim.Native.Nat.{_≤_};
 ghost use lib.ListN.{length};
-ghost use Rattle.tlv.specs.Tlv.{tlvs, oneIf, isRead, walkOf, ofType, firstValue, valueAt, nextAt, several, Finds};
+ghost use Rattle.tlv.specs.Tlv.{tlvs, walkOf, ofType, firstValue, valueAt, nextAt, several, Finds};
 
 // Where a TLV's type octet stands.
 pub enum Found {
@@ -35,31 +35,6 @@ pub enum Walk {
     Cut(usize),
 }
 
-fn one_if(kind: u8, wanted: u8) -> usize
-    ensures { λ r. ⌜ r ≡ oneIf kind wanted ⌝ }
-{
-    if kind == wanted {
-        return 1;
-    }
-    0
-}
-
-// One of these types. Most TLVs of a long PDU are of another, and then nothing is counted.
-fn is_read(kind: u8) -> bool
-    ensures { λ r. ⌜ r ≡ isRead kind ⌝ }
-{
-    if kind == IS_NEIGHBOURS {
-        return true;
-    }
-    if kind == REVERSE_METRIC {
-        return true;
-    }
-    if kind == RESTART {
-        return true;
-    }
-    kind == THREE_WAY
-}
-
 // The walk that decides refusal 5. It keeps no place of a TLV: each is looked for afresh.
 pub fn walked(pdu: &[u8], from: usize) -> Walk
     ensures { λ r. ⌜ r ≡ walkOf (tlvs (now (pdu .entry)) from) ⌝ }
@@ -79,15 +54,22 @@ pub fn walked(pdu: &[u8], from: usize) -> Walk
             return Walk::Cut(at);
         }
         let kind = pdu[at];
-        if !is_read(kind) {
-            at = at + 2 + value;
+        at = at + 2 + value;
+        if kind == IS_NEIGHBOURS {
+            neighbours += 1;
             continue;
         }
-        neighbours += one_if(kind, IS_NEIGHBOURS);
-        reverse += one_if(kind, REVERSE_METRIC);
-        restart += one_if(kind, RESTART);
-        threeway += one_if(kind, THREE_WAY);
-        at = at + 2 + value;
+        if kind == REVERSE_METRIC {
+            reverse += 1;
+            continue;
+        }
+        if kind == RESTART {
+            restart += 1;
+            continue;
+        }
+        if kind == THREE_WAY {
+            threeway += 1;
+        }
     }
     Walk::Whole(Counts {
         neighbours,

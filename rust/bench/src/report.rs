@@ -81,8 +81,9 @@ pub fn put(page: &Path, table: &str) -> Result<()> {
 const ROW: f64 = 18.0;
 const LEFT: f64 = 400.0;
 const TOP: f64 = 44.0;
-/// Points for a ratio of 1.
+/// Points for a ratio of 1, and the greatest ratio that is drawn whole.
 const UNIT: f64 = 240.0;
+const WIDEST: f64 = 2.2;
 
 fn text(x: f64, y: f64, anchor: &str, what: &str) -> String {
     let what = what.replace('&', "&amp;").replace('<', "&lt;");
@@ -95,22 +96,22 @@ fn line(from: (f64, f64), to: (f64, f64), stroke: &str) -> String {
 
 /// The ratios as bars, with the range of each, and lines at the goal and at 1.
 pub fn picture(lines: &[Line]) -> String {
-    let across = |value: f64| LEFT + UNIT * value;
-    let widest = lines.iter().map(|one| one.range().1).fold(1.0, f64::max);
+    let across = |value: f64| LEFT + UNIT * value.min(WIDEST);
     let bottom = TOP + ROW * lines.len() as f64;
     let mut out = format!(
         "<svg xmlns=\"http://www.w3.org/2000/svg\" width=\"{:.0}\" height=\"{:.0}\" font-family=\"sans-serif\" font-size=\"12\">\n\
          <rect width=\"100%\" height=\"100%\" fill=\"white\"/>\n",
-        across(widest) + 50.0,
+        across(WIDEST) + 50.0,
         bottom + 10.0
     );
-    out += &text(10.0, 16.0, "start", "The archive's time over the reference's, by shape: median of five rounds, and their range");
+    out +=
+        &text(10.0, 16.0, "start", "The archive's time over the reference's, by shape: median of five rounds, and their range; cut at 2.2");
     for (at, one) in lines.iter().enumerate() {
         let y = TOP + ROW * at as f64;
         let (ratio, (least, greatest)) = (one.ratio(), one.range());
         let fill = if ratio > GOAL { "#c0504d" } else { "#7ba7d0" };
         out += &text(LEFT - 6.0, y + 13.0, "end", &one.name);
-        writeln!(out, "<rect x=\"{LEFT:.1}\" y=\"{:.1}\" width=\"{:.1}\" height=\"12\" fill=\"{fill}\"/>", y + 3.0, UNIT * ratio)
+        writeln!(out, "<rect x=\"{LEFT:.1}\" y=\"{:.1}\" width=\"{:.1}\" height=\"12\" fill=\"{fill}\"/>", y + 3.0, across(ratio) - LEFT)
             .expect("a string takes all");
         out += &line((across(least), y + 9.0), (across(greatest), y + 9.0), "black");
         out += &text(across(greatest) + 6.0, y + 13.0, "start", &format!("{ratio:.2}"));

@@ -1,5 +1,4 @@
--- Only line 1 asks the room.
-use Rattle.room_calls.proofs.SeatLaws.{csnps-by}
+-- Only line 1 orders.
 use Rattle.adjacency.specs.Duty.{csnpsOf}
 use Rattle.room_calls.specs.Seat.{csnpsIn}
 use borrow.Author.Needs.{needs}
@@ -12,11 +11,8 @@ enum-told c = search needs
 enum-told-2 : tie.Need-enum-told-2
 enum-told-2 c = search needs
 
-is-outranked-requires : tie.Need-is-outranked-requires
-is-outranked-requires c κs = search needs
-
-csnps-of-requires : tie.Need-csnps-of-requires
-csnps-of-requires c κs = search needs
+line-one-csnps-requires : tie.Need-line-one-csnps-requires
+line-one-csnps-requires c κs = search needs
 
 enum-told-3 : tie.Need-enum-told-3
 enum-told-3 c = search needs
@@ -35,7 +31,7 @@ unfolding csnpsIn csnpsOf
 returns c = search needs
 
 returns-2 : tie.Need-returns-2
-returns-2 c = csnps-by _ _ _ _ _ _ _ (c .csnps-of .ensures) (c .before .is-outranked .ensures)
+returns-2 c = rw (c .before .enum-told2 .given .1) (c .line-one-csnps .ensures)
 
 returns-3 : tie.Need-returns-3
 unfolding csnpsIn csnpsOf
@@ -59,8 +55,7 @@ csnps-in-spec =
     (tie.spec
     enum-told
     enum-told-2
-    is-outranked-requires
-    csnps-of-requires
+    line-one-csnps-requires
     enum-told-3
     enum-told-4
     enum-told-5

@@ -1,13 +1,11 @@
--- The invariant: what is left to walk is cut where the whole is, and each type is counted so far. A TLV of a type that is not read
--- counts for none, by the law `unread`.
-use Rattle.tlv.proofs.TlvLaws.{walk-cut, walk-whole, cut-end, cut-here, cut-one, count-one, count-le, unread, none}
-use Rattle.tlv.specs.Tlv.{tlvs, cutAt, oneIf, nextAt, ofType}
+-- The invariant: what is left to walk is cut where the whole is, and each type is counted so far.
+use Rattle.tlv.proofs.TlvLaws.{walk-cut, walk-whole, cut-end, cut-here, cut-one, oneIf, one-here, one-not, count-one, count-le, none}
+use Rattle.tlv.specs.Tlv.{tlvs, cutAt, nextAt, ofType}
 use Rattle.tlv.specs.Octets.{octet}
 use lib.ListN.{length}
 use borrow.Author.Needs.{needs}
 use native.Mathlib.Omega.{arith}
-use mathlib.Core.Path.{_≡_, refl, ap, sym, _∙_}
-use borrow.Author.Tests.{not-true}
+use mathlib.Core.Path.{_≡_, refl, ap, _∙_}
 use mathlib.Core.List.{List}
 use Prim.Native.Nat.{ℕ, _+_, _-_, _≤_}
 use Rattle.tlv.proofs.tlvs.walked.Statement.{statement}
@@ -48,12 +46,6 @@ returns-2 c = walk-cut _ _ (c .before .before .before .before .before .loop .inv
 shared-slice-read-kind : tie.Need-shared-slice-read-kind Inv-loop μ-loop
 shared-slice-read-kind c = omega arith
 
-is-read-requires : tie.Need-is-read-requires Inv-loop μ-loop
-is-read-requires c κs = search needs
-
-one-if-requires : tie.Need-one-if-requires Inv-loop μ-loop
-one-if-requires c κs = search needs
-
 -- a turn counts the TLV at hand, and no count passes the length
 turn : (f : tie.After-shared-slice-known3 Inv-loop μ-loop) (k : ℕ)
     → length (ofType k (tlvs (f .before .before .before .before .before .before .before .before .args .pdu .now) (f .before .before .before .before .before .before .loop .at)))
@@ -61,68 +53,114 @@ turn : (f : tie.After-shared-slice-known3 Inv-loop μ-loop) (k : ℕ)
     + length (ofType k (tlvs (f .before .before .before .before .before .before .before .before .args .pdu .now) (nextAt (f .before .before .before .before .before .before .before .before .args .pdu .now) (f .before .before .before .before .before .before .loop .at))))
 turn f k = count-one _ _ (f .before .before .before .before .before .loop-test .taken) (omega arith) k
 
+-- what a turn leaves to walk is cut where the whole is
+cut-on : (f : tie.After-shared-slice-known3 Inv-loop μ-loop)
+    → cutAt (tlvs (f .before .before .before .before .before .before .before .before .args .pdu .now) (f .before .before .before .before .before .before .before .before .args .from)) ≡ cutAt (tlvs (f .before .before .before .before .before .before .before .before .args .pdu .now) (nextAt (f .before .before .before .before .before .before .before .before .args .pdu .now) (f .before .before .before .before .before .before .loop .at)))
+cut-on f = f .before .before .before .before .before .before .loop .inv .0 ∙ cut-one _ _ (f .before .before .before .before .before .loop-test .taken) (omega arith)
+
 add-at : tie.Need-add-at Inv-loop μ-loop
 add-at c = omega arith
 
 add-at-2 : tie.Need-add-at-2 Inv-loop μ-loop
 add-at-2 c = omega arith
 
+add-neighbours : tie.Need-add-neighbours Inv-loop μ-loop
+add-neighbours c =
+    let f = c .before in
+    let start = f .before .before .before .before .before .before .before .before in
+    omega (arith, turn f 6, one-here _ 6 (c .if3 .taken), count-le 6 (start .args .pdu .now) (start .args .from))
+
 loop-less : tie.Need-loop-less Inv-loop μ-loop
 loop-less c = omega arith
 
 loop-again : tie.Need-loop-again Inv-loop μ-loop
 loop-again c =
-    let f = c .before .before in
-    let l = f .before .before .before .before .before .before .loop in
-    let u = unread (octet (f .before .before .before .before .before .before .before .before .args .pdu .now) (l .at)) (sym (c .before .is-read .ensures) ∙ not-true _ (c .if3 .taken)) in
+    let f = c .before in
+    let k = octet (f .before .before .before .before .before .before .before .before .args .pdu .now) (f .before .before .before .before .before .before .loop .at) in
     rw (f .before .before .wide .ensures .is) (
-      l .inv .0 ∙ cut-one _ _ (f .before .before .before .before .before .loop-test .taken) (omega arith),
-      omega (arith, turn f 6, u .0),
-      omega (arith, turn f 16, u .1),
-      omega (arith, turn f 211, u .2),
-      omega (arith, turn f 240, u .3),
+      cut-on f,
+      omega (arith, turn f 6, one-here k 6 (c .if3 .taken)),
+      omega (arith, turn f 16, one-not k 16 (λ e. omega (arith, c .if3 .taken))),
+      omega (arith, turn f 211, one-not k 211 (λ e. omega (arith, c .if3 .taken))),
+      omega (arith, turn f 240, one-not k 240 (λ e. omega (arith, c .if3 .taken))),
     )
 
-add-neighbours : tie.Need-add-neighbours Inv-loop μ-loop
-add-neighbours c = omega (arith, turn (c .before .before .before) 6, count-le 6 (c .before .before .before .before .before .before .before .before .before .before .before .args .pdu .now) (c .before .before .before .before .before .before .before .before .before .before .before .args .from))
-
-one-if-requires-2 : tie.Need-one-if-requires-2 Inv-loop μ-loop
-one-if-requires-2 c κs = search needs
-
 add-reverse : tie.Need-add-reverse Inv-loop μ-loop
-add-reverse c = omega (arith, turn (c .before .before .before .before) 16, count-le 16 (c .before .before .before .before .before .before .before .before .before .before .before .before .args .pdu .now) (c .before .before .before .before .before .before .before .before .before .before .before .before .args .from))
-
-one-if-requires-3 : tie.Need-one-if-requires-3 Inv-loop μ-loop
-one-if-requires-3 c κs = search needs
-
-add-restart : tie.Need-add-restart Inv-loop μ-loop
-add-restart c = omega (arith, turn (c .before .before .before .before .before) 211, count-le 211 (c .before .before .before .before .before .before .before .before .before .before .before .before .before .args .pdu .now) (c .before .before .before .before .before .before .before .before .before .before .before .before .before .args .from))
-
-one-if-requires-4 : tie.Need-one-if-requires-4 Inv-loop μ-loop
-one-if-requires-4 c κs = search needs
-
-add-threeway : tie.Need-add-threeway Inv-loop μ-loop
-add-threeway c = omega (arith, turn (c .before .before .before .before .before .before) 240, count-le 240 (c .before .before .before .before .before .before .before .before .before .before .before .before .before .before .args .pdu .now) (c .before .before .before .before .before .before .before .before .before .before .before .before .before .before .args .from))
-
-add-at-3 : tie.Need-add-at-3 Inv-loop μ-loop
-add-at-3 c = omega arith
-
-add-at-4 : tie.Need-add-at-4 Inv-loop μ-loop
-add-at-4 c = omega arith
+add-reverse c =
+    let f = c .before .before in
+    let start = f .before .before .before .before .before .before .before .before in
+    omega (arith, turn f 16, one-here _ 16 (c .if4 .taken), count-le 16 (start .args .pdu .now) (start .args .from))
 
 loop-less-2 : tie.Need-loop-less-2 Inv-loop μ-loop
 loop-less-2 c = omega arith
 
 loop-again-2 : tie.Need-loop-again-2 Inv-loop μ-loop
 loop-again-2 c =
-    let f = c .before .before .before .before .before .before in
-    let l = f .before .before .before .before .before .before .loop in
+    let f = c .before .before in
+    let k = octet (f .before .before .before .before .before .before .before .before .args .pdu .now) (f .before .before .before .before .before .before .loop .at) in
     rw (f .before .before .wide .ensures .is) (
-      l .inv .0 ∙ cut-one _ _ (f .before .before .before .before .before .loop-test .taken) (omega arith),
-      omega (arith, turn f 6),
-      omega (arith, turn f 16),
-      omega (arith, turn f 211),
-      omega (arith, turn f 240),
+      cut-on f,
+      omega (arith, turn f 6, one-not k 6 (λ e. omega (arith, c .if4 .taken))),
+      omega (arith, turn f 16, one-here k 16 (c .if4 .taken)),
+      omega (arith, turn f 211, one-not k 211 (λ e. omega (arith, c .if4 .taken))),
+      omega (arith, turn f 240, one-not k 240 (λ e. omega (arith, c .if4 .taken))),
+    )
+
+add-restart : tie.Need-add-restart Inv-loop μ-loop
+add-restart c =
+    let f = c .before .before .before in
+    let start = f .before .before .before .before .before .before .before .before in
+    omega (arith, turn f 211, one-here _ 211 (c .if5 .taken), count-le 211 (start .args .pdu .now) (start .args .from))
+
+loop-less-3 : tie.Need-loop-less-3 Inv-loop μ-loop
+loop-less-3 c = omega arith
+
+loop-again-3 : tie.Need-loop-again-3 Inv-loop μ-loop
+loop-again-3 c =
+    let f = c .before .before .before in
+    let k = octet (f .before .before .before .before .before .before .before .before .args .pdu .now) (f .before .before .before .before .before .before .loop .at) in
+    rw (f .before .before .wide .ensures .is) (
+      cut-on f,
+      omega (arith, turn f 6, one-not k 6 (λ e. omega (arith, c .if5 .taken))),
+      omega (arith, turn f 16, one-not k 16 (λ e. omega (arith, c .if5 .taken))),
+      omega (arith, turn f 211, one-here k 211 (c .if5 .taken)),
+      omega (arith, turn f 240, one-not k 240 (λ e. omega (arith, c .if5 .taken))),
+    )
+
+add-threeway : tie.Need-add-threeway Inv-loop μ-loop
+add-threeway c =
+    let f = c .before .before .before .before in
+    let start = f .before .before .before .before .before .before .before .before in
+    omega (arith, turn f 240, one-here _ 240 (c .if6 .taken), count-le 240 (start .args .pdu .now) (start .args .from))
+
+loop-less-4 : tie.Need-loop-less-4 Inv-loop μ-loop
+loop-less-4 c = omega arith
+
+loop-again-4 : tie.Need-loop-again-4 Inv-loop μ-loop
+loop-again-4 c =
+    let f = c .before .before .before .before in
+    let k = octet (f .before .before .before .before .before .before .before .before .args .pdu .now) (f .before .before .before .before .before .before .loop .at) in
+    rw (f .before .before .wide .ensures .is) (
+      cut-on f,
+      omega (arith, turn f 6, one-not k 6 (λ e. omega (arith, c .if6 .taken))),
+      omega (arith, turn f 16, one-not k 16 (λ e. omega (arith, c .if6 .taken))),
+      omega (arith, turn f 211, one-not k 211 (λ e. omega (arith, c .if6 .taken))),
+      omega (arith, turn f 240, one-here k 240 (c .if6 .taken)),
+    )
+
+loop-less-5 : tie.Need-loop-less-5 Inv-loop μ-loop
+loop-less-5 c = omega arith
+
+loop-again-5 : tie.Need-loop-again-5 Inv-loop μ-loop
+loop-again-5 c =
+    let f = c .before .before .before .before in
+    let k = octet (f .before .before .before .before .before .before .before .before .args .pdu .now) (f .before .before .before .before .before .before .loop .at) in
+    rw (f .before .before .wide .ensures .is) (
+      cut-on f,
+      omega (arith, turn f 6, one-not k 6 (c .before .before .before .if3 .left)),
+      omega (arith, turn f 16, one-not k 16 (c .before .before .if4 .left)),
+      omega (arith, turn f 211, one-not k 211 (c .before .if5 .left)),
+      omega (arith, turn f 240, one-not k 240 (c .if6 .left)),
     )
 
 returns-3 : tie.Need-returns-3 Inv-loop μ-loop
@@ -151,21 +189,20 @@ walked-spec =
     wide-requires
     returns-2
     shared-slice-read-kind
-    is-read-requires
     add-at
     add-at-2
+    add-neighbours
     loop-less
     loop-again
-    one-if-requires
-    add-neighbours
-    one-if-requires-2
     add-reverse
-    one-if-requires-3
-    add-restart
-    one-if-requires-4
-    add-threeway
-    add-at-3
-    add-at-4
     loop-less-2
     loop-again-2
+    add-restart
+    loop-less-3
+    loop-again-3
+    add-threeway
+    loop-less-4
+    loop-again-4
+    loop-less-5
+    loop-again-5
     returns-3)
