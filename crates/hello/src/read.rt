@@ -100,7 +100,8 @@ fn read_link(pdu: &[u8], layout: Layout, counts: Counts, mac: u64) -> LinkRead
     }
 }
 
-// The TLVs, once they are known to end by the end of the PDU: refusal 6, or the hello.
+// The TLVs, once they are known to end by the end of the PDU: refusal 6, or the hello. The lists of neighbours come first: they may be long, and
+// nothing else is held meanwhile.
 fn read_tlvs(pdu: &[u8], layout: Layout, from: usize, counts: Counts, mac: u64) -> Read
     requires { ⌜ (from ≡ headerOf layout) × (20 ≤ from) × (from ≤ length (now pdu)) × (counts ≡ countsOf (tlvs (now pdu) from)) ⌝ }
     ensures { λ r. ⌜ r ≡ tlvsRead layout mac (now (pdu .entry)) ⌝ }
@@ -108,13 +109,13 @@ fn read_tlvs(pdu: &[u8], layout: Layout, from: usize, counts: Counts, mac: u64) 
     if pdu[CIRCUIT_TYPE] % 4 == 0 {
         return Read::Refused(Refusal::BadTlv);
     }
+    let LinkRead::Good(link) = read_link(pdu, layout, counts, mac) else {
+        return Read::Refused(Refusal::BadTlv);
+    };
     let RestartRead::Good(restart) = read_restart(pdu, from, counts.restart) else {
         return Read::Refused(Refusal::BadTlv);
     };
     let ReverseRead::Good(reverse) = read_reverse(pdu, from, counts.reverse) else {
-        return Read::Refused(Refusal::BadTlv);
-    };
-    let LinkRead::Good(link) = read_link(pdu, layout, counts, mac) else {
         return Read::Refused(Refusal::BadTlv);
     };
     Read::Accepted(Hello {

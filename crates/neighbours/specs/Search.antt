@@ -1,5 +1,6 @@
 -- What the steps of the fast search find. No contract of a caller cites these.
-use Prim.Native.Nat.{ℕ, zero, suc, _+_, _*_, _/_, _%_}
+use Prim.Native.Nat.{ℕ, zero, suc, _+_, _*_, _/_, _%_, _<_}
+use mathlib.Core.Path.{_≡_}
 use mathlib.Core.List.{List}
 use mathlib.Core.Bool.{Bool, _||_}
 use lib.Dec.{eqb}
@@ -14,6 +15,10 @@ digit (suc k) m = digit k (m / 256)
 unfoldable pub turned : ℕ → ℕ → ℕ
 turned zero m = 0
 turned (suc n) m = digit n m + 256 * turned n m
+
+-- m is a number of six octets, and the search compares with x: 65536 times its octets, the first lowest
+abbrev pub SoughtAs : ℕ → ℕ → Type 0
+SoughtAs m x = (m < 281474976710656) × (x ≡ 65536 * turned 6 m)
 
 -- one of the four MACs two octets past a position is the MAC
 unfoldable pub fourAt : List ℕ → ℕ → ℕ → Bool

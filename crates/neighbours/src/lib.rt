@@ -13,12 +13,12 @@ use tlv::octets::half;
 use tlv::octets::word;
 ghost use mathlib.Core.Path.{_≡_};
 ghost use mathlib.Core.Bool.{false};
-ghost use Prim.Native.Nat.{_+_, _*_, _≤_, _<_, _%_, _/_};
+ghost use Prim.Native.Nat.{_+_, _≤_, _<_};
 ghost use lib.ListN.{length};
 ghost use lib.Dec.{eqb};
 ghost use Rattle.tlv.specs.Octets.{big, little};
 ghost use Rattle.neighbours.specs.Neighbours.{listedTo, listedIn};
-ghost use Rattle.neighbours.specs.Search.{turned, fourAt};
+ghost use Rattle.neighbours.specs.Search.{turned, SoughtAs, fourAt};
 
 // Numbers from here on are longer than six octets.
 const PAST_MAC: u64 = 281474976710656;
@@ -48,7 +48,7 @@ fn turn(mac: u64) -> usize
 
 // Whether the MAC stands two octets past a position; `start` is 65536 times its octets.
 fn is_at(v: &[u8], at: usize, mac: u64, start: usize) -> bool
-    requires { ⌜ (at + 7 < length (now v)) × (mac < 281474976710656) × (start ≡ 65536 * turned 6 mac) ⌝ }
+    requires { ⌜ (at + 7 < length (now v)) × SoughtAs mac start ⌝ }
     ensures { λ r. ⌜ r ≡ eqb (big 6 (now (v .entry)) (at + 2)) mac ⌝ }
 {
     wrapping_sub_usize(eight(v, at), start) < 65536
@@ -56,7 +56,7 @@ fn is_at(v: &[u8], at: usize, mac: u64, start: usize) -> bool
 
 // Whether it is one of the four MACs there.
 fn one_of_four(v: &[u8], at: usize, mac: u64, start: usize) -> bool
-    requires { ⌜ (at + 25 < length (now v)) × (mac < 281474976710656) × (start ≡ 65536 * turned 6 mac) ⌝ }
+    requires { ⌜ (at + 25 < length (now v)) × SoughtAs mac start ⌝ }
     ensures { λ r. ⌜ r ≡ fourAt (now (v .entry)) at mac ⌝ }
 {
     if is_at(v, at, mac, start) {
@@ -73,7 +73,7 @@ fn one_of_four(v: &[u8], at: usize, mac: u64, start: usize) -> bool
 
 // Whether it is the first in a value.
 fn is_first(v: &[u8], mac: u64, start: usize) -> bool
-    requires { ⌜ (5 < length (now v)) × (mac < 281474976710656) × (start ≡ 65536 * turned 6 mac) ⌝ }
+    requires { ⌜ (5 < length (now v)) × SoughtAs mac start ⌝ }
     ensures { λ r. ⌜ r ≡ eqb (big 6 (now (v .entry)) 0) mac ⌝ }
 {
     65536 * (word(v, 0) + half(v, 4) * 4294967296) == start
@@ -81,7 +81,7 @@ fn is_first(v: &[u8], mac: u64, start: usize) -> bool
 
 // Whether it is in a value of few MACs, of which the first is another.
 fn listed_short(v: &[u8], mac: u64, start: usize) -> bool
-    requires { ⌜ (6 ≤ length (now v)) × (listedTo mac (now v) 1 ≡ false) × (mac < 281474976710656) × (start ≡ 65536 * turned 6 mac) ⌝ }
+    requires { ⌜ (6 ≤ length (now v)) × (listedTo mac (now v) 1 ≡ false) × SoughtAs mac start ⌝ }
     ensures { λ r. ⌜ r ≡ listedIn mac (now (v .entry)) ⌝ }
 {
     let n = v.len() - v.len() % 6;
@@ -97,7 +97,7 @@ fn listed_short(v: &[u8], mac: u64, start: usize) -> bool
 
 // The same of a value of five or more, by fours. The last four are asked together, some of them for the second time.
 fn listed_long(v: &[u8], mac: u64, start: usize) -> bool
-    requires { ⌜ (30 ≤ length (now v)) × (listedTo mac (now v) 1 ≡ false) × (mac < 281474976710656) × (start ≡ 65536 * turned 6 mac) ⌝ }
+    requires { ⌜ (30 ≤ length (now v)) × (listedTo mac (now v) 1 ≡ false) × SoughtAs mac start ⌝ }
     ensures { λ r. ⌜ r ≡ listedIn mac (now (v .entry)) ⌝ }
 {
     let n = v.len() - v.len() % 6 - 26;

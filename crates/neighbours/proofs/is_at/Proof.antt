@@ -24,8 +24,8 @@ returns c =
     let h : (k : ℕ) → octet v k < 256 = λ k. omega (arith, c .before .before .shared-slice-known .given k) in
     told-above (c .before .eight .result) (c .wrapping-sub-usize .result) (little 2 v at) (little 6 v (at + 2)) (turned 6 (e .args .mac))
     (omega (arith, little-add v 2 6 at)) (little-lt v h 2 at) (turned-lt 6 (e .args .mac)) (omega arith)
-    (rw (← e .pre .2) (c .wrapping-sub-usize .ensures))
-    ∙ told-turned v h (at + 2) (e .args .mac) (e .pre .1)
+    (rw (← e .pre .1 .1) (c .wrapping-sub-usize .ensures))
+    ∙ told-turned v h (at + 2) (e .args .mac) (e .pre .1 .0)
 
 pub is-at-spec : {M : Type 1} → statement M
 is-at-spec = tie.close (tie.spec eight-requires wrapping-sub-usize-requires returns)

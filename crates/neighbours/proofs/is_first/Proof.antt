@@ -33,8 +33,8 @@ returns c =
     let h : (k : ℕ) → octet v k < 256 = λ k. omega (arith, c .before .before .shared-slice-known .given k) in
     let x = c .before .word .result + c .half .result * 4294967296 in
     let q : x ≡ little 6 v 0 = omega (arith, little-add v 4 2 0) in
-    told-times x (e .args .start) (turned 6 (e .args .mac)) (e .pre .2) ∙ ap (λ (n : ℕ). eqb n (turned 6 (e .args .mac))) q
-    ∙ told-turned v h 0 (e .args .mac) (e .pre .1)
+    told-times x (e .args .start) (turned 6 (e .args .mac)) (e .pre .1 .1) ∙ ap (λ (n : ℕ). eqb n (turned 6 (e .args .mac))) q
+    ∙ told-turned v h 0 (e .args .mac) (e .pre .1 .0)
 
 pub is-first-spec : {M : Type 1} → statement M
 is-first-spec =

@@ -27,7 +27,7 @@ mul-start : tie.Need-mul-start
 mul-start c = search needs
 
 is-first-requires : tie.Need-is-first-requires
-is-first-requires c κs = (omega arith, omega arith, omega arith)
+is-first-requires c κs = (omega arith, (omega arith, omega arith))
 
 returns-3 : tie.Need-returns-3
 returns-3 c =
@@ -37,7 +37,7 @@ returns-3 c =
 listed-short-requires : tie.Need-listed-short-requires
 listed-short-requires c κs =
     let a = c .before .before .before .before .before .before .before .args in
-    (omega arith, first-one (a .mac) (a .v .now) ∙ sym (c .before .before .is-first .ensures) ∙ c .before .if3 .left, omega arith, omega arith)
+    (omega arith, first-one (a .mac) (a .v .now) ∙ sym (c .before .before .is-first .ensures) ∙ c .before .if3 .left, (omega arith, omega arith))
 
 returns-4 : tie.Need-returns-4
 returns-4 c = search needs
@@ -45,7 +45,7 @@ returns-4 c = search needs
 listed-long-requires : tie.Need-listed-long-requires
 listed-long-requires c κs =
     let a = c .before .before .before .before .before .before .before .args in
-    (omega arith, first-one (a .mac) (a .v .now) ∙ sym (c .before .before .is-first .ensures) ∙ c .before .if3 .left, omega arith, omega arith)
+    (omega arith, first-one (a .mac) (a .v .now) ∙ sym (c .before .before .is-first .ensures) ∙ c .before .if3 .left, (omega arith, omega arith))
 
 returns-5 : tie.Need-returns-5
 returns-5 c = search needs

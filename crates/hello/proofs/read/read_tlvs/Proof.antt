@@ -14,41 +14,41 @@ shared-slice-read-if1 c = search needs
 returns : tie.Need-returns
 returns c = sym (by-circuit _ _ _ (eq-eqb _ _ (c .if1 .taken)))
 
-read-restart-requires : tie.Need-read-restart-requires
-read-restart-requires c κs = ap (λ (n : Counts). n .restart) (c .before .before .before .pre .3)
+read-link-requires : tie.Need-read-link-requires
+read-link-requires c κs = (rw (← c .before .before .before .pre .0) (c .before .before .before .pre .2), rw (← c .before .before .before .pre .0) (c .before .before .before .pre .3))
 
-enum-known-restart : tie.Need-enum-known-restart
-enum-known-restart c = search needs
+enum-known-link : tie.Need-enum-known-link
+enum-known-link c = search needs
 
 enum-told : tie.Need-enum-told
 enum-told c = search needs
 
 returns-2 : tie.Need-returns-2
-returns-2 c = sym (by-restart _ _ _ (restart-is-bad _ (rw (c .before .before .before .before .before .before .pre .0) at (sym (c .before .before .read-restart .ensures) ∙ c .enum-told .given .1))))
+returns-2 c = sym (by-link _ _ _ (link-is-bad _ _ _ (sym (c .before .before .read-link .ensures) ∙ c .enum-told .given .1)))
 
-read-reverse-requires : tie.Need-read-reverse-requires
-read-reverse-requires c κs = ap (λ (n : Counts). n .reverse) (c .before .before .before .before .before .before .before .pre .3)
+read-restart-requires : tie.Need-read-restart-requires
+read-restart-requires c κs = ap (λ (n : Counts). n .restart) (c .before .before .before .before .before .before .before .pre .3)
 
-enum-known-reverse : tie.Need-enum-known-reverse
-enum-known-reverse c = search needs
+enum-known-restart : tie.Need-enum-known-restart
+enum-known-restart c = search needs
 
 enum-told-2 : tie.Need-enum-told-2
 enum-told-2 c = search needs
 
 returns-3 : tie.Need-returns-3
-returns-3 c = sym (by-reverse _ _ _ (reverse-is-bad _ (rw (c .before .before .before .before .before .before .before .before .before .before .pre .0) at (sym (c .before .before .read-reverse .ensures) ∙ c .enum-told2 .given .1))))
+returns-3 c = sym (by-restart _ _ _ (restart-is-bad _ (rw (c .before .before .before .before .before .before .before .before .before .before .pre .0) at (sym (c .before .before .read-restart .ensures) ∙ c .enum-told2 .given .1))))
 
-read-link-requires : tie.Need-read-link-requires
-read-link-requires c κs = (rw (← c .before .before .before .before .before .before .before .before .before .before .before .pre .0) (c .before .before .before .before .before .before .before .before .before .before .before .pre .2), rw (← c .before .before .before .before .before .before .before .before .before .before .before .pre .0) (c .before .before .before .before .before .before .before .before .before .before .before .pre .3))
+read-reverse-requires : tie.Need-read-reverse-requires
+read-reverse-requires c κs = ap (λ (n : Counts). n .reverse) (c .before .before .before .before .before .before .before .before .before .before .before .pre .3)
 
-enum-known-link : tie.Need-enum-known-link
-enum-known-link c = search needs
+enum-known-reverse : tie.Need-enum-known-reverse
+enum-known-reverse c = search needs
 
 enum-told-3 : tie.Need-enum-told-3
 enum-told-3 c = search needs
 
 returns-4 : tie.Need-returns-4
-returns-4 c = sym (by-link _ _ _ (link-is-bad _ _ _ (sym (c .before .before .read-link .ensures) ∙ c .enum-told3 .given .1)))
+returns-4 c = sym (by-reverse _ _ _ (reverse-is-bad _ (rw (c .before .before .before .before .before .before .before .before .before .before .before .before .before .before .pre .0) at (sym (c .before .before .read-reverse .ensures) ∙ c .enum-told3 .given .1))))
 
 six-requires : tie.Need-six-requires
 six-requires c κs = search needs
@@ -58,11 +58,11 @@ two-requires c κs = search needs
 
 returns-5 : tie.Need-returns-5
 returns-5 c =
-    let r = restart-is-good _ _ (rw (c .before .before .before .before .before .before .before .before .before .before .before .before .before .before .before .before .before .pre .0) at (sym (c .before .before .before .before .before .before .before .before .before .before .before .before .before .read-restart .ensures) ∙ c .before .before .before .before .before .before .before .before .before .before .before .restart .given .1)) in
-    let m = reverse-is-good _ _ (rw (c .before .before .before .before .before .before .before .before .before .before .before .before .before .before .before .before .before .pre .0) at (sym (c .before .before .before .before .before .before .before .before .before .read-reverse .ensures) ∙ c .before .before .before .before .before .before .before .reverse .given .1)) in
-    let k = link-is-good _ _ _ _ (sym (c .before .before .before .before .before .read-link .ensures) ∙ c .before .before .before .link .given .1) in
-    rw (c .before .six .ensures, c .two .ensures, r .1, m .1, k .1)
-    (sym (accepted _ _ _ (ne-eqb _ _ (c .before .before .before .before .before .before .before .before .before .before .before .before .before .before .if1 .left)) (r .0) (m .0) (k .0)))
+    let start = c .before .before .before .before .before .before .before .before .before .before .before .before .before .before .before .before .before in
+    let k = link-is-good _ _ _ _ (sym (c .before .before .before .before .before .before .before .before .before .before .before .before .before .read-link .ensures) ∙ c .before .before .before .before .before .before .before .before .before .before .before .link .given .1) in
+    let r = restart-is-good _ _ (rw (start .pre .0) at (sym (c .before .before .before .before .before .before .before .before .before .read-restart .ensures) ∙ c .before .before .before .before .before .before .before .restart .given .1)) in
+    let m = reverse-is-good _ _ (rw (start .pre .0) at (sym (c .before .before .before .before .before .read-reverse .ensures) ∙ c .before .before .before .reverse .given .1)) in
+    rw (c .before .six .ensures, c .two .ensures, r .1, m .1, k .1) (sym (accepted _ _ _ (ne-eqb _ _ (c .before .before .before .before .before .before .before .before .before .before .before .before .before .before .if1 .left)) (r .0) (m .0) (k .0)))
 
 pub read-tlvs-spec : {M : Type 1} → statement M
 read-tlvs-spec =
@@ -70,16 +70,16 @@ read-tlvs-spec =
     (tie.spec
     shared-slice-read-if1
     returns
-    read-restart-requires
-    enum-known-restart
-    enum-told
-    returns-2
-    read-reverse-requires
-    enum-known-reverse
-    enum-told-2
-    returns-3
     read-link-requires
     enum-known-link
+    enum-told
+    returns-2
+    read-restart-requires
+    enum-known-restart
+    enum-told-2
+    returns-3
+    read-reverse-requires
+    enum-known-reverse
     enum-told-3
     returns-4
     six-requires
