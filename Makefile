@@ -11,6 +11,7 @@ test: kit
 	@tools/check_citations
 	@tools/check_vectors
 	@tools/check_codes
+	@tools/check_crates
 	@rt fmt --check
 	@set -o pipefail; log=$$(mktemp); rt ci | tee $$log && $(MAKE) -s boundary && tail -n 1 $$log; status=$$?; rm -f $$log; exit $$status
 

@@ -1,2 +1,3 @@
+pub mod KeysLaws
 pub mod StepLaws
 pub mod SampleRuns

@@ -3,12 +3,12 @@
 use Prim.Native.Nat.{ℕ}
 use mathlib.Core.Path.{_≡_, refl}
 use mathlib.Core.Bool.{true, false}
-use Rattle.tlv.specs.Octets.{hasBits}
+use Rattle.basics.specs.Octets.{hasBits}
 use Rattle.restart_tlv.specs.Flags.{RR, PR}
 use Rattle.restart_tlv.specs.declared.reader.Neighbor.the-variants.{Unnamed}
 use Rattle.restart_tlv.specs.declared.reader.RestartTlv.the-variants.{Present as Tlv}
 use Rattle.restart_tlv.specs.declared.writer.Ack.the-variants.{Restart as RA, Planned as PA}
-use Rattle.hello.specs.declared.levels.Levels.{Levels}
+use Rattle.basics.specs.declared.levels.Levels.{Levels}
 use Rattle.hello.specs.declared.read.Hello.{Hello}
 use Rattle.hello.specs.declared.read.Link.{Link}
 use Rattle.hello.specs.declared.read.Link.the-variants.{P2p}

@@ -2,7 +2,8 @@
 use Prim.Native.Nat.{ℕ}
 use mathlib.Core.Bool.{Bool, true, false, not, cond, _||_, _&&_}
 use lib.Dec.{eqb, ltb}
-use Rattle.hello.specs.declared.levels.Levels.{Levels}
+use Rattle.basics.specs.Levels.{onlyLevel}
+use Rattle.basics.specs.declared.levels.Levels.{Levels}
 use Rattle.hello.specs.declared.read.Link.{Link}
 use Rattle.hello.specs.declared.read.Link.the-variants.{Lan, P2p}
 use Rattle.adjacency.specs.declared.record.Mark.{Mark}
@@ -34,9 +35,6 @@ unfoldable pub outranks : Rank → Record → Bool
 outranks own r = eqb (r .key .level) (own .level) && rival own (r .key .mac) (r .state)
 
 -- on P2P always, for all the circuit's levels; on a LAN for the frame's level, unless some other router has the greater pair
-abbrev pub onlyLevel : ℕ → Levels
-onlyLevel level = record { one = eqb level 1; two = eqb level 2 }
-
 abbrev pub linkCsnps : Levels → Link → Bool → Csnps
 linkCsnps l (P2p t) outranked = Ordered l
 linkCsnps l (Lan level priority listed) outranked = cond outranked Nothing (Ordered (onlyLevel level))

@@ -1,7 +1,7 @@
 -- Marks, expiry and reply of an accepted frame (document 01, "Marks and holding time"; RFC 8706, 3.2.1 to 3.2.3).
 use Prim.Native.Nat.{ℕ, _+_, _-_, min}
 use mathlib.Core.Bool.{Bool, cond, _&&_}
-use Rattle.tlv.specs.Octets.{hasBits}
+use Rattle.basics.specs.Octets.{hasBits}
 use Rattle.restart_tlv.specs.Flags.{RR, SA, PR}
 use Rattle.restart_tlv.specs.declared.flags.Flags.{Flags}
 use Rattle.restart_tlv.specs.declared.reader.RestartTlv.{RestartTlv}

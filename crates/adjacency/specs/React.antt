@@ -7,7 +7,7 @@ use Rattle.restart_tlv.specs.declared.reader.RestartTlv.the-variants.{Absent as
 use Rattle.hello.specs.declared.read.Hello.{Hello}
 use Rattle.hello.specs.declared.read.Link.{Link}
 use Rattle.hello.specs.declared.read.Link.the-variants.{Lan, P2p}
-use Rattle.hello.specs.declared.refusal.Refusal.the-variants.{WrongNeighbor}
+use Rattle.basics.specs.declared.refusal.Refusal.the-variants.{WrongNeighbor}
 use Rattle.adjacency.specs.Record.{phaseOf, markOf, suppressedOf, expiryOf}
 use Rattle.adjacency.specs.Step.{wrongNeighbor, stepOf}
 use Rattle.adjacency.specs.Marks.{lineOf, expiryBy, markBy, suppressedBy, remainingOf, replyBy}

@@ -2,11 +2,12 @@
 use Prim.Native.Nat.{ℕ}
 use mathlib.Core.Bool.{Bool, false, not, cond, _||_, _&&_}
 use lib.Dec.{eqb}
-use Rattle.tlv.specs.Octets.{hasBits}
+use Rattle.basics.specs.Levels.{hasLevel}
+use Rattle.basics.specs.Octets.{hasBits}
 use Rattle.restart_tlv.specs.Flags.{RR}
 use Rattle.restart_tlv.specs.declared.reader.RestartTlv.{RestartTlv}
 use Rattle.restart_tlv.specs.declared.reader.RestartTlv.the-variants.{Absent, Ignored, Present}
-use Rattle.hello.specs.declared.levels.Levels.{Levels}
+use Rattle.basics.specs.declared.levels.Levels.{Levels}
 use Rattle.hello.specs.declared.read.Hello.{Hello}
 use Rattle.hello.specs.declared.read.Link.{Link}
 use Rattle.hello.specs.declared.read.Link.the-variants.{Lan, P2p}
@@ -19,14 +20,11 @@ use Rattle.adjacency.specs.declared.record.Phase.{Phase}
 use Rattle.adjacency.specs.declared.record.Phase.the-variants.{Gone, Init as InitPhase, Up as UpPhase}
 use Rattle.adjacency.specs.declared.step.Here.{Here}
 
--- refusal 7: LAN level not enabled on the circuit, or source System ID is our own
-abbrev pub hasLevel : Levels → ℕ → Bool
-hasLevel l level = cond (eqb level 1) (l .one) (cond (eqb level 2) (l .two) false)
-
 abbrev pub levelOff : Levels → Link → Bool
 levelOff l (Lan level priority listed) = not (hasLevel l level)
 levelOff l (P2p t) = false
 
+-- refusal 7: LAN level not enabled on the circuit, or source System ID is our own
 unfoldable pub wrongSource : Levels → ℕ → Hello → Bool
 wrongSource l own h = levelOff l (h .link) || eqb (h .system) own
 

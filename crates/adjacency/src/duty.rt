@@ -3,10 +3,11 @@ use crate::marks::Line;
 use crate::record::Mark;
 use crate::record::Record;
 use crate::record::State;
-use hello::levels::Levels;
+use basics::levels::Levels;
+use basics::levels::only_level;
 use hello::read::Link;
 ghost use mathlib.Core.Path.{_≡_};
-ghost use Rattle.adjacency.specs.Duty.{greater, marksRestart, rival, outranks, onlyLevel, linkCsnps, csnpsOf};
+ghost use Rattle.adjacency.specs.Duty.{greater, marksRestart, rival, outranks, linkCsnps, csnpsOf};
 
 // Our own pair (priority, MAC), at a level.
 pub struct Rank {
@@ -70,15 +71,6 @@ pub fn is_outranked_by(own: Rank, entry: Record) -> bool
         return is_rival(own, key.mac, state);
     }
     false
-}
-
-pub fn only_level(level: u8) -> Levels
-    ensures { λ r. ⌜ r ≡ onlyLevel level ⌝ }
-{
-    Levels {
-        one: level == 1,
-        two: level == 2,
-    }
 }
 
 fn link_csnps(levels: Levels, link: Link, outranked: bool) -> Csnps

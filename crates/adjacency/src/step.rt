@@ -1,6 +1,7 @@
 // Refusals 7 and 8, and the state step (document 01, "Refusals by number" and "The state step").
 use crate::record::Phase;
-use hello::levels::Levels;
+use basics::levels::Levels;
+use basics::levels::has_level;
 use hello::read::Hello;
 use hello::read::Link;
 use hello::three_way::Identifiers;
@@ -10,7 +11,7 @@ use restart_tlv::flags::Flags;
 use restart_tlv::reader::RestartTlv;
 ghost use mathlib.Core.Path.{_≡_};
 ghost use Rattle.adjacency.specs.Record.{isUp};
-ghost use Rattle.adjacency.specs.Step.{wrongId, keptUp, hasLevel, levelOff, wrongSource, requests, wrongSystem, wrongCircuit, excused, wrongNeighbor, lanStep, p2pStep, asInit, linkStep, stepOf};
+ghost use Rattle.adjacency.specs.Step.{wrongId, keptUp, levelOff, wrongSource, requests, wrongSystem, wrongCircuit, excused, wrongNeighbor, lanStep, p2pStep, asInit, linkStep, stepOf};
 
 // What is known where a frame comes: the clock, whether the mode is Restarting, our System ID, and the circuit's own extended circuit
 // ID and configured holding time.
@@ -20,18 +21,6 @@ pub struct Here {
     pub own: u64,
     pub circuit: u32,
     pub hold: u16,
-}
-
-pub fn has_level(levels: Levels, level: u8) -> bool
-    ensures { λ r. ⌜ r ≡ hasLevel levels level ⌝ }
-{
-    if level == 1 {
-        return levels.one;
-    }
-    if level == 2 {
-        return levels.two;
-    }
-    false
 }
 
 fn is_level_off(levels: Levels, link: Link) -> bool

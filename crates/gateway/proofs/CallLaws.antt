@@ -9,40 +9,42 @@ use lib.ListN.{length, getD, set, take, drop, drop-of-length-le}
 use lib.Seq.{take-suc-set, drop-set-lt, drop-cons, append-snoc, take-all}
 use borrow.Author.Tests.{lt-ltb, le-ltb}
 use borrow.Rule.Slice.PartMut.{putMid}
-use Rattle.hello.specs.declared.refusal.Refusal.the-variants.{NoCircuit, ClockBack, NotRestarting}
-use Rattle.adjacency.specs.Step.{hasLevel}
-use Rattle.adjacency.specs.Duty.{onlyLevel}
+use Rattle.basics.specs.declared.refusal.Refusal.the-variants.{NoCircuit, ClockBack, NotRestarting}
+use Rattle.basics.specs.Levels.{hasLevel, onlyLevel}
 use Rattle.adjacency.specs.declared.record.Adjacency.{Adjacency}
 use Rattle.adjacency.specs.declared.record.Key.{Key}
-use Rattle.slots.specs.Slots.{tableOf, expiredBy}
-use Rattle.slots.specs.declared.slot.Slot.{Slot}
-use Rattle.table.specs.Table.{find, released, firstState, expired, anyExpired}
-use Rattle.table.specs.Sweep.{Swept}
+use Rattle.slots.specs.Slots.{tableOf}
+use Rattle.adjacency.specs.Place.{expiredBy}
+use Rattle.adjacency.specs.declared.place.Slot.{Slot}
+use Rattle.room.specs.Table.{find, released, firstState, expired, anyExpired}
+use Rattle.room.specs.Sweep.{Swept}
 use Rattle.metric.specs.Metric.{linkMetric}
 use Rattle.restart_tlv.specs.declared.flags.Flags.{Flags}
-use Rattle.hello.specs.declared.levels.Levels.{Levels}
-use Rattle.hello.specs.declared.header.CircuitKind.{CircuitKind}
-use Rattle.hello.specs.declared.header.CircuitKind.the-variants.{Lan}
-use Rattle.timer_parts.specs.Mask.{bits, bitsOf}
+use Rattle.basics.specs.declared.levels.Levels.{Levels}
+use Rattle.basics.specs.declared.kind.CircuitKind.{CircuitKind}
+use Rattle.basics.specs.declared.kind.CircuitKind.the-variants.{Lan}
+use Rattle.basics.specs.Mask.{bits, bitsOf}
 use Rattle.timer_parts.specs.T1.{helloFlags}
-use Rattle.timer_parts.specs.declared.mask.Lowest.{Lowest}
-use Rattle.timers.specs.Timers.{Timers, inMode, ticked, toT3, csnpIn, noticeT2s, noT1, countRuns, firstRuns}
+use Rattle.basics.specs.declared.mask.Lowest.{Lowest}
+use Rattle.timers.specs.Timers.{Timers, ticked, toT3, csnpIn, noticeT2s, noT1, countRuns, firstRuns}
+use Rattle.settings.specs.Mode.{inMode}
 use Rattle.timers.proofs.TimersLaws.{in-running, in-restarting}
 use Rattle.timers.specs.Outcome.{ordered, tickHellos}
-use Rattle.timers.specs.declared.head.Mode.the-variants.{Running, Restarting}
+use Rattle.settings.specs.declared.mode.Mode.the-variants.{Running, Restarting}
 use Rattle.timers.specs.declared.outcome.Outcome.{Outcome as Timed}
 use Rattle.settings.specs.Settings.{enabledLevels}
 use Rattle.settings.specs.declared.circuit.Circuit.{Circuit}
-use Rattle.common.specs.Words.{countOf}
-use Rattle.common.specs.Common.{Common, commonOf, withClock, withTimers}
-use Rattle.common.proofs.CommonLaws.{circuits-length}
-use Rattle.common_calls.specs.Calls.{CommonSettles, CommonTicks}
-use Rattle.room_calls.specs.Seat.{keyOn}
+use Rattle.control.specs.Words.{countOf}
+use Rattle.control.specs.Common.{Common, commonOf, withClock, withTimers}
+use Rattle.control.proofs.CommonLaws.{circuits-length}
+use Rattle.control.specs.Timing.{CommonSettles, CommonTicks}
+use Rattle.adjacency.specs.Keys.{keyOn}
 use Rattle.model.specs.Answers.{Answer, Refused, Ticked, Told, Fact, Done, Noticed, Looked, Metric, HelloFlags, Waits}
 use Rattle.model.specs.Gateway.{Gateway, Room, withRooms, withCommon, noRoom, renew, roomOf}
 use Rattle.model.specs.Receive.{Acted, refuse}
 use Rattle.model.specs.Step.{Call, Judged, Decline, Tell, Release, CsnpComplete, LookUp, LinkMetric, NextHello, Tick, DatabaseComplete, Waiting, Over, act, asksLevel, csnpComplete, lookUp, linkMetricOf, nextHello, noticeOf, settledBy, lift, noneOf, quiet, tickOf, databaseOf, judge, carry, swept, lapsed, step}
-use Rattle.gateway.specs.Words.{gatewayWords, part, roomPlace, gatewayOf, Meets}
+use Rattle.gateway.specs.Words.{gatewayWords, roomPlace, gatewayOf, Meets}
+use Rattle.basics.specs.Lists.{part}
 use Rattle.gateway.proofs.WordLaws.{along, asks, common-at, common-put, room-put, room-at, room-of, renew-at, same-room}
 
 -- ---- a call on a circuit that changes the common part, or the circuit's own

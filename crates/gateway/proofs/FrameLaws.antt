@@ -11,8 +11,8 @@ use borrow.Rule.Slice.PartMut.{putMid, put-same}
 use Rattle.hello.specs.Hello.{helloRead}
 use Rattle.hello.specs.declared.read.Hello.{Hello}
 use Rattle.hello.specs.declared.read.Read.the-variants.{Refused as Unread, Accepted as ReadAs}
-use Rattle.hello.specs.declared.refusal.Refusal.{Refusal}
-use Rattle.hello.specs.declared.refusal.Refusal.the-variants.{ReplyRoom, WrongSource}
+use Rattle.basics.specs.declared.refusal.Refusal.{Refusal}
+use Rattle.basics.specs.declared.refusal.Refusal.the-variants.{ReplyRoom, WrongSource}
 use Rattle.adjacency.specs.Step.{wrongSource}
 use Rattle.adjacency.specs.declared.duty.Csnps.{Csnps}
 use Rattle.adjacency.specs.declared.duty.Rank.{Rank}
@@ -24,23 +24,25 @@ use Rattle.adjacency.specs.declared.record.Adjacency.{Adjacency}
 use Rattle.adjacency.specs.declared.record.Key.{Key}
 use Rattle.adjacency.specs.declared.step.Here.{Here}
 use Rattle.slots.specs.Slots.{tableOf}
-use Rattle.slots.specs.declared.slot.Slot.{Slot}
-use Rattle.hello.specs.declared.levels.Levels.{Levels}
+use Rattle.adjacency.specs.declared.place.Slot.{Slot}
+use Rattle.basics.specs.declared.levels.Levels.{Levels}
 use Rattle.timer_parts.specs.declared.heard.Heard.{Heard}
 use Rattle.timer_parts.specs.declared.t1.Freed.{Freed}
 use Rattle.timers.specs.Timers.{settled, heardIn}
 use Rattle.timers.specs.Outcome.{ordered, heardFreed}
 use Rattle.timers.specs.declared.outcome.Outcome.{Outcome as Timed}
 use Rattle.settings.specs.declared.circuit.Circuit.{Circuit}
-use Rattle.common.specs.Common.{Common, commonOf, withTimers}
-use Rattle.common_calls.specs.Calls.{CommonHears}
-use Rattle.room_calls.specs.Seat.{keyIn, decided, kept, written, csnpsIn, Seats}
+use Rattle.control.specs.Common.{Common, commonOf, withTimers}
+use Rattle.control.specs.Timing.{CommonHears}
+use Rattle.adjacency.specs.Keys.{keyIn}
+use Rattle.room.specs.Accept.{decided, kept, written, csnpsIn, Seats}
 use Rattle.model.specs.declared.answers.Orders.{Orders}
 use Rattle.model.specs.Answers.{Refused, Received}
 use Rattle.model.specs.Gateway.{Gateway, Room, withRooms, withCommon, renew, roomOf}
 use Rattle.model.specs.Receive.{refuse, hereOf, rankOf, saidOf, ordersOf, accepted, settle, seated, checked, readIn, receive}
 use Rattle.model.specs.Step.{Receive, act, lift}
-use Rattle.gateway.specs.Words.{gatewayWords, part, roomPlace, gatewayOf, Meets}
+use Rattle.gateway.specs.Words.{gatewayWords, roomPlace, gatewayOf, Meets}
+use Rattle.basics.specs.Lists.{part}
 use Rattle.gateway.proofs.WordLaws.{along, refuses, common-at, common-put, room-put, room-same, common-stays, length-room, room-of, renew-at}
 
 pub hears-said : {i : ℕ} {l : Levels} {d d′ : Heard} {ws u : List ℕ} {o : Timed} {r : Freed} → d ≡ d′ → CommonHears i l d ws u o r → CommonHears i l d′ ws u o r

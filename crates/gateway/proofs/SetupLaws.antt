@@ -6,16 +6,16 @@ use mathlib.Core.Bool.{true, false}
 use mathlib.Core.List.{List, map}
 use lib.ListN.{length, set}
 use borrow.Rule.Slice.PartMut.{putMid}
-use Rattle.hello.specs.declared.refusal.Refusal.the-variants.{BadSetting}
+use Rattle.basics.specs.declared.refusal.Refusal.the-variants.{BadSetting}
 use Rattle.slots.specs.Slots.{tableOf}
-use Rattle.slots.specs.declared.slot.Slot.{Slot}
-use Rattle.table.specs.Table.{emptyRoom}
-use Rattle.timer_parts.specs.Mask.{bits}
+use Rattle.adjacency.specs.declared.place.Slot.{Slot}
+use Rattle.room.specs.Table.{emptyRoom}
+use Rattle.basics.specs.Mask.{bits}
 use Rattle.settings.specs.Settings.{settingsOk}
 use Rattle.settings.specs.declared.circuit.Circuit.{Circuit}
 use Rattle.settings.specs.declared.setup.Settings.{Settings}
-use Rattle.common.specs.Common.{setupCommon}
-use Rattle.common_setup.specs.Setup.{SetsUp as StoresAll}
+use Rattle.control.specs.Common.{setupCommon}
+use Rattle.control.specs.Setup.{SetsUp as StoresAll}
 use Rattle.model.specs.declared.answers.SetUp.{SetUp}
 use Rattle.model.specs.declared.answers.SetUp.the-variants.{Refused, Done}
 use Rattle.model.specs.Gateway.{Gateway, withRooms, withCommon, newRoom, newGateway, setup}

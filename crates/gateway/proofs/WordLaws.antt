@@ -10,21 +10,22 @@ use lib.Seq.{ext-getD, getD-take, getD-drop, length-take-le, set-getD}
 use lib.Dec.{ltb}
 use borrow.Author.Tests.{ltb-true, ltb-false}
 use borrow.Rule.Slice.PartMut.{putMid}
-use Rattle.tlv.proofs.BoolLaws.{by-test}
-use Rattle.hello.specs.declared.refusal.Refusal.{Refusal}
-use Rattle.hello.specs.declared.refusal.Refusal.the-variants.{NoCircuit}
+use Rattle.basics.proofs.BoolLaws.{by-test}
+use Rattle.basics.specs.declared.refusal.Refusal.{Refusal}
+use Rattle.basics.specs.declared.refusal.Refusal.the-variants.{NoCircuit}
 use Rattle.slots.specs.Slots.{tableOf}
-use Rattle.slots.proofs.SlotLaws.{tabulate-set, tabulate-same, getD-tabulate, length-tabulate}
-use Rattle.common.specs.Common.{Common, commonOf, circuitOf, Chooses}
-use Rattle.common.specs.declared.words.Chosen.{Chosen}
-use Rattle.common.specs.declared.words.Chosen.the-variants.{Known, Unknown}
-use Rattle.common_calls.proofs.PartLaws.{length-back, part-same, outside}
+use Rattle.basics.proofs.ListLaws.{tabulate-set, tabulate-same, getD-tabulate, length-tabulate}
+use Rattle.control.specs.Common.{Common, commonOf, circuitOf, Chooses}
+use Rattle.settings.specs.declared.circuit.Chosen.{Chosen}
+use Rattle.settings.specs.declared.circuit.Chosen.the-variants.{Known, Unknown}
+use Rattle.basics.proofs.PartLaws.{length-back, part-same, outside}
 use Rattle.settings.specs.declared.circuit.Circuit.{Circuit}
 use Rattle.model.specs.Answers.{Answer, Refused}
 use Rattle.model.specs.Gateway.{Gateway, Room, withRooms, withCommon, noRoom, numbered, renew, roomOf}
 use Rattle.model.specs.Receive.{Acted, refuse}
 use Rattle.model.specs.Step.{Outcome, Local, At, lent, lift, on, step, refused, act}
-use Rattle.gateway.specs.Words.{gatewayWords, part, roomPlace, roomAt, gatewayOf, Meets}
+use Rattle.gateway.specs.Words.{gatewayWords, roomPlace, roomAt, gatewayOf, Meets}
+use Rattle.basics.specs.Lists.{part}
 
 -- ---- a part put back leaves every part that it does not meet
 

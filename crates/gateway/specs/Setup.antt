@@ -4,9 +4,9 @@ use Prim.Native.Nat.{ℕ}
 use mathlib.Core.Path.{_≡_}
 use mathlib.Core.Bool.{Bool}
 use mathlib.Core.List.{List, map}
-use Rattle.tlv.specs.Octets.{big}
-use Rattle.hello.specs.declared.refusal.Refusal.{Refusal}
-use Rattle.timer_parts.specs.Mask.{bits}
+use Rattle.basics.specs.Octets.{big}
+use Rattle.basics.specs.declared.refusal.Refusal.{Refusal}
+use Rattle.basics.specs.Mask.{bits}
 use Rattle.settings.specs.declared.circuit.Circuit.{Circuit}
 use Rattle.settings.specs.declared.setup.Settings.{Settings}
 use Rattle.model.specs.declared.answers.SetUp.{SetUp}

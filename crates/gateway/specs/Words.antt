@@ -2,12 +2,13 @@
 use Prim.Native.Nat.{ℕ, _+_, _*_}
 use mathlib.Core.Path.{_≡_}
 use mathlib.Core.List.{List}
-use lib.ListN.{take, drop}
-use Rattle.hello.specs.declared.refusal.Refusal.{Refusal}
-use Rattle.tlv.specs.Octets.{big}
+use Rattle.basics.specs.Lists.{part}
+use Rattle.basics.specs.declared.refusal.Refusal.{Refusal}
+use Rattle.basics.specs.Octets.{big}
 use Rattle.adjacency.specs.declared.record.Key.{Key}
-use Rattle.slots.specs.Slots.{tabulate, tableOf}
-use Rattle.common.specs.Common.{commonOf}
+use Rattle.basics.specs.Lists.{tabulate}
+use Rattle.slots.specs.Slots.{tableOf}
+use Rattle.control.specs.Common.{commonOf}
 use Rattle.model.specs.Answers.{Answer, Refused}
 use Rattle.model.specs.Gateway.{Gateway, Room}
 use Rattle.model.specs.Step.{Outcome}
@@ -18,10 +19,6 @@ roomWords = 64
 
 abbrev pub gatewayWords : ℕ
 gatewayWords = 640
-
--- k words from a on
-abbrev pub part : ℕ → ℕ → List ℕ → List ℕ
-part a k ws = take k (drop a ws)
 
 -- where the room of circuit i (from 0) stands
 abbrev pub roomPlace : ℕ → ℕ

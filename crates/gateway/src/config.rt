@@ -1,8 +1,8 @@
 // The settings as a caller gives them to setup (document 01, "What the gateway holds"): MACs and the System ID are six octets.
-use hello::header::CircuitKind;
-use hello::levels::Levels;
-use timer_parts::t1::Lengths;
-use timers::head::Mode;
+use basics::kind::CircuitKind;
+use basics::levels::Levels;
+use settings::lengths::Lengths;
+use settings::mode::Mode;
 
 // One circuit's settings, as a caller gives them. The id is our own extended circuit ID, which only a P2P circuit has.
 pub struct CircuitSettings {

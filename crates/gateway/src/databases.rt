@@ -1,11 +1,11 @@
 // The daemon's notice that a level's database is complete (document 01, "Timers while Restarting").
-use adjacency::duty::only_level;
-use adjacency::step::has_level;
-use common::head::mode_of;
-use common::words::levels_of;
-use hello::refusal::Refusal;
+use basics::levels::has_level;
+use basics::levels::only_level;
+use basics::refusal::Refusal;
+use control::head::mode_of;
+use control::words::levels_of;
 use model::answers::Noticed;
-use timers::head::Mode;
+use settings::mode::Mode;
 ghost use mathlib.Core.Path.{_≡_};
 ghost use mathlib.Core.List.{[]};
 ghost use lib.ListN.{length};
@@ -25,7 +25,7 @@ pub(crate) fn database_in(gateway: &mut [u64], level: u8) -> Noticed
         let Mode::Restarting = mode else {
             return Noticed::Refused(Refusal::NotRestarting);
         };
-        let outcome = common_calls::calls::notice_database(&mut gateway[0..128], set);
+        let outcome = control::timing::notice_database(&mut gateway[0..128], set);
         return Noticed::Done(outcome);
     }
     Noticed::Refused(Refusal::NoCircuit)

@@ -1,13 +1,13 @@
 // The daemon's notice that a CSNP set is complete (document 01, "Timers while Restarting").
-use adjacency::duty::only_level;
-use adjacency::step::has_level;
-use common::head::mode_of;
-use common::words::Chosen;
-use common::words::circuit_of;
-use hello::refusal::Refusal;
+use basics::levels::has_level;
+use basics::levels::only_level;
+use basics::refusal::Refusal;
+use control::head::mode_of;
+use control::words::circuit_of;
 use model::answers::Noticed;
+use settings::circuit::Chosen;
 use settings::circuit::Circuit;
-use timers::head::Mode;
+use settings::mode::Mode;
 ghost use mathlib.Core.Path.{_≡_};
 ghost use mathlib.Core.List.{[]};
 ghost use Prim.Native.Nat.{_<_, _≤_};
@@ -29,7 +29,7 @@ fn csnp_on(gateway: &mut [u64], n: u8, s: Circuit, level: u8) -> Noticed
             return Noticed::Refused(Refusal::NotRestarting);
         };
         let i = n as usize - 1;
-        let outcome = common_calls::calls::notice_csnp(&mut gateway[0..128], i, levels, set);
+        let outcome = control::timing::notice_csnp(&mut gateway[0..128], i, levels, set);
         return Noticed::Done(outcome);
     }
     Noticed::Refused(Refusal::NoCircuit)

@@ -1,19 +1,19 @@
 // Setup (document 01, "What the gateway holds"): every setting is checked before a word is written.
 use crate::config::CircuitSettings;
 use crate::config::GatewaySettings;
-use common_setup::setup::set_up;
-use hello::refusal::Refusal;
+use basics::octets::six;
+use basics::refusal::Refusal;
+use control::setup::set_up;
 use model::answers::SetUp;
+use room::empty::open_room;
 use settings::circuit::Circuit;
 use settings::setup::Settings;
 use settings::setup::are_settings_ok;
-use table::room::open_room;
-use tlv::octets::six;
 ghost use mathlib.Core.Path.{_≡_};
 ghost use mathlib.Core.List.{map};
 ghost use Prim.Native.Nat.{_<_};
 ghost use lib.ListN.{length, set};
-ghost use Rattle.tlv.specs.Octets.{big};
+ghost use Rattle.basics.specs.Octets.{big};
 ghost use Rattle.model.specs.Gateway.{withRooms, newRoom, setup};
 ghost use Rattle.gateway.specs.Words.{gatewayWords, gatewayOf};
 ghost use Rattle.gateway.specs.Setup.{circuitGiven, settingsGiven, SetsUp};

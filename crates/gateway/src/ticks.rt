@@ -1,20 +1,20 @@
 // Tick and release: records removed, and the timers moved (document 01, "Marks and holding time" and "Timers while Restarting").
-use common::words::Chosen;
-use common::words::circuit_of;
-use common::words::clock_of;
-use common::words::count_of;
-use hello::refusal::Refusal;
+use basics::mask::put_bit;
+use basics::refusal::Refusal;
+use control::words::circuit_of;
+use control::words::clock_of;
+use control::words::count_of;
 use model::answers::Released;
 use model::answers::Ticked;
-use table::sweep::expire;
-use table::sweep::release;
-use timer_parts::mask::put_bit;
+use room::sweep::expire;
+use room::sweep::release;
+use settings::circuit::Chosen;
 use timers::outcome::Outcome;
 ghost use mathlib.Core.Path.{_≡_};
 ghost use mathlib.Core.List.{[], map};
 ghost use Prim.Native.Nat.{_<_};
 ghost use lib.ListN.{length, getD, set};
-ghost use Rattle.timer_parts.specs.Mask.{bits};
+ghost use Rattle.basics.specs.Mask.{bits};
 ghost use Rattle.model.specs.Answers.{tickedOf, releasedOf};
 ghost use Rattle.model.specs.Gateway.{withRooms, noRoom};
 ghost use Rattle.model.specs.Step.{swept, lapsed, step, At, Over, Tick, Release};
@@ -60,7 +60,7 @@ pub(crate) fn tick_in(gateway: &mut [u64], clock: u32) -> Ticked
         return Ticked::Refused(Refusal::ClockBack);
     }
     let marks = sweep_rooms(gateway, clock);
-    let x = common_calls::calls::tick(&mut gateway[0..128], clock);
+    let x = control::timing::tick(&mut gateway[0..128], clock);
     let hellos = x.hellos;
     let outcome = x.outcome;
     Ticked::Done {

@@ -7,13 +7,13 @@ use native.Mathlib.Omega.{arith}
 use lib.ListN.{length}
 use lib.Dec.{ltb, eqb, lit≤}
 use borrow.Author.Tests.{ltb-false}
-use Rattle.tlv.specs.Octets.{octet}
+use Rattle.basics.specs.Octets.{octet}
 use Rattle.tlv.specs.Tlv.{Tlv, tlvs, cutAt, walkOf, ofType, isFound}
 use Rattle.tlv.specs.declared.tlvs.Found.{Found}
 use Rattle.tlv.specs.declared.tlvs.Found.the-variants.{At, Nothing}
 use Rattle.tlv.specs.declared.tlvs.Counts.{Counts}
 use Rattle.tlv.specs.declared.tlvs.Walk.the-variants.{Whole, Cut}
-use Rattle.tlv.proofs.BoolLaws.{neither, or-true}
+use Rattle.basics.proofs.BoolLaws.{neither, or-true}
 use Rattle.tlv.proofs.TlvLaws.{unless-found, unless-none, unless-is-bad, unless-is-good, walk-is-cut, walk-is-whole}
 use Rattle.restart_tlv.specs.Restart.{restartFault}
 use Rattle.hello.specs.Header.{headerOf, notHello, badLength, pduLength}
@@ -26,13 +26,13 @@ use Rattle.hello.specs.declared.three_way.ThreeWay.{ThreeWay}
 use Rattle.hello.specs.declared.three_way.ThreeWayRead.the-variants.{Bad as BadThreeWay, Good as GoodThreeWay}
 use Rattle.hello.specs.declared.header.Layout.{Layout}
 use Rattle.hello.specs.declared.header.Layout.the-variants.{Lan, P2p}
-use Rattle.hello.specs.Listed.{neighboursFault, listed, listRead}
-use Rattle.hello.specs.declared.listed.ListRead.the-variants.{Bad as BadList, Good as GoodList}
+use Rattle.neighbours.specs.Lists.{neighboursFault, listed, listRead}
+use Rattle.neighbours.specs.declared.lists.ListRead.the-variants.{Bad as BadList, Good as GoodList}
 use Rattle.hello.specs.declared.read.Link.{Link}
 use Rattle.hello.specs.declared.read.Link.the-variants.{Lan as LanLink, P2p as P2pLink}
 use Rattle.hello.specs.declared.read.LinkRead.the-variants.{Bad, Good}
 use Rattle.hello.specs.declared.read.Read.the-variants.{Refused, Accepted}
-use Rattle.hello.specs.declared.refusal.Refusal.the-variants.{BadTlv, TlvPastEnd}
+use Rattle.basics.specs.declared.refusal.Refusal.the-variants.{BadTlv, TlvPastEnd}
 
 found-earlier : (a b : Found) → isFound (earlier a b) ≡ (isFound a || isFound b)
 unfolding earlier isFound

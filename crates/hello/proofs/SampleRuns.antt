@@ -4,7 +4,7 @@ use mathlib.Core.Path.{_≡_, refl}
 use mathlib.Core.List.{List, [], _∷_}
 use lib.ListN.{length}
 use lib.Count.{ones, onesIn}
-use Rattle.tlv.specs.Octets.{big, hasBits}
+use Rattle.basics.specs.Octets.{big, hasBits}
 use Rattle.tlv.specs.Tlv.{tlvs, tlvsUp, cutAt, ofType, loneFault, unless}
 use Rattle.restart_tlv.specs.Flags.{counted, without, invalid, needsNeighbor, needsTime}
 use Rattle.restart_tlv.specs.Restart.{leastLength, restartBad, restartWith, timeOf, neighborOf}
@@ -13,11 +13,11 @@ use Rattle.restart_tlv.specs.declared.reader.RestartTlv.the-variants.{Present}
 use Rattle.hello.specs.Header.{layoutOf, notHello, badLength}
 use Rattle.hello.specs.ThreeWay.{threeWayBad, threeWayLength, stateOf, identifiersOf}
 use Rattle.hello.specs.Hello.{linkFault, earlier, ruleFault, tlvsRead, pduRead, layoutRead, helloRead}
-use Rattle.hello.specs.declared.header.CircuitKind.the-variants.{P2p as P2pCircuit}
+use Rattle.basics.specs.declared.kind.CircuitKind.the-variants.{P2p as P2pCircuit}
 use Rattle.hello.specs.declared.read.Read.{Read}
 use Rattle.hello.specs.declared.read.Read.the-variants.{Refused, Accepted}
 use Rattle.hello.specs.declared.read.Link.the-variants.{P2p}
-use Rattle.hello.specs.declared.refusal.Refusal.the-variants.{BadTlv}
+use Rattle.basics.specs.declared.refusal.Refusal.the-variants.{BadTlv}
 use Rattle.hello.specs.declared.reverse.ReverseMetric.the-variants.{Absent as NoMetric}
 use Rattle.hello.specs.declared.three_way.State.the-variants.{Up}
 use Rattle.hello.specs.declared.three_way.Identifiers.the-variants.{Absent as NoIdentifiers}

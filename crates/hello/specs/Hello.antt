@@ -5,7 +5,7 @@ use mathlib.Core.List.{List}
 use mathlib.Core.Bool.{cond}
 use lib.ListN.{length, take}
 use lib.Dec.{eqb}
-use Rattle.tlv.specs.Octets.{octet, big}
+use Rattle.basics.specs.Octets.{octet, big}
 use Rattle.tlv.specs.Tlv.{Tlv, tlvs, cutAt, ofType, unless}
 use Rattle.tlv.specs.declared.tlvs.Found.{Found}
 use Rattle.tlv.specs.declared.tlvs.Found.the-variants.{At, Nothing}
@@ -13,9 +13,9 @@ use Rattle.hello.specs.Header.{layoutOf, headerOf, notHello, badLength, 
 use Rattle.restart_tlv.specs.Restart.{restartFault, restartIn}
 use Rattle.hello.specs.ThreeWay.{threeWayFault, threeWayIn}
 use Rattle.hello.specs.Reverse.{reverseFault, reverseIn}
-use Rattle.hello.specs.Listed.{neighboursFault, listed}
-use Rattle.hello.specs.declared.refusal.Refusal.the-variants.{NotHello, BadLength, TlvPastEnd, BadTlv}
-use Rattle.hello.specs.declared.header.CircuitKind.{CircuitKind}
+use Rattle.neighbours.specs.Lists.{neighboursFault, listed}
+use Rattle.basics.specs.declared.refusal.Refusal.the-variants.{NotHello, BadLength, TlvPastEnd, BadTlv}
+use Rattle.basics.specs.declared.kind.CircuitKind.{CircuitKind}
 use Rattle.hello.specs.declared.header.Layout.{Layout}
 use Rattle.hello.specs.declared.header.Layout.the-variants.{Lan as LanLayout, P2p as P2pLayout}
 use Rattle.hello.specs.declared.header.Selected.{Selected}

@@ -4,7 +4,7 @@ use mathlib.Core.List.{List, [], _∷_}
 use mathlib.Core.Bool.{Bool, not, cond, _||_}
 use lib.ListN.{length}
 use lib.Dec.{ltb, eqb}
-use Rattle.tlv.specs.Octets.{octet, big, hasBits}
+use Rattle.basics.specs.Octets.{octet, big, hasBits}
 use Rattle.tlv.specs.Tlv.{Tlv, tlvs, ofType, several, unless}
 use Rattle.tlv.specs.declared.tlvs.Found.{Found}
 use Rattle.tlv.specs.declared.tlvs.Found.the-variants.{At, Nothing}

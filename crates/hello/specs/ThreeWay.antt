@@ -4,7 +4,7 @@ use mathlib.Core.List.{List, [], _∷_}
 use mathlib.Core.Bool.{Bool, not, cond, _||_}
 use lib.ListN.{length}
 use lib.Dec.{ltb, eqb}
-use Rattle.tlv.specs.Octets.{octet, big}
+use Rattle.basics.specs.Octets.{octet, big}
 use Rattle.tlv.specs.Tlv.{Tlv, loneFault, firstValue, unless}
 use Rattle.tlv.specs.declared.tlvs.Found.{Found}
 use Rattle.tlv.specs.declared.tlvs.Found.the-variants.{At}

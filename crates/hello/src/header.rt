@@ -3,8 +3,9 @@
 //   octet  1     2       3  4          5     6  7         8           9             10-15      16-17         18-19
 //          0x83  header  1  ID length  type  1  reserved  area count  circuit type  source ID  Holding Time  PDU Length
 //   then, on a LAN, 20 priority and 21-27 LAN ID; on P2P, 20 local circuit ID. Octet n stands at position n - 1.
-use tlv::octets::two;
-use tlv::octets::wide;
+use basics::kind::CircuitKind;
+use basics::octets::two;
+use basics::octets::wide;
 ghost use mathlib.Core.Path.{_≡_};
 ghost use Prim.Native.Nat.{_≤_};
 ghost use Rattle.hello.specs.Header.{layoutOf, lanOn, p2pOn, headerOf, idLengthOk, notHello, badLength};
@@ -23,11 +24,6 @@ pub const PRIORITY: usize = 19;
 
 // The longest PDU that is taken (document 01, refusal 4).
 const MAX_PDU: usize = 1492;
-
-pub enum CircuitKind {
-    Lan,
-    P2p,
-}
 
 // The layout of a hello: a LAN's, with its level, or P2P.
 pub enum Layout {

@@ -1,9 +1,6 @@
 // The reader of hello frames: a refusal of 3 to 6, or the decoded hello (document 01, "Hello frames" and "TLVs read"; RFC 8500,
 // 2; RFC 5303, 3.1). No state; callers: adjacency, gateway.
-pub mod refusal; // refusal.rt: every refusal, and its number
 pub mod header; // header.rt: the fixed header; refusals 3 and 4
 pub mod three_way; // three_way.rt: the three-way adjacency TLV
 pub mod reverse; // reverse.rt: the Reverse Metric TLV
-pub mod listed; // listed.rt: the IS Neighbours TLVs
-pub mod levels; // levels.rt: a set of levels
 pub mod read; // read.rt: a whole frame

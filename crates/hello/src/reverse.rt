@@ -2,9 +2,9 @@
 //
 //   octet  1      2-4     5               6-
 //          flags  metric  sub-TLV length  sub-TLVs
-use tlv::octets::has_bits;
-use tlv::octets::three;
-use tlv::octets::wide;
+use basics::octets::has_bits;
+use basics::octets::three;
+use basics::octets::wide;
 use tlv::tlvs::REVERSE_METRIC;
 use tlv::tlvs::is_repeated;
 use tlv::tlvs::value_of;

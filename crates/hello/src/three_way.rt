@@ -2,8 +2,8 @@
 //
 //   octet  1      2-5                      6-11                12-15
 //          state  own extended circuit ID  Neighbor System ID  Neighbor Extended Circuit ID
-use tlv::octets::four;
-use tlv::octets::six;
+use basics::octets::four;
+use basics::octets::six;
 use tlv::tlvs::THREE_WAY;
 use tlv::tlvs::value_of;
 ghost use mathlib.Core.Path.{_≡_};

@@ -1,28 +1,30 @@
 -- What holds of every gateway from setup on, told room by room; that setup gives it; and how rooms are found after a call.
 use Prim.Native.Nat.{ℕ, zero, suc, _≤_, _<_}
 use native.Mathlib.Omega.{arith}
-use mathlib.Core.Path.{_≡_, refl, sym, _∙_}
-use mathlib.Core.Bool.{Bool, true, false, true≢false, _&&_}
+use mathlib.Core.Path.{_≡_, refl, _∙_}
+use mathlib.Core.Bool.{Bool, true, false}
 use mathlib.Core.List.{List, [], _∷_, map}
 use lib.ListN.{length, getD, set, length-take}
 use lib.Seq.{getD-take}
 use lib.Dec.{ltb}
 use borrow.Author.Tests.{ltb-true}
-use Rattle.tlv.proofs.BoolLaws.{by-test}
+use Rattle.basics.proofs.BoolLaws.{by-test, both}
 use Rattle.adjacency.specs.Record.{expiryOf}
 use Rattle.adjacency.specs.declared.record.Key.{Key}
 use Rattle.adjacency.specs.declared.record.State.{State}
-use Rattle.slots.specs.declared.slot.Slot.{Slot}
-use Rattle.table.specs.Table.{crowded, put, sweep}
-use Rattle.table.specs.Gather.{gather}
-use Rattle.settings.specs.Settings.{between, every, circuitOk, circuitsOf, settingsOk, someOn}
+use Rattle.adjacency.specs.declared.place.Slot.{Slot}
+use Rattle.room.specs.Table.{crowded, put, sweep}
+use Rattle.room.specs.Gather.{gather}
+use Rattle.settings.specs.Settings.{between, circuitOk, circuitsOf, settingsOk}
+use Rattle.basics.specs.Lists.{every}
+use Rattle.basics.specs.Levels.{someOn}
 use Rattle.settings.specs.declared.circuit.Circuit.{Circuit}
 use Rattle.settings.specs.declared.setup.Settings.{Settings}
 use Rattle.settings.proofs.SettingsLaws.{between-true}
-use Rattle.common.specs.Common.{circuitOf, setupCommon, startOf}
-use Rattle.common.specs.Words.{circuitIn}
-use Rattle.common.specs.declared.words.Chosen.{Chosen}
-use Rattle.common.specs.declared.words.Chosen.the-variants.{Known, Unknown}
+use Rattle.control.specs.Common.{circuitOf, setupCommon, startOf}
+use Rattle.control.specs.Words.{circuitIn}
+use Rattle.settings.specs.declared.circuit.Chosen.{Chosen}
+use Rattle.settings.specs.declared.circuit.Chosen.the-variants.{Known, Unknown}
 use Rattle.model.specs.Gateway.{Room, Gateway, numbered, renew, noRoom, roomOf, newRoom, newGateway, Started, setup}
 use Rattle.model.specs.Step.{swept}
 use Rattle.invariants.specs.Invariants.{Each, end, Quiet, roomFor}
@@ -128,22 +130,18 @@ swept-at clock l (suc i) = swept-getD clock l i
 
 -- ---- setup
 
-and-both : (a b : Bool) → (a && b) ≡ true → (a ≡ true) × (b ≡ true)
-and-both true b e = (refl, e)
-and-both false b e = absurd (true≢false (sym e))
-
 every-at : {A : Type 0} (p : A → Bool) (l : List A) (i : ℕ) (d : A) → every p l ≡ true → i < length l → p (getD l i d) ≡ true
 unfolding every
 every-at p [] i d e lt = absurd (omega arith)
-every-at p (x ∷ l) zero d e lt = and-both (p x) (every p l) e .0
-every-at p (x ∷ l) (suc i) d e lt = every-at p l i d (and-both (p x) (every p l) e .1) (omega arith)
+every-at p (x ∷ l) zero d e lt = both (p x) (every p l) e .0
+every-at p (x ∷ l) (suc i) d e lt = every-at p l i d (both (p x) (every p l) e .1) (omega arith)
 
 circuit-hold : (c : Circuit) → circuitOk c ≡ true → c .hold ≤ 65535
 unfolding circuitOk
 circuit-hold c e =
-    let a = and-both (someOn (c .levels)) _ e .1 in
-    let b = and-both (between 0 (c .priority) 127) _ a .1 in
-    let d = and-both (between 1 (c .hold) 65535) _ b .0 in
+    let a = both (someOn (c .levels)) _ e .1 in
+    let b = both (between 0 (c .priority) 127) _ a .1 in
+    let d = both (between 1 (c .hold) 65535) _ b .0 in
     between-true 1 (c .hold) 65535 d .1
 
 new-at : (l : List Circuit) (i : ℕ) (d : Circuit) → i < length l → getD (map newRoom l) i noRoom ≡ newRoom (getD l i d)
@@ -160,8 +158,8 @@ module _ (s : Settings) (ok : settingsOk s ≡ true) where
   circuits-ok : every circuitOk (circuitsOf s) ≡ true
   unfolding settingsOk
   circuits-ok =
-      let a = and-both (between 1 (s .count) 8) _ ok .1 in
-      and-both (every circuitOk (circuitsOf s)) _ a .0
+      let a = both (between 1 (s .count) 8) _ ok .1 in
+      both (every circuitOk (circuitsOf s)) _ a .0
 
   new-hold : (n : ℕ) (c : Circuit) → circuitOf (setupCommon s) n ≡ Known c → c .hold ≤ 65535
   unfolding circuitOf setupCommon

@@ -6,24 +6,24 @@ use lib.ListN.{length, take, drop, List·getD-eq-default, length-take}
 use lib.Seq.{getD-take, getD-drop}
 use lib.Dec.{leb, ltb, eqb}
 use borrow.Author.Tests.{ltb-true, ltb-false}
-use Rattle.tlv.specs.Octets.{octet, big}
+use Rattle.basics.specs.Octets.{octet, big}
 use Rattle.tlv.specs.Tlv.{Tlv, tlvsUp, tlvs, ofType, valueAt, nextAt, unless, cutAt}
 use Rattle.tlv.specs.declared.tlvs.Found.{Found}
 use Rattle.tlv.specs.declared.tlvs.Found.the-variants.{At, Nothing}
-use Rattle.tlv.proofs.BoolLaws.{by-test}
-use Rattle.tlv.proofs.OctetsLaws.{big-lt}
+use Rattle.basics.proofs.BoolLaws.{by-test}
+use Rattle.basics.proofs.OctetsLaws.{big-lt}
 use Rattle.restart_tlv.specs.Flags.{counted, invalid, needsTime}
 use Rattle.restart_tlv.specs.Restart.{timeOf, restartWith, restartIn}
 use Rattle.hello.specs.Header.{layoutOf, headerOf, notHello, badLength, pduLength}
 use Rattle.hello.specs.Hello.{ofKind, ruleFault, tlvsRead, pduRead, layoutRead, helloRead}
-use Rattle.hello.specs.declared.header.CircuitKind.{CircuitKind}
+use Rattle.basics.specs.declared.kind.CircuitKind.{CircuitKind}
 use Rattle.hello.specs.declared.header.Layout.{Layout}
 use Rattle.hello.specs.declared.header.Selected.{Selected}
 use Rattle.hello.specs.declared.header.Selected.the-variants.{Fit, Unfit}
 use Rattle.hello.specs.declared.read.Hello.{Hello}
 use Rattle.hello.specs.declared.read.Read.{Read}
 use Rattle.hello.specs.declared.read.Read.the-variants.{Refused, Accepted}
-use Rattle.hello.specs.declared.refusal.Refusal.{Refusal}
+use Rattle.basics.specs.declared.refusal.Refusal.{Refusal}
 use Rattle.adjacency.specs.React.{timeIn}
 use Rattle.invariants.specs.Invariants.{Octets}
 

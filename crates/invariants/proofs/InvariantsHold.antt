@@ -7,24 +7,24 @@ use mathlib.Core.List.{List, [], _∷_}
 use lib.ListN.{length}
 use lib.Dec.{ltb}
 use borrow.Author.Tests.{leb-false, le-ltb}
-use Rattle.tlv.proofs.BoolLaws.{by-test}
+use Rattle.basics.proofs.BoolLaws.{by-test}
 use Rattle.restart_tlv.specs.declared.writer.Ack.{Ack}
 use Rattle.hello.specs.Hello.{helloRead}
-use Rattle.hello.specs.declared.header.CircuitKind.{CircuitKind}
-use Rattle.hello.specs.declared.header.CircuitKind.the-variants.{Lan, P2p}
+use Rattle.basics.specs.declared.kind.CircuitKind.{CircuitKind}
+use Rattle.basics.specs.declared.kind.CircuitKind.the-variants.{Lan, P2p}
 use Rattle.hello.specs.declared.read.Hello.{Hello}
 use Rattle.hello.specs.declared.read.Read.the-variants.{Accepted}
 use Rattle.adjacency.specs.Record.{expiryOf}
 use Rattle.adjacency.specs.declared.marks.Acknowledgement.the-variants.{Send}
 use Rattle.adjacency.specs.declared.record.State.{State}
-use Rattle.slots.specs.Slots.{expiredBy}
-use Rattle.slots.specs.declared.slot.Slot.{Slot}
-use Rattle.table.specs.Table.{expired}
+use Rattle.adjacency.specs.Place.{expiredBy}
+use Rattle.adjacency.specs.declared.place.Slot.{Slot}
+use Rattle.room.specs.Table.{expired}
 use Rattle.timers.specs.declared.outcome.Outcome.{Outcome as Timed}
 use Rattle.settings.specs.declared.circuit.Circuit.{Circuit}
-use Rattle.common.specs.Common.{Common, circuitOf}
-use Rattle.common.specs.declared.words.Chosen.the-variants.{Known, Unknown}
-use Rattle.room_calls.specs.Seat.{keyIn}
+use Rattle.control.specs.Common.{Common, circuitOf}
+use Rattle.settings.specs.declared.circuit.Chosen.the-variants.{Known, Unknown}
+use Rattle.adjacency.specs.Keys.{keyIn}
 use Rattle.model.specs.declared.answers.Orders.{Orders}
 use Rattle.model.specs.Answers.{Received, Ticked}
 use Rattle.model.specs.Gateway.{Gateway, roomOf, recordAt}

@@ -3,20 +3,20 @@ use Prim.Native.Nat.{ℕ}
 use mathlib.Core.Path.{_≡_, refl, _∙_}
 use mathlib.Core.Bool.{false}
 use mathlib.Core.List.{List, [], _∷_, map}
-use Rattle.tlv.proofs.BoolLaws.{by-test}
-use Rattle.hello.specs.declared.levels.Levels.{Levels}
-use Rattle.timer_parts.specs.Mask.{bitsOf}
+use Rattle.basics.proofs.BoolLaws.{by-test}
+use Rattle.basics.specs.declared.levels.Levels.{Levels}
+use Rattle.basics.specs.Mask.{bitsOf}
 use Rattle.timer_parts.specs.T1.{stopT1}
 use Rattle.timer_parts.specs.T2.{anyT2}
 use Rattle.timer_parts.specs.T3.{expiresT3}
 use Rattle.timer_parts.specs.declared.heard.Heard.{Heard}
-use Rattle.timer_parts.specs.declared.t1.Lengths.{Lengths}
+use Rattle.settings.specs.declared.lengths.Lengths.{Lengths}
 use Rattle.timer_parts.specs.declared.t1.T1.{T1}
 use Rattle.timers.specs.Timers.{Timers, withT1s, withT2s, withT3, anyRuns, atT1, tickT1s, expireT2s, cancelT2s, tickT3, over, finish, closed, settled, toT3, heardIn, csnpIn, noticeT2s}
-use Rattle.timers.specs.Calls.{startHead, startT1, startHellos, started}
-use Rattle.timers.specs.declared.calls.Start.{Start}
-use Rattle.timers.specs.declared.head.Mode.{Mode}
-use Rattle.timers.specs.declared.head.Mode.the-variants.{Running, Restarting}
+use Rattle.timers.specs.Events.{startHead, startT1, startHellos, started}
+use Rattle.timers.specs.declared.events.Start.{Start}
+use Rattle.settings.specs.declared.mode.Mode.{Mode}
+use Rattle.settings.specs.declared.mode.Mode.the-variants.{Running, Restarting}
 use Rattle.timers.proofs.TimersLaws.{settled-running, in-restarting}
 use Rattle.invariants.specs.Invariants.{Quiet}
 

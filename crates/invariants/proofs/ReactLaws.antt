@@ -2,11 +2,11 @@
 use Prim.Native.Nat.{ℕ, _+_, _-_, _≤_}
 use native.Mathlib.Omega.{arith}
 use mathlib.Core.Path.{_≡_, refl}
-use Rattle.tlv.proofs.BoolLaws.{by-test}
+use Rattle.basics.proofs.BoolLaws.{by-test}
 use Rattle.hello.specs.declared.read.Hello.{Hello}
 use Rattle.hello.specs.declared.read.Link.{Link}
 use Rattle.hello.specs.declared.read.Link.the-variants.{Lan, P2p}
-use Rattle.hello.specs.declared.refusal.Refusal.{Refusal}
+use Rattle.basics.specs.declared.refusal.Refusal.{Refusal}
 use Rattle.hello.specs.declared.three_way.State.{State as Said}
 use Rattle.hello.specs.declared.three_way.State.the-variants.{Up as SaidUp, Initializing, Down}
 use Rattle.adjacency.specs.Record.{phaseOf, markOf, expiryOf}

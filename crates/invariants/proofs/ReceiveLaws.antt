@@ -7,16 +7,16 @@ use mathlib.Core.Bool.{false}
 use mathlib.Core.List.{List, [], _∷_, _++_, append-assoc}
 use lib.ListN.{length, drop}
 use lib.Dec.{ltb}
-use Rattle.tlv.specs.Octets.{big, octetsOf}
-use Rattle.tlv.proofs.BoolLaws.{by-test}
-use Rattle.tlv.proofs.OctetsLaws.{big-octetsOf}
+use Rattle.basics.specs.Octets.{big, octetsOf}
+use Rattle.basics.proofs.BoolLaws.{by-test}
+use Rattle.basics.proofs.OctetsLaws.{big-octetsOf}
 use Rattle.restart_tlv.specs.Restart.{ackFlag, restartOctets}
 use Rattle.restart_tlv.specs.declared.writer.Ack.{Ack}
 use Rattle.hello.specs.Hello.{helloRead}
 use Rattle.hello.specs.declared.read.Hello.{Hello}
 use Rattle.hello.specs.declared.read.Read.{Read}
 use Rattle.hello.specs.declared.read.Read.the-variants.{Refused as Unread, Accepted as ReadAs}
-use Rattle.hello.specs.declared.refusal.Refusal.{Refusal}
+use Rattle.basics.specs.declared.refusal.Refusal.{Refusal}
 use Rattle.adjacency.specs.Step.{wrongSource}
 use Rattle.adjacency.specs.React.{timeIn, reactOf}
 use Rattle.adjacency.specs.declared.marks.Acknowledgement.{Acknowledgement}
@@ -27,14 +27,15 @@ use Rattle.adjacency.specs.declared.react.Reaction.the-variants.{Refused as Dec
 use Rattle.adjacency.specs.declared.record.Adjacency.{Adjacency}
 use Rattle.adjacency.specs.declared.record.Adjacency.the-variants.{Absent, Present}
 use Rattle.adjacency.specs.declared.record.Key.{Key}
-use Rattle.slots.specs.declared.slot.Slot.{Slot}
-use Rattle.table.specs.Table.{find, crowded}
-use Rattle.table.proofs.TableLaws.{find-put-same}
+use Rattle.adjacency.specs.declared.place.Slot.{Slot}
+use Rattle.room.specs.Table.{find, crowded}
+use Rattle.room.proofs.TableLaws.{find-put-same}
 use Rattle.timers.specs.Timers.{Timers, settled, heardIn}
 use Rattle.settings.specs.declared.circuit.Circuit.{Circuit}
-use Rattle.common.specs.Common.{Common, withTimers}
-use Rattle.common.specs.declared.words.Chosen.the-variants.{Known}
-use Rattle.room_calls.specs.Seat.{keyIn, ifRoom, decided, kept, written}
+use Rattle.control.specs.Common.{Common, withTimers}
+use Rattle.settings.specs.declared.circuit.Chosen.the-variants.{Known}
+use Rattle.adjacency.specs.Keys.{keyIn}
+use Rattle.room.specs.Accept.{ifRoom, decided, kept, written}
 use Rattle.model.specs.declared.answers.Orders.{Orders}
 use Rattle.model.specs.Answers.{Received}
 use Rattle.model.specs.Gateway.{Room}

@@ -6,18 +6,21 @@ use mathlib.Core.Bool.{Bool, false}
 use mathlib.Core.List.{List, [], _∷_}
 use lib.ListN.{length}
 use lib.Dec.{eqb}
-use Rattle.tlv.proofs.BoolLaws.{by-test}
-use Rattle.hello.specs.declared.header.CircuitKind.{CircuitKind}
-use Rattle.hello.specs.declared.header.CircuitKind.the-variants.{Lan, P2p}
+use Rattle.basics.proofs.BoolLaws.{by-test}
+use Rattle.basics.specs.declared.kind.CircuitKind.{CircuitKind}
+use Rattle.basics.specs.declared.kind.CircuitKind.the-variants.{Lan, P2p}
 use Rattle.adjacency.specs.declared.record.Adjacency.the-variants.{Present}
 use Rattle.adjacency.specs.declared.record.State.{State}
 use Rattle.adjacency.specs.declared.record.Key.{Key}
-use Rattle.slots.specs.Slots.{sameKey, tabulate, isHeld}
-use Rattle.slots.specs.declared.slot.Slot.{Slot}
-use Rattle.slots.specs.declared.slot.Slot.the-variants.{Free, Held, Closed}
-use Rattle.table.specs.Table.{find, has, crowded, replace, insert, put, sweep, emptyPlace, emptyRoom}
-use Rattle.table.specs.Gather.{gather, rest, keep}
-use Rattle.table.proofs.TableLaws.{sameKey-eq, gather-sweep, gather-put-same, gather-put-other}
+use Rattle.adjacency.specs.Keys.{sameKey}
+use Rattle.basics.specs.Lists.{tabulate}
+use Rattle.adjacency.specs.Place.{isHeld}
+use Rattle.adjacency.specs.declared.place.Slot.{Slot}
+use Rattle.adjacency.specs.declared.place.Slot.the-variants.{Free, Held, Closed}
+use Rattle.room.specs.Table.{find, has, crowded, replace, insert, put, sweep, emptyPlace, emptyRoom}
+use Rattle.room.specs.Gather.{gather, rest, keep}
+use Rattle.adjacency.proofs.KeysLaws.{sameKey-eq}
+use Rattle.room.proofs.TableLaws.{gather-sweep, gather-put-same, gather-put-other}
 use Rattle.invariants.specs.Invariants.{Each, end, free, held, closed, records, roomFor}
 
 -- ---- a property of each record

@@ -7,23 +7,23 @@ use mathlib.Core.Bool.{Bool, false}
 use mathlib.Core.List.{List, []}
 use lib.Dec.{ltb}
 use borrow.Author.Tests.{ltb-false, leb-false}
-use Rattle.tlv.proofs.BoolLaws.{by-test}
-use Rattle.hello.specs.declared.refusal.Refusal.{Refusal}
-use Rattle.adjacency.specs.Duty.{onlyLevel}
+use Rattle.basics.proofs.BoolLaws.{by-test}
+use Rattle.basics.specs.declared.refusal.Refusal.{Refusal}
+use Rattle.basics.specs.Levels.{onlyLevel, hasLevel}
 use Rattle.adjacency.specs.Record.{expiryOf}
-use Rattle.adjacency.specs.Step.{hasLevel}
 use Rattle.adjacency.specs.declared.record.Key.{Key}
 use Rattle.adjacency.specs.declared.record.State.{State}
-use Rattle.slots.specs.Slots.{plannedState, expiredBy}
-use Rattle.timers.specs.Timers.{inMode, toT3, csnpIn, noticeT2s}
-use Rattle.timers.specs.declared.head.Mode.{Mode}
-use Rattle.timers.specs.declared.head.Mode.the-variants.{Running, Restarting}
+use Rattle.adjacency.specs.Place.{plannedState, expiredBy}
+use Rattle.settings.specs.Mode.{inMode}
+use Rattle.timers.specs.Timers.{toT3, csnpIn, noticeT2s}
+use Rattle.settings.specs.declared.mode.Mode.{Mode}
+use Rattle.settings.specs.declared.mode.Mode.the-variants.{Running, Restarting}
 use Rattle.timers.specs.declared.outcome.Outcome.{Outcome as Timed}
 use Rattle.settings.specs.Settings.{enabledLevels}
 use Rattle.settings.specs.declared.circuit.Circuit.{Circuit}
-use Rattle.common.specs.Common.{Common, withClock, circuitOf}
-use Rattle.common.specs.declared.words.Chosen.{Chosen}
-use Rattle.common.specs.declared.words.Chosen.the-variants.{Known, Unknown}
+use Rattle.control.specs.Common.{Common, withClock, circuitOf}
+use Rattle.settings.specs.declared.circuit.Chosen.{Chosen}
+use Rattle.settings.specs.declared.circuit.Chosen.the-variants.{Known, Unknown}
 use Rattle.model.specs.Answers.{Answer}
 use Rattle.model.specs.Gateway.{Room, Gateway, noRoom, numbered, renew, roomOf}
 use Rattle.model.specs.Receive.{Acted}

@@ -4,11 +4,11 @@ use mathlib.Core.Path.{_≡_}
 use mathlib.Core.Bool.{Bool, false}
 use mathlib.Core.List.{List, [], _∷_}
 use lib.ListN.{length}
-use Rattle.tlv.specs.Octets.{octet, big}
+use Rattle.basics.specs.Octets.{octet, big}
 use Rattle.restart_tlv.specs.declared.writer.Ack.{Ack}
 use Rattle.hello.specs.Hello.{helloRead}
-use Rattle.hello.specs.declared.header.CircuitKind.{CircuitKind}
-use Rattle.hello.specs.declared.header.CircuitKind.the-variants.{Lan, P2p}
+use Rattle.basics.specs.declared.kind.CircuitKind.{CircuitKind}
+use Rattle.basics.specs.declared.kind.CircuitKind.the-variants.{Lan, P2p}
 use Rattle.hello.specs.declared.read.Hello.{Hello}
 use Rattle.hello.specs.declared.read.Read.the-variants.{Accepted}
 use Rattle.adjacency.specs.Record.{expiryOf}
@@ -18,17 +18,17 @@ use Rattle.adjacency.specs.declared.record.Adjacency.the-variants.{Absent, Pres
 use Rattle.adjacency.specs.declared.record.State.{State}
 use Rattle.adjacency.specs.declared.record.Key.{Key}
 use Rattle.adjacency.specs.declared.record.Record.{Record}
-use Rattle.slots.specs.declared.slot.Slot.{Slot}
-use Rattle.slots.specs.declared.slot.Slot.the-variants.{Free, Held, Closed}
-use Rattle.table.specs.Gather.{gather}
+use Rattle.adjacency.specs.declared.place.Slot.{Slot}
+use Rattle.adjacency.specs.declared.place.Slot.the-variants.{Free, Held, Closed}
+use Rattle.room.specs.Gather.{gather}
 use Rattle.timers.specs.Timers.{Timers, anyRuns}
-use Rattle.timers.specs.declared.head.Mode.the-variants.{Running}
+use Rattle.settings.specs.declared.mode.Mode.the-variants.{Running}
 use Rattle.timers.specs.declared.outcome.Outcome.{Outcome as Timed}
 use Rattle.settings.specs.declared.circuit.Circuit.{Circuit}
 use Rattle.settings.specs.declared.setup.Settings.{Settings}
-use Rattle.common.specs.Common.{circuitOf}
-use Rattle.common.specs.declared.words.Chosen.the-variants.{Known, Unknown}
-use Rattle.room_calls.specs.Seat.{keyIn}
+use Rattle.control.specs.Common.{circuitOf}
+use Rattle.settings.specs.declared.circuit.Chosen.the-variants.{Known, Unknown}
+use Rattle.adjacency.specs.Keys.{keyIn}
 use Rattle.model.specs.declared.answers.Orders.{Orders}
 use Rattle.model.specs.Answers.{Received, Ticked}
 use Rattle.model.specs.Gateway.{Gateway, Started, setup, roomOf, recordAt}

@@ -1,4 +1,4 @@
 pub mod NumberLaws
 pub mod TellsLaws
 pub mod SettingsLaws
-pub mod PartLaws
+pub mod DigitLaws

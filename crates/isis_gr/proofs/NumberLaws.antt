@@ -4,10 +4,11 @@ use native.Mathlib.Omega.{arith}
 use native.Mathlib.Nat.{pow-suc}
 use mathlib.Core.Path.{_≡_, refl}
 use lib.Dec.{eqb}
-use Rattle.timer_parts.specs.Mask.{bitsOf}
-use Rattle.isis_gr.specs.Numbers.{bitNo, maskNo}
+use Rattle.basics.specs.Mask.{bitsOf}
+use Rattle.basics.specs.Bits.{bitOf}
+use Rattle.isis_gr.specs.Numbers.{maskNo}
 
-digit : (d : ℕ) → d < 2 → bitNo (eqb d 1) ≡ d
+digit : (d : ℕ) → d < 2 → bitOf (eqb d 1) ≡ d
 digit zero h = refl
 digit (suc zero) h = refl
 digit (suc (suc d)) h = absurd (omega arith)

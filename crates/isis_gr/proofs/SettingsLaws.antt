@@ -6,12 +6,11 @@ use mathlib.Core.Bool.{true, false}
 use mathlib.Core.List.{List}
 use lib.ListN.{getD, take, drop}
 use lib.Seq.{take-all}
-use Rattle.tlv.specs.Octets.{octet}
-use Rattle.hello.specs.declared.refusal.Refusal.the-variants.{BadSetting}
-use Rattle.slots.proofs.SlotLaws.{getD-tabulate}
-use Rattle.settings.specs.Settings.{every}
+use Rattle.basics.specs.Octets.{octet}
+use Rattle.basics.specs.declared.refusal.Refusal.the-variants.{BadSetting}
+use Rattle.basics.proofs.ListLaws.{getD-tabulate, every-here, every-skip, every-end}
+use Rattle.basics.specs.Lists.{every}
 use Rattle.settings.specs.declared.setup.Settings.{Settings}
-use Rattle.settings.proofs.SettingsLaws.{every-here, every-skip, every-end}
 use Rattle.model.specs.Gateway.{setup}
 use Rattle.model.specs.declared.answers.SetUp.{SetUp}
 use Rattle.gateway.specs.Setup.{Denied, SetsUp, reportOf}

@@ -2,15 +2,15 @@
 use Prim.Native.Nat.{ℕ, _≤_}
 use native.Mathlib.Omega.{arith}
 use mathlib.Core.Path.{_≡_, ap, _∙_}
-use mathlib.Core.Bool.{Bool, true, false, cond}
 use mathlib.Core.List.{List, [], _∷_}
 use lib.ListN.{length, set}
+use Rattle.basics.proofs.BitLaws.{bit-le}
 use Rattle.timer_parts.specs.declared.t1.T1.{T1}
-use Rattle.timer_parts.specs.Mask.{bits}
+use Rattle.basics.specs.Mask.{bits}
 use Rattle.timers.specs.Timers.{countRuns}
 use Rattle.timers.specs.Memory.{timersOf}
 use Rattle.timers.proofs.T1sLaws.{length-joined}
-use Rattle.common.specs.Common.{commonOf}
+use Rattle.control.specs.Common.{commonOf}
 use Rattle.model.specs.Answers.{Answer, waitingOf}
 use Rattle.model.specs.declared.answers.Waiting.{Waiting}
 use Rattle.model.specs.Step.{Outcome, step, judge, carry, Over}
@@ -33,11 +33,6 @@ set-both [] h e = absurd (omega arith)
 set-both (a ∷ []) h e = absurd (omega arith)
 set-both (a ∷ b ∷ []) {x} h e = ap (λ (y : ℕ). x ∷ y ∷ []) e
 set-both (a ∷ b ∷ c ∷ l) h e = absurd (omega arith)
-
--- at most all circuits wait
-bit-le : (b : Bool) → cond b 1 0 ≤ 1
-bit-le true = omega arith
-bit-le false = omega arith
 
 countRuns-le : (l : List T1) → countRuns l ≤ length l
 unfolding countRuns

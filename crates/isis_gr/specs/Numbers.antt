@@ -2,13 +2,14 @@
 -- numbers and the flags are those of document 01, "Refusals by number" and "TLVs read"; the others and their places in the word are
 -- house. The lowest octet of a word is the code: 0 where the call was done, else the refusal's number; no other code exists.
 use Prim.Native.Nat.{ℕ, _+_, _*_, _/_, _%_, _^_}
-use mathlib.Core.Bool.{Bool, true, false, cond}
+use mathlib.Core.Bool.{Bool, cond}
 use mathlib.Core.List.{List, [], _∷_}
 use lib.Dec.{eqb, ltb}
-use Rattle.hello.specs.Refusal.{refusalNo}
-use Rattle.hello.specs.declared.header.CircuitKind.{CircuitKind}
-use Rattle.hello.specs.declared.header.CircuitKind.the-variants.{Lan, P2p}
-use Rattle.hello.specs.declared.levels.Levels.{Levels}
+use Rattle.basics.specs.Bits.{bitOf}
+use Rattle.basics.specs.Refusal.{refusalNo}
+use Rattle.basics.specs.declared.kind.CircuitKind.{CircuitKind}
+use Rattle.basics.specs.declared.kind.CircuitKind.the-variants.{Lan, P2p}
+use Rattle.basics.specs.declared.levels.Levels.{Levels}
 use Rattle.hello.specs.declared.reverse.ReverseMetric.{ReverseMetric}
 use Rattle.hello.specs.declared.reverse.ReverseMetric.the-variants.{Absent as NoReverse, Present as Reverse}
 use Rattle.adjacency.specs.declared.duty.Csnps.{Csnps}
@@ -22,8 +23,8 @@ use Rattle.adjacency.specs.declared.record.State.{State}
 use Rattle.adjacency.specs.declared.record.State.the-variants.{Init, Up}
 use Rattle.timer_parts.specs.declared.t1.Freed.{Freed}
 use Rattle.timer_parts.specs.declared.t1.Freed.the-variants.{Kept, Stopped, Reinitialise}
-use Rattle.timers.specs.declared.head.Mode.{Mode}
-use Rattle.timers.specs.declared.head.Mode.the-variants.{Running, Restarting}
+use Rattle.settings.specs.declared.mode.Mode.{Mode}
+use Rattle.settings.specs.declared.mode.Mode.the-variants.{Running, Restarting}
 use Rattle.timers.specs.declared.outcome.Outcome.{Outcome}
 use Rattle.timers.specs.declared.outcome.Outcome.the-variants.{Idle, Goes, Ended}
 use Rattle.timers.specs.declared.outcome.Overload.{Overload}
@@ -34,18 +35,14 @@ use Rattle.gateway.specs.Setup.{Report, Denied, Begun}
 
 -- ---- the parts
 
-abbrev pub bitNo : Bool → ℕ
-bitNo false = 0
-bitNo true = 1
-
 -- 1, 2, or 3 for both; 0 for none
 abbrev pub levelsNo : Levels → ℕ
-levelsNo l = bitNo (l .one) + 2 * bitNo (l .two)
+levelsNo l = bitOf (l .one) + 2 * bitOf (l .two)
 
 -- a mask over circuits, the lowest digit for circuit 1
 unfoldable pub maskNo : List Bool → ℕ
 maskNo [] = 0
-maskNo (b ∷ bs) = bitNo b + 2 * maskNo bs
+maskNo (b ∷ bs) = bitOf b + 2 * maskNo bs
 
 -- the levels of line 1's order
 abbrev pub csnpsNo : Csnps → ℕ
@@ -76,11 +73,11 @@ markNo Planned = 2
 
 abbrev pub reverseNo : ReverseMetric → ℕ
 reverseNo NoReverse = 0
-reverseNo (Reverse offset whole unreachable) = 16 + 32 * bitNo whole + 64 * bitNo unreachable + 2 ^ 32 * offset
+reverseNo (Reverse offset whole unreachable) = 16 + 32 * bitOf whole + 64 * bitOf unreachable + 2 ^ 32 * offset
 
 -- what a look up tells of a record beside its expiry
 abbrev pub dataNo : Mark → Data → ℕ
-dataNo m d = markNo m + 4 * bitNo (d .suppressed) + 8 * bitNo (d .last .tlv) + 2 ^ 8 * d .last .priority + reverseNo (d .last .reverse)
+dataNo m d = markNo m + 4 * bitOf (d .suppressed) + 8 * bitOf (d .last .tlv) + 2 ^ 8 * d .last .priority + reverseNo (d .last .reverse)
 
 -- ---- the answers
 

@@ -12,11 +12,10 @@ use mathlib.Core.Path.{_≡_}
 use mathlib.Core.Bool.{Bool, cond, _&&_}
 use mathlib.Core.List.{List, map}
 use lib.ListN.{take}
-use Rattle.tlv.specs.Octets.{octet, big}
-use Rattle.hello.specs.declared.refusal.Refusal.{Refusal}
-use Rattle.hello.specs.declared.refusal.Refusal.the-variants.{BadSetting}
-use Rattle.slots.specs.Slots.{tabulate}
-use Rattle.settings.specs.Settings.{every}
+use Rattle.basics.specs.Octets.{octet, big}
+use Rattle.basics.specs.declared.refusal.Refusal.{Refusal}
+use Rattle.basics.specs.declared.refusal.Refusal.the-variants.{BadSetting}
+use Rattle.basics.specs.Lists.{tabulate, every}
 use Rattle.settings.specs.declared.circuit.Circuit.{Circuit}
 use Rattle.settings.specs.declared.setup.Settings.{Settings}
 use Rattle.model.specs.Gateway.{Setup, Declined, setup}

@@ -2,7 +2,7 @@
 use Prim.Native.Nat.{ℕ}
 use mathlib.Core.Path.{_≡_}
 use mathlib.Core.List.{List, []}
-use Rattle.hello.specs.declared.refusal.Refusal.{Refusal}
+use Rattle.basics.specs.declared.refusal.Refusal.{Refusal}
 use Rattle.model.specs.Answers.{Refused}
 use Rattle.model.specs.Step.{Outcome}
 use Rattle.gateway.specs.Words.{gatewayOf}

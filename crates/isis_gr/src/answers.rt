@@ -14,7 +14,7 @@ use crate::numbers::reply_time;
 use crate::numbers::state_number;
 use adjacency::record::Mark;
 use adjacency::record::State;
-use hello::refusal::number_of;
+use basics::refusal::number_of;
 use model::answers::Looked;
 use model::answers::Metric;
 use model::answers::NextFlags;

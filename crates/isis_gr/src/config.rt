@@ -1,19 +1,19 @@
 // The settings of setup from octets; specs/Settings.antt says where each stands, and specs/Numbers.antt which numbers are known.
+use basics::kind::CircuitKind;
+use basics::levels::Levels;
+use basics::octets::four;
+use basics::octets::two;
+use basics::octets::wide;
 use gateway::config::CircuitSettings;
 use gateway::config::GatewaySettings;
-use hello::header::CircuitKind;
-use hello::levels::Levels;
-use timer_parts::t1::Lengths;
-use timers::head::Mode;
-use tlv::octets::four;
-use tlv::octets::two;
-use tlv::octets::wide;
+use settings::lengths::Lengths;
+use settings::mode::Mode;
 ghost use mathlib.Core.Path.{_≡_};
 ghost use mathlib.Core.List.{map};
 ghost use Prim.Native.Nat.{_+_, _<_, _≤_};
 ghost use lib.ListN.{length, take};
-ghost use Rattle.tlv.specs.Octets.{big};
-ghost use Rattle.settings.specs.Settings.{every};
+ghost use Rattle.basics.specs.Octets.{big};
+ghost use Rattle.basics.specs.Lists.{every};
 ghost use Rattle.gateway.specs.Setup.{circuitGiven, settingsGiven};
 ghost use Rattle.isis_gr.specs.Numbers.{modeOf, kindOf, levelsOf};
 ghost use Rattle.isis_gr.specs.Settings.{settingsOctets, circuitPlaces, circuitFrom, settingsFrom, circuitKnown, settingsKnown};

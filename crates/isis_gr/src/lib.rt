@@ -1,7 +1,7 @@
 // The gateway's calls for C (document 01, "What the gateway holds"): numbers and slices only, so that an answer is one word. No call has
 // a precondition; each promises the number of the definition's answer (specs/Numbers.antt), and the memory and the reply buffer of
 // crate gateway's call. Callers: C, by a header that packs and unpacks.
-pub mod calls; // calls.rt: the calls
+pub mod exports; // exports.rt: the calls
 mod numbers; // numbers.rt: the parts of an answer as numbers
 mod answers; // answers.rt: each answer as one word
 mod config; // config.rt: the settings of setup from octets

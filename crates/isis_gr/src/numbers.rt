@@ -4,11 +4,12 @@ use adjacency::marks::Acknowledgement;
 use adjacency::record::Data;
 use adjacency::record::Mark;
 use adjacency::record::State;
-use hello::levels::Levels;
+use basics::bits::digit;
+use basics::levels::Levels;
+use basics::mask::Lowest;
 use hello::reverse::ReverseMetric;
 use restart_tlv::flags::Flags;
 use restart_tlv::writer::Ack;
-use timer_parts::mask::Lowest;
 use timer_parts::t1::Freed;
 use timers::outcome::Outcome;
 use timers::outcome::Overload;
@@ -16,7 +17,7 @@ ghost use mathlib.Core.Path.{_≡_};
 ghost use Prim.Native.Nat.{_+_, _^_, _≤_, _<_};
 ghost use Rattle.restart_tlv.specs.Restart.{ackFlag};
 ghost use Rattle.model.specs.Answers.{replyFlags, replyTime, lowestNo};
-ghost use Rattle.isis_gr.specs.Numbers.{bitNo, levelsNo, csnpsNo, freedNo, overloadNo, outcomeNo, markNo, reverseNo, dataNo, stateNo};
+ghost use Rattle.isis_gr.specs.Numbers.{levelsNo, csnpsNo, freedNo, overloadNo, outcomeNo, markNo, reverseNo, dataNo, stateNo};
 
 // The first digit of each octet of a word, from the second on.
 pub const SECOND: u64 = 256;
@@ -29,16 +30,10 @@ pub const FIFTH: u64 = 4294967296;
 
 pub const SIXTH: u64 = 1099511627776;
 
-fn bit(b: bool) -> u8
-    ensures { λ r. ⌜ (r ≡ bitNo b) × (r ≤ 1) ⌝ }
-{
-    if b { 1 } else { 0 }
-}
-
 fn levels_number(l: Levels) -> u8
     ensures { λ r. ⌜ (r ≡ levelsNo l) × (r ≤ 3) ⌝ }
 {
-    bit(l.one) + 2 * bit(l.two)
+    (digit(l.one) + 2 * digit(l.two)) as u8
 }
 
 pub(crate) fn csnps_number(c: Csnps) -> u8
@@ -140,7 +135,7 @@ fn reverse_number(m: ReverseMetric) -> u64
             offset,
             whole,
             unreachable,
-        } => 16 + 32 * bit(whole) as u64 + 64 * bit(unreachable) as u64 + FIFTH * offset as u64,
+        } => 16 + 32 * digit(whole) + 64 * digit(unreachable) + FIFTH * offset as u64,
     }
 }
 
@@ -149,8 +144,8 @@ pub(crate) fn data_number(m: Mark, d: Data) -> u64
 {
     let last = d.last;
     let reverse = last.reverse;
-    let marks = mark_number(m) + 4 * bit(d.suppressed) + 8 * bit(last.tlv);
-    marks as u64 + SECOND * last.priority as u64 + reverse_number(reverse)
+    let marks = mark_number(m) as u64 + 4 * digit(d.suppressed) + 8 * digit(last.tlv);
+    marks + SECOND * last.priority as u64 + reverse_number(reverse)
 }
 
 pub(crate) fn state_number(s: State) -> u8

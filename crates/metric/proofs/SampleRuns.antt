@@ -2,7 +2,7 @@
 use Prim.Native.Nat.{ℕ}
 use mathlib.Core.Path.{_≡_, refl}
 use mathlib.Core.Bool.{Bool, true, false}
-use Rattle.hello.specs.declared.header.CircuitKind.the-variants.{P2p}
+use Rattle.basics.specs.declared.kind.CircuitKind.the-variants.{P2p}
 use Rattle.hello.specs.declared.reverse.ReverseMetric.the-variants.{Present as SomeMetric}
 use Rattle.adjacency.specs.declared.record.Adjacency.{Adjacency}
 use Rattle.adjacency.specs.declared.record.Adjacency.the-variants.{Present}

@@ -2,8 +2,8 @@
 use Prim.Native.Nat.{ℕ, _+_}
 use mathlib.Core.Bool.{Bool, cond}
 use lib.Dec.{leb}
-use Rattle.hello.specs.declared.header.CircuitKind.{CircuitKind}
-use Rattle.hello.specs.declared.header.CircuitKind.the-variants.{Lan, P2p}
+use Rattle.basics.specs.declared.kind.CircuitKind.{CircuitKind}
+use Rattle.basics.specs.declared.kind.CircuitKind.the-variants.{Lan, P2p}
 use Rattle.hello.specs.declared.reverse.ReverseMetric.{ReverseMetric}
 use Rattle.hello.specs.declared.reverse.ReverseMetric.the-variants.{Absent as NoMetric, Present as SomeMetric}
 use Rattle.adjacency.specs.declared.record.Adjacency.{Adjacency}

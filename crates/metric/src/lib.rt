@@ -2,7 +2,7 @@
 // limit. No state; caller: gateway.
 use adjacency::record::Adjacency;
 use adjacency::record::State;
-use hello::header::CircuitKind;
+use basics::kind::CircuitKind;
 use hello::reverse::ReverseMetric;
 ghost use mathlib.Core.Path.{_≡_};
 ghost use Prim.Native.Nat.{_+_};

@@ -9,16 +9,17 @@ use mathlib.Core.List.{List, []}
 use lib.ListN.{length}
 use lib.Dec.{ltb, eqb}
 use borrow.Author.Tests.{eqb-true, eqb-false}
-use Rattle.tlv.proofs.BoolLaws.{by-test}
+use Rattle.basics.proofs.BoolLaws.{by-test}
 use Rattle.hello.specs.Hello.{helloRead}
-use Rattle.hello.specs.declared.header.CircuitKind.the-variants.{Lan}
+use Rattle.basics.specs.declared.kind.CircuitKind.the-variants.{Lan}
 use Rattle.hello.specs.declared.read.Hello.{Hello}
 use Rattle.hello.specs.declared.read.Read.{Read}
 use Rattle.hello.specs.declared.read.Read.the-variants.{Refused as Unread, Accepted as ReadAs}
-use Rattle.hello.specs.declared.refusal.Refusal.{Refusal}
-use Rattle.hello.specs.declared.refusal.Refusal.the-variants.{NoCircuit, ReplyRoom, WrongSource, NoRoom, NotRestarting}
+use Rattle.basics.specs.declared.refusal.Refusal.{Refusal}
+use Rattle.basics.specs.declared.refusal.Refusal.the-variants.{NoCircuit, ReplyRoom, WrongSource, NoRoom, NotRestarting}
 use Rattle.adjacency.specs.React.{reactOf}
-use Rattle.adjacency.specs.Step.{hasLevel, wrongSource}
+use Rattle.basics.specs.Levels.{hasLevel}
+use Rattle.adjacency.specs.Step.{wrongSource}
 use Rattle.adjacency.specs.declared.marks.Acknowledgement.{Acknowledgement}
 use Rattle.adjacency.specs.declared.marks.Line.{Line}
 use Rattle.adjacency.specs.declared.react.Reaction.{Reaction}
@@ -27,21 +28,22 @@ use Rattle.adjacency.specs.declared.record.Adjacency.{Adjacency}
 use Rattle.adjacency.specs.declared.record.Adjacency.the-variants.{Absent, Present}
 use Rattle.adjacency.specs.declared.record.Key.{Key}
 use Rattle.adjacency.specs.declared.record.State.{State}
-use Rattle.slots.specs.Slots.{sameKey, plannedState}
-use Rattle.slots.specs.declared.slot.Slot.{Slot}
-use Rattle.table.specs.Table.{find, crowded, sweep}
-use Rattle.table.specs.Gather.{gather}
-use Rattle.table.proofs.TableLaws.{sameKey-eq, sameKey-mac, find-is, gather-sweep, gather-put-other, gather-put-same}
+use Rattle.adjacency.specs.Keys.{sameKey, keyOn, keyIn}
+use Rattle.adjacency.specs.Place.{plannedState}
+use Rattle.adjacency.specs.declared.place.Slot.{Slot}
+use Rattle.room.specs.Table.{find, crowded, sweep}
+use Rattle.room.specs.Gather.{gather}
+use Rattle.adjacency.proofs.KeysLaws.{sameKey-eq, sameKey-mac}
+use Rattle.room.proofs.TableLaws.{find-is, gather-sweep, gather-put-other, gather-put-same}
 use Rattle.timers.specs.Timers.{Timers}
-use Rattle.timers.specs.declared.head.Mode.the-variants.{Running}
+use Rattle.settings.specs.declared.mode.Mode.the-variants.{Running}
 use Rattle.timers.proofs.TimersLaws.{heard-running}
 use Rattle.settings.specs.declared.circuit.Circuit.{Circuit}
-use Rattle.common.specs.Common.{Common, withTimers}
-use Rattle.room_calls.specs.Seat.{keyOn, keyIn, ifRoom, decided, kept}
+use Rattle.control.specs.Common.{Common, withTimers}
+use Rattle.room.specs.Accept.{ifRoom, decided, kept}
 use Rattle.model.specs.Gateway.{Room}
 use Rattle.model.specs.Receive.{Acted, refuse, hereOf, saidOf, accepted, settle, seated, checked, readIn, receive}
-use Rattle.model.specs.Step.{Local, Receive, Release, CsnpComplete, LookUp, LinkMetric, NextHello}
-use Rattle.model.specs.Step.{csnpComplete, asksLevel, lookUp, linkMetricOf, nextHello, act}
+use Rattle.model.specs.Step.{Local, Receive, Release, CsnpComplete, LookUp, LinkMetric, NextHello, csnpComplete, asksLevel, lookUp, linkMetricOf, nextHello, act}
 use Rattle.model.specs.Claim.{Neighbour, isSent, isNine, unordered, comparedThere}
 
 -- the records of every MAC but m are the same

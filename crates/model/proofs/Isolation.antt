@@ -4,12 +4,12 @@ use mathlib.Core.Path.{_≡_, refl}
 use mathlib.Core.Bool.{Bool, true, false}
 use mathlib.Core.List.{List, [], _∷_}
 use native.Mathlib.Omega.{arith}
-use Rattle.tlv.proofs.BoolLaws.{by-test}
-use Rattle.timers.specs.Calls.{startHead, started}
-use Rattle.timers.specs.declared.head.Mode.the-variants.{Running}
+use Rattle.basics.proofs.BoolLaws.{by-test}
+use Rattle.timers.specs.Events.{startHead, started}
+use Rattle.settings.specs.declared.mode.Mode.the-variants.{Running}
 use Rattle.settings.specs.Settings.{settingsOk}
 use Rattle.settings.specs.declared.setup.Settings.{Settings}
-use Rattle.common.specs.Common.{setupCommon}
+use Rattle.control.specs.Common.{setupCommon}
 use Rattle.model.specs.Gateway.{Gateway, Started, newGateway, setup}
 use Rattle.model.specs.Step.{Call}
 use Rattle.model.specs.Claim.{Neighbour, isIts, shared, run, Agreeing, end, next, Isolation}

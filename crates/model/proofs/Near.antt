@@ -7,27 +7,27 @@ use mathlib.Core.List.{List, map}
 use lib.ListN.{length, length-map}
 use lib.Dec.{ltb, eqb}
 use borrow.Author.Tests.{eqb-true, eqb-false, eq-eqb}
-use Rattle.tlv.proofs.BoolLaws.{by-test}
-use Rattle.hello.specs.declared.header.CircuitKind.{CircuitKind}
-use Rattle.hello.specs.declared.header.CircuitKind.the-variants.{Lan, P2p}
-use Rattle.hello.specs.declared.refusal.Refusal.{Refusal}
-use Rattle.adjacency.specs.Step.{hasLevel}
-use Rattle.slots.specs.Slots.{expiredBy}
-use Rattle.table.specs.Table.{find, sweep, anyOf}
+use Rattle.basics.proofs.BoolLaws.{by-test, and-left, and-false}
+use Rattle.basics.specs.declared.kind.CircuitKind.{CircuitKind}
+use Rattle.basics.specs.declared.kind.CircuitKind.the-variants.{Lan, P2p}
+use Rattle.basics.specs.declared.refusal.Refusal.{Refusal}
+use Rattle.basics.specs.Levels.{hasLevel}
+use Rattle.adjacency.specs.Place.{expiredBy}
+use Rattle.room.specs.Table.{find, sweep}
+use Rattle.basics.specs.Lists.{some}
 use Rattle.timers.specs.Timers.{toT3}
-use Rattle.timers.specs.declared.head.Mode.the-variants.{Running}
+use Rattle.settings.specs.declared.mode.Mode.the-variants.{Running}
 use Rattle.timers.specs.declared.outcome.Outcome.{Outcome as Timed}
 use Rattle.timers.proofs.TimersLaws.{mode-running}
 use Rattle.settings.specs.Settings.{enabledLevels}
 use Rattle.settings.specs.declared.circuit.Circuit.{Circuit}
-use Rattle.common.specs.Common.{Common, circuitOf}
-use Rattle.common.specs.declared.words.Chosen.{Chosen}
-use Rattle.common.specs.declared.words.Chosen.the-variants.{Known, Unknown}
+use Rattle.control.specs.Common.{Common, circuitOf}
+use Rattle.settings.specs.declared.circuit.Chosen.{Chosen}
+use Rattle.settings.specs.declared.circuit.Chosen.the-variants.{Known, Unknown}
 use Rattle.model.specs.Answers.{Answer}
 use Rattle.model.specs.Gateway.{Room, Gateway, numbered, renew, noRoom, roomOf, recordAt}
 use Rattle.model.specs.Receive.{Acted}
-use Rattle.model.specs.Step.{Local, Global, Tick, DatabaseComplete, Waiting, Call, At, Over, Outcome, act, lift, on}
-use Rattle.model.specs.Step.{Judged, Decline, Sweep, Tell, noneOf, tickOf, databaseOf, judge, swept, lapsed, carry, step}
+use Rattle.model.specs.Step.{Local, Global, Tick, DatabaseComplete, Waiting, Call, At, Over, Outcome, act, lift, on, Judged, Decline, Sweep, Tell, noneOf, tickOf, databaseOf, judge, swept, lapsed, carry, step}
 use Rattle.model.specs.Claim.{Neighbour, isSent, isIts, isLan, isThere, still, Sight, unmarked, compared, Agree}
 use Rattle.model.proofs.Lists.{renew-both, length-renew, renew-numbered, numbered-map, ext-numbered}
 use Rattle.model.proofs.Beside.{Beside, beside-refl, beside-sym, beside-trans, beside-find, beside-sweep, Same, act-its, act-both, act-common}
@@ -55,14 +55,6 @@ near-sym n =
     }
 
 -- ---- the promise for its LAN
-
-and-left : (s e : Bool) → s && e ≡ true → s ≡ true
-and-left true e h = refl
-and-left false e h = h
-
-and-false : (s : Bool) → s && false ≡ false
-and-false true = refl
-and-false false = refl
 
 -- a run in which the promise still stands did not answer 9
 stood : (s e f : Bool) → s && not (e && f) ≡ true → e ≡ true → f ≡ false
@@ -136,7 +128,7 @@ unfolding sweep
 swept-at clock rs n = numbered-map (swept clock) rs n noRoom
 
 lapsed-at : (clock : ℕ) (rs : List Room) (n : ℕ) → numbered (map (lapsed clock) rs) n false ≡ lapsed clock (numbered rs n noRoom)
-unfolding anyOf
+unfolding some
 lapsed-at clock rs n = numbered-map (lapsed clock) rs n noRoom
 
 -- the marks, but for one circuit

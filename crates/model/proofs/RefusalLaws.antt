@@ -6,27 +6,29 @@ use mathlib.Core.Bool.{Bool, true, false, cond}
 use mathlib.Core.List.{List, []}
 use lib.ListN.{length}
 use lib.Dec.{ltb}
-use Rattle.tlv.proofs.BoolLaws.{by-test}
+use Rattle.basics.proofs.BoolLaws.{by-test}
 use Rattle.hello.specs.Hello.{helloRead}
 use Rattle.hello.specs.declared.read.Hello.{Hello}
 use Rattle.hello.specs.declared.read.Read.{Read}
 use Rattle.hello.specs.declared.read.Read.the-variants.{Refused as Unread, Accepted as ReadAs}
-use Rattle.hello.specs.declared.refusal.Refusal.{Refusal}
-use Rattle.hello.specs.declared.refusal.Refusal.the-variants.{ReplyRoom, WrongSource, NoCircuit, ClockBack, NotRestarting}
-use Rattle.adjacency.specs.Step.{wrongSource, hasLevel}
+use Rattle.basics.specs.declared.refusal.Refusal.{Refusal}
+use Rattle.basics.specs.declared.refusal.Refusal.the-variants.{ReplyRoom, WrongSource, NoCircuit, ClockBack, NotRestarting}
+use Rattle.adjacency.specs.Step.{wrongSource}
+use Rattle.basics.specs.Levels.{hasLevel}
 use Rattle.adjacency.specs.declared.react.Reaction.{Reaction}
 use Rattle.adjacency.specs.declared.react.Reaction.the-variants.{Refused as Declined, Accepted}
 use Rattle.adjacency.specs.declared.record.Key.{Key}
-use Rattle.timers.specs.Timers.{inMode}
+use Rattle.settings.specs.Mode.{inMode}
 use Rattle.timers.specs.declared.outcome.Outcome.{Outcome as Timed}
-use Rattle.timers.specs.declared.head.Mode.{Mode}
-use Rattle.timers.specs.declared.head.Mode.the-variants.{Running, Restarting}
+use Rattle.settings.specs.declared.mode.Mode.{Mode}
+use Rattle.settings.specs.declared.mode.Mode.the-variants.{Running, Restarting}
 use Rattle.settings.specs.Settings.{enabledLevels}
 use Rattle.settings.specs.declared.circuit.Circuit.{Circuit}
-use Rattle.common.specs.Common.{Common, circuitOf}
-use Rattle.common.specs.declared.words.Chosen.{Chosen}
-use Rattle.common.specs.declared.words.Chosen.the-variants.{Known, Unknown}
-use Rattle.room_calls.specs.Seat.{keyIn, decided}
+use Rattle.control.specs.Common.{Common, circuitOf}
+use Rattle.settings.specs.declared.circuit.Chosen.{Chosen}
+use Rattle.settings.specs.declared.circuit.Chosen.the-variants.{Known, Unknown}
+use Rattle.adjacency.specs.Keys.{keyIn}
+use Rattle.room.specs.Accept.{decided}
 use Rattle.model.specs.Answers.{Refused, Told, Fact}
 use Rattle.model.specs.Gateway.{Gateway, Room, withRooms, renew, noRoom, roomOf}
 use Rattle.model.specs.Receive.{Acted, refuse, hereOf, accepted, settle, seated, checked, readIn, receive}

@@ -1,7 +1,7 @@
 -- Document 01, "Sample runs", C1 to C10, evaluated.
 use mathlib.Core.Path.{refl}
 use lib.Count.{ones}
-use Rattle.tlv.specs.Octets.{big, hasBits, octetsOf}
+use Rattle.basics.specs.Octets.{big, hasBits, octetsOf}
 use Rattle.tlv.specs.Tlv.{tlvs, tlvsUp, cutAt, ofType, loneFault, unless}
 use Rattle.restart_tlv.specs.Flags.{counted, without, invalid, needsNeighbor, needsTime}
 use Rattle.restart_tlv.specs.Restart.{leastLength, restartBad, restartWith, timeOf, neighborOf, restartOctets}
@@ -13,21 +13,21 @@ use Rattle.adjacency.specs.Step.{wrongSource, wrongId, wrongNeighbor, linkStep,
 use Rattle.adjacency.specs.Marks.{planned, lineOf}
 use Rattle.adjacency.specs.React.{dataBy, acceptedBy, lineIn, reactOf}
 use Rattle.adjacency.specs.Duty.{csnpsOf}
-use Rattle.slots.specs.Slots.{sameKey}
-use Rattle.table.specs.Table.{find, has, full, crowded, replace, insert, put, sweep, firstState, emptyRoom}
+use Rattle.adjacency.specs.Keys.{sameKey, keyOn}
+use Rattle.room.specs.Table.{find, has, full, crowded, replace, insert, put, sweep, firstState, emptyRoom}
 use Rattle.metric.specs.Metric.{heldTo}
-use Rattle.timer_parts.specs.Mask.{bitsOf}
-use Rattle.timer_parts.specs.Levels.{within}
+use Rattle.basics.specs.Mask.{bitsOf}
 use Rattle.timer_parts.specs.Heard.{acknowledges, heardTlv, heardOf}
 use Rattle.timer_parts.specs.T1.{startEntry, due, helloDue, tickT1, done, satisfied, acknowledged, heardT1, freedBy}
 use Rattle.timer_parts.specs.T2.{startTimer, startT2s, anyT2, anyAfter, cancelT2, cancelBoth, expireT2, expireBoth, spfDue}
 use Rattle.timer_parts.specs.T3.{lowerT3, heardT3, expiresT3, expiredT3}
 use Rattle.timers.specs.Timers.{withT1s, withT2s, withT3, anyRuns, noT1, atT1, tickT1s, expireT2s, waits, cancelT2s, tickT3, finish, closed, settled, toT3, heardIn}
 use Rattle.timers.specs.Outcome.{overloadOf, overloadDue, outcomeWith, outcomeOf, ordered, heardFreed}
-use Rattle.timers.specs.Calls.{startHead, startT1, startHellos, started}
-use Rattle.settings.specs.Settings.{every, some, circuitOk, lengthsOk, settingsOk, enabledLevels}
-use Rattle.common.specs.Common.{circuitOf, setupCommon}
-use Rattle.room_calls.specs.Seat.{keyOn, ifRoom, decided, kept, written, csnpsIn}
+use Rattle.timers.specs.Events.{startHead, startT1, startHellos, started}
+use Rattle.basics.specs.Lists.{every, some}
+use Rattle.settings.specs.Settings.{circuitOk, lengthsOk, settingsOk, enabledLevels}
+use Rattle.control.specs.Common.{circuitOf, setupCommon}
+use Rattle.room.specs.Accept.{ifRoom, decided, kept, written, csnpsIn}
 use Rattle.model.specs.Gateway.{numbered, renew, recordAt, newGateway, setup}
 use Rattle.model.specs.Receive.{refuse, accepted, settle, seated, checked, readIn, receive}
 use Rattle.model.specs.Step.{linkMetricOf, act, lift, on, noneOf, tickOf, judge, carry, step}
@@ -35,5 +35,5 @@ use Rattle.model.specs.SampleFrames.{taken, played, run}
 use Rattle.model.specs.SampleRuns.{SampleRuns}
 
 pub sample-runs : SampleRuns
-unfolding ones big hasBits octetsOf tlvs tlvsUp cutAt ofType loneFault unless counted without invalid needsNeighbor needsTime leastLength restartBad restartWith timeOf neighborOf restartOctets layoutOf notHello badLength threeWayBad threeWayLength stateOf identifiersOf reverseBad reverseOf linkFault earlier ruleFault tlvsRead pduRead layoutRead helloRead wrongSource wrongId wrongNeighbor linkStep keptUp stepOf planned lineOf dataBy acceptedBy lineIn reactOf csnpsOf sameKey find has full crowded replace insert put sweep firstState emptyRoom heldTo bitsOf within acknowledges heardTlv heardOf startEntry due helloDue tickT1 done satisfied acknowledged heardT1 freedBy startTimer startT2s anyT2 anyAfter cancelT2 cancelBoth expireT2 expireBoth spfDue lowerT3 heardT3 expiresT3 expiredT3 withT1s withT2s withT3 anyRuns noT1 atT1 tickT1s expireT2s waits cancelT2s tickT3 finish closed settled toT3 heardIn overloadOf overloadDue outcomeWith outcomeOf ordered heardFreed startHead startT1 startHellos started every some circuitOk lengthsOk settingsOk enabledLevels circuitOf setupCommon keyOn ifRoom decided kept written csnpsIn numbered renew recordAt newGateway setup refuse accepted settle seated checked readIn receive linkMetricOf act lift on noneOf tickOf judge carry step taken played run
+unfolding ones big hasBits octetsOf tlvs tlvsUp cutAt ofType loneFault unless counted without invalid needsNeighbor needsTime leastLength restartBad restartWith timeOf neighborOf restartOctets layoutOf notHello badLength threeWayBad threeWayLength stateOf identifiersOf reverseBad reverseOf linkFault earlier ruleFault tlvsRead pduRead layoutRead helloRead wrongSource wrongId wrongNeighbor linkStep keptUp stepOf planned lineOf dataBy acceptedBy lineIn reactOf csnpsOf sameKey find has full crowded replace insert put sweep firstState emptyRoom heldTo bitsOf acknowledges heardTlv heardOf startEntry due helloDue tickT1 done satisfied acknowledged heardT1 freedBy startTimer startT2s anyT2 anyAfter cancelT2 cancelBoth expireT2 expireBoth spfDue lowerT3 heardT3 expiresT3 expiredT3 withT1s withT2s withT3 anyRuns noT1 atT1 tickT1s expireT2s waits cancelT2s tickT3 finish closed settled toT3 heardIn overloadOf overloadDue outcomeWith outcomeOf ordered heardFreed startHead startT1 startHellos started every some circuitOk lengthsOk settingsOk enabledLevels circuitOf setupCommon keyOn ifRoom decided kept written csnpsIn numbered renew recordAt newGateway setup refuse accepted settle seated checked readIn receive linkMetricOf act lift on noneOf tickOf judge carry step taken played run
 sample-runs = (refl, refl, (refl, refl), refl, (refl, refl, refl))

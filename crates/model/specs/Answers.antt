@@ -5,15 +5,15 @@ use mathlib.Core.Bool.{Bool}
 use mathlib.Core.List.{List}
 use Rattle.restart_tlv.specs.Restart.{ackFlag}
 use Rattle.restart_tlv.specs.declared.flags.Flags.{Flags}
-use Rattle.hello.specs.Refusal.{refusalNo}
-use Rattle.hello.specs.declared.refusal.Refusal.{Refusal}
+use Rattle.basics.specs.Refusal.{refusalNo}
+use Rattle.basics.specs.declared.refusal.Refusal.{Refusal}
 use Rattle.adjacency.specs.declared.marks.Acknowledgement.{Acknowledgement}
 use Rattle.adjacency.specs.declared.marks.Acknowledgement.the-variants.{Nothing, Send}
 use Rattle.adjacency.specs.declared.record.Adjacency.{Adjacency}
 use Rattle.adjacency.specs.declared.record.Adjacency.the-variants.{Absent, Present}
-use Rattle.timer_parts.specs.Mask.{bits}
-use Rattle.timer_parts.specs.declared.mask.Lowest.{Lowest}
-use Rattle.timer_parts.specs.declared.mask.Lowest.the-variants.{Circuit, Nothing as NoCircuit}
+use Rattle.basics.specs.Mask.{bits}
+use Rattle.basics.specs.declared.mask.Lowest.{Lowest}
+use Rattle.basics.specs.declared.mask.Lowest.the-variants.{Circuit, Nothing as NoCircuit}
 use Rattle.timers.specs.declared.outcome.Outcome.{Outcome}
 use Rattle.model.specs.declared.answers.Orders.{Orders}
 use Rattle.model.specs.declared.answers.Received.{Received as ReceivedCode}

@@ -5,16 +5,16 @@ use mathlib.Core.Logic.{_≢_}
 use mathlib.Core.Bool.{Bool, true, false, cond, not, _&&_}
 use mathlib.Core.List.{List, [], _∷_}
 use lib.Dec.{eqb}
-use Rattle.hello.specs.Refusal.{refusalNo}
-use Rattle.hello.specs.declared.header.CircuitKind.{CircuitKind}
-use Rattle.hello.specs.declared.header.CircuitKind.the-variants.{Lan, P2p}
+use Rattle.basics.specs.Refusal.{refusalNo}
+use Rattle.basics.specs.declared.kind.CircuitKind.{CircuitKind}
+use Rattle.basics.specs.declared.kind.CircuitKind.the-variants.{Lan, P2p}
 use Rattle.adjacency.specs.declared.duty.Csnps.the-variants.{Nothing}
 use Rattle.adjacency.specs.declared.record.Key.{Key}
-use Rattle.timers.specs.declared.head.Mode.the-variants.{Running}
+use Rattle.settings.specs.declared.mode.Mode.the-variants.{Running}
 use Rattle.settings.specs.declared.setup.Settings.{Settings}
-use Rattle.common.specs.Common.{circuitOf}
-use Rattle.common.specs.declared.words.Chosen.{Chosen}
-use Rattle.common.specs.declared.words.Chosen.the-variants.{Known, Unknown}
+use Rattle.control.specs.Common.{circuitOf}
+use Rattle.settings.specs.declared.circuit.Chosen.{Chosen}
+use Rattle.settings.specs.declared.circuit.Chosen.the-variants.{Known, Unknown}
 use Rattle.model.specs.declared.answers.Orders.{Orders}
 use Rattle.model.specs.Answers.{Answer, Refused, Received, Ticked, Told, Done}
 use Rattle.model.specs.Gateway.{Gateway, Started, setup, renew, recordAt}

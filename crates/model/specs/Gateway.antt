@@ -3,17 +3,17 @@ use Prim.Native.Nat.{ℕ, zero, suc}
 use mathlib.Core.Bool.{Bool, cond}
 use mathlib.Core.List.{List, [], map}
 use lib.ListN.{getD, set}
-use Rattle.hello.specs.declared.refusal.Refusal.{Refusal}
-use Rattle.hello.specs.declared.refusal.Refusal.the-variants.{BadSetting}
+use Rattle.basics.specs.declared.refusal.Refusal.{Refusal}
+use Rattle.basics.specs.declared.refusal.Refusal.the-variants.{BadSetting}
 use Rattle.adjacency.specs.declared.record.Adjacency.{Adjacency}
 use Rattle.adjacency.specs.declared.record.Key.{Key}
-use Rattle.slots.specs.declared.slot.Slot.{Slot}
-use Rattle.table.specs.Table.{find, emptyRoom}
-use Rattle.timers.specs.Calls.{startHellos}
+use Rattle.adjacency.specs.declared.place.Slot.{Slot}
+use Rattle.room.specs.Table.{find, emptyRoom}
+use Rattle.timers.specs.Events.{startHellos}
 use Rattle.settings.specs.Settings.{settingsOk}
 use Rattle.settings.specs.declared.circuit.Circuit.{Circuit}
 use Rattle.settings.specs.declared.setup.Settings.{Settings}
-use Rattle.common.specs.Common.{Common, startOf, setupCommon}
+use Rattle.control.specs.Common.{Common, startOf, setupCommon}
 
 -- one circuit's own
 pub record Room : Type 0 where

@@ -9,8 +9,8 @@ use Rattle.hello.specs.Hello.{helloRead}
 use Rattle.hello.specs.declared.read.Hello.{Hello}
 use Rattle.hello.specs.declared.read.Read.{Read}
 use Rattle.hello.specs.declared.read.Read.the-variants.{Refused as Unread, Accepted as ReadAs}
-use Rattle.hello.specs.declared.refusal.Refusal.{Refusal}
-use Rattle.hello.specs.declared.refusal.Refusal.the-variants.{ReplyRoom, WrongSource}
+use Rattle.basics.specs.declared.refusal.Refusal.{Refusal}
+use Rattle.basics.specs.declared.refusal.Refusal.the-variants.{ReplyRoom, WrongSource}
 use Rattle.adjacency.specs.Step.{wrongSource}
 use Rattle.adjacency.specs.declared.duty.Rank.{Rank}
 use Rattle.adjacency.specs.declared.marks.Acknowledgement.{Acknowledgement}
@@ -23,10 +23,12 @@ use Rattle.adjacency.specs.declared.step.Here.{Here}
 use Rattle.timer_parts.specs.Heard.{heardOf}
 use Rattle.timer_parts.specs.declared.heard.Heard.{Heard}
 use Rattle.timers.specs.Timers.{heardIn, heard}
-use Rattle.timers.specs.Outcome.{isRunning, ordered, heardFreed}
+use Rattle.settings.specs.Mode.{isRunning}
+use Rattle.timers.specs.Outcome.{ordered, heardFreed}
 use Rattle.settings.specs.declared.circuit.Circuit.{Circuit}
-use Rattle.common.specs.Common.{Common, withTimers}
-use Rattle.room_calls.specs.Seat.{levelIn, keyIn, decided, kept, written, csnpsIn}
+use Rattle.control.specs.Common.{Common, withTimers}
+use Rattle.adjacency.specs.Keys.{levelIn, keyIn}
+use Rattle.room.specs.Accept.{decided, kept, written, csnpsIn}
 use Rattle.model.specs.declared.answers.Orders.{Orders}
 use Rattle.model.specs.Answers.{Answer, Refused, Received}
 use Rattle.model.specs.Gateway.{Room, withSlots}

@@ -4,9 +4,9 @@ use Prim.Native.Nat.{ℕ, _+_}
 use mathlib.Core.Bool.{true}
 use mathlib.Core.List.{List, [], _∷_}
 use lib.ListN.{length, replicate}
-use Rattle.hello.specs.declared.header.CircuitKind.the-variants.{P2p}
-use Rattle.hello.specs.declared.levels.Levels.{Levels}
-use Rattle.timers.specs.declared.head.Mode.{Mode}
+use Rattle.basics.specs.declared.kind.CircuitKind.the-variants.{P2p}
+use Rattle.basics.specs.declared.levels.Levels.{Levels}
+use Rattle.settings.specs.declared.mode.Mode.{Mode}
 use Rattle.settings.specs.declared.circuit.Circuit.{Circuit}
 use Rattle.settings.specs.declared.setup.Settings.{Settings}
 use Rattle.model.specs.Gateway.{Gateway, Setup, Declined, Started}

@@ -7,7 +7,7 @@ use mathlib.Core.Path.{_≡_}
 use mathlib.Core.List.{List, [], _∷_, _++_, map}
 use lib.ListN.{replicate}
 use Rattle.restart_tlv.specs.declared.writer.Ack.the-variants.{Restart as RA, Planned as PA}
-use Rattle.hello.specs.declared.refusal.Refusal.the-variants.{BadTlv}
+use Rattle.basics.specs.declared.refusal.Refusal.the-variants.{BadTlv}
 use Rattle.hello.specs.declared.reverse.ReverseMetric.the-variants.{Absent as NoMetric}
 use Rattle.adjacency.specs.declared.duty.Csnps.{Csnps}
 use Rattle.adjacency.specs.declared.duty.Csnps.the-variants.{Nothing as NoCsnps, Ordered}
@@ -23,7 +23,7 @@ use Rattle.adjacency.specs.declared.record.State.the-variants.{Init, Up}
 use Rattle.timer_parts.specs.declared.t1.Freed.the-variants.{Kept}
 use Rattle.timer_parts.specs.declared.t3.T3.{T3}
 use Rattle.timer_parts.specs.declared.t3.T3.the-variants.{Runs}
-use Rattle.timers.specs.declared.head.Mode.the-variants.{Running, Restarting}
+use Rattle.settings.specs.declared.mode.Mode.the-variants.{Running, Restarting}
 use Rattle.timers.specs.declared.outcome.Outcome.{Outcome as Timed}
 use Rattle.timers.specs.declared.outcome.Outcome.the-variants.{Idle, Goes}
 use Rattle.timers.specs.declared.outcome.Overload.the-variants.{Quiet}

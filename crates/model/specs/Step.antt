@@ -5,28 +5,28 @@ use mathlib.Core.Bool.{Bool, true, false, cond}
 use mathlib.Core.List.{List, [], _∷_, map}
 use lib.ListN.{getD, replicate}
 use lib.Dec.{ltb}
-use Rattle.hello.specs.declared.header.CircuitKind.{CircuitKind}
-use Rattle.hello.specs.declared.header.CircuitKind.the-variants.{Lan, P2p}
-use Rattle.hello.specs.declared.levels.Levels.{Levels}
-use Rattle.hello.specs.declared.refusal.Refusal.{Refusal}
-use Rattle.hello.specs.declared.refusal.Refusal.the-variants.{NoCircuit, ClockBack, NotRestarting}
-use Rattle.adjacency.specs.Step.{hasLevel}
-use Rattle.adjacency.specs.Duty.{onlyLevel}
+use Rattle.basics.specs.declared.kind.CircuitKind.{CircuitKind}
+use Rattle.basics.specs.declared.kind.CircuitKind.the-variants.{Lan, P2p}
+use Rattle.basics.specs.declared.levels.Levels.{Levels}
+use Rattle.basics.specs.declared.refusal.Refusal.{Refusal}
+use Rattle.basics.specs.declared.refusal.Refusal.the-variants.{NoCircuit, ClockBack, NotRestarting}
+use Rattle.basics.specs.Levels.{hasLevel, onlyLevel}
 use Rattle.adjacency.specs.declared.record.Key.{Key}
-use Rattle.table.specs.Table.{find, released, expired, anyExpired, firstState}
+use Rattle.room.specs.Table.{find, released, expired, anyExpired, firstState}
 use Rattle.metric.specs.Metric.{linkMetric}
-use Rattle.timer_parts.specs.Mask.{circuits}
+use Rattle.basics.specs.Mask.{circuits}
 use Rattle.timer_parts.specs.T1.{helloFlags}
-use Rattle.timers.specs.Timers.{Timers, inMode, settled, ticked, toT3, csnpIn, noticeT2s, noT1, countRuns, firstRuns}
+use Rattle.timers.specs.Timers.{Timers, settled, ticked, toT3, csnpIn, noticeT2s, noT1, countRuns, firstRuns}
+use Rattle.settings.specs.Mode.{inMode}
 use Rattle.timers.specs.Outcome.{ordered, tickHellos}
 use Rattle.timers.specs.declared.outcome.Outcome.{Outcome as Timed}
 use Rattle.timers.specs.declared.outcome.Outcome.the-variants.{Idle}
 use Rattle.settings.specs.Settings.{enabledLevels}
 use Rattle.settings.specs.declared.circuit.Circuit.{Circuit}
-use Rattle.common.specs.Common.{Common, withClock, withTimers, circuitOf}
-use Rattle.common.specs.declared.words.Chosen.{Chosen}
-use Rattle.common.specs.declared.words.Chosen.the-variants.{Known, Unknown}
-use Rattle.room_calls.specs.Seat.{keyOn}
+use Rattle.control.specs.Common.{Common, withClock, withTimers, circuitOf}
+use Rattle.settings.specs.declared.circuit.Chosen.{Chosen}
+use Rattle.settings.specs.declared.circuit.Chosen.the-variants.{Known, Unknown}
+use Rattle.adjacency.specs.Keys.{keyOn}
 use Rattle.model.specs.Answers.{Answer, Refused, Ticked, Told, Fact, Done, Noticed, Looked, Metric, HelloFlags, Waits}
 use Rattle.model.specs.Gateway.{Room, Gateway, withSlots, roomOf, renew}
 use Rattle.model.specs.Receive.{Acted, refuse, receive}

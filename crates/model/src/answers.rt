@@ -3,9 +3,9 @@
 use adjacency::duty::Csnps;
 use adjacency::marks::Acknowledgement;
 use adjacency::record::State;
-use hello::refusal::Refusal;
+use basics::mask::Lowest;
+use basics::refusal::Refusal;
 use restart_tlv::flags::Flags;
-use timer_parts::mask::Lowest;
 use timer_parts::t1::Freed;
 use timers::outcome::Outcome;
 

@@ -10,9 +10,9 @@ use native.Mathlib.Nat.{add-zero, pow-zero, pow-suc, not-suc-le-zero, le-of-suc-
 use lib.Arith.{le-zero}
 use lib.Dec.{eqb, ltb}
 use borrow.Author.Tests.{eq-eqb, ne-eqb, eqb-true, eqb-false, ltb-true, ltb-false}
-use Rattle.tlv.specs.Octets.{octet, big, little}
-use Rattle.tlv.proofs.BoolLaws.{by-test}
-use Rattle.tlv.proofs.OctetsLaws.{big-mod, big-div, big-lt}
+use Rattle.basics.specs.Octets.{octet, big, little}
+use Rattle.basics.proofs.BoolLaws.{by-test}
+use Rattle.basics.proofs.OctetsLaws.{big-mod, big-div, big-lt}
 use Rattle.neighbours.specs.Neighbours.{listedTo}
 use Rattle.neighbours.specs.Search.{digit, turned, fourAt}
 

@@ -5,7 +5,7 @@ use mathlib.Core.List.{List}
 use mathlib.Core.Bool.{Bool, false, _||_}
 use lib.ListN.{length}
 use lib.Dec.{eqb}
-use Rattle.tlv.specs.Octets.{big}
+use Rattle.basics.specs.Octets.{big}
 
 -- the MAC m is among the first n of the value v
 unfoldable pub listedTo : ℕ → List ℕ → ℕ → Bool

@@ -4,7 +4,7 @@ use mathlib.Core.Path.{_≡_}
 use mathlib.Core.List.{List}
 use mathlib.Core.Bool.{Bool, _||_}
 use lib.Dec.{eqb}
-use Rattle.tlv.specs.Octets.{big}
+use Rattle.basics.specs.Octets.{big}
 
 -- octet k of a number, the lowest being octet 0
 unfoldable pub digit : ℕ → ℕ → ℕ

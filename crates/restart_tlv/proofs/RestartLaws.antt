@@ -11,9 +11,9 @@ use Rattle.restart_tlv.proofs.reader.RestartTlv.{the-type}
 use lib.ListN.{length}
 use lib.Dec.{ltb, leb}
 use borrow.Author.Tests.{ltb-false, leb-true}
-use Rattle.tlv.specs.Octets.{octet, hasBits}
+use Rattle.basics.specs.Octets.{octet, hasBits}
 use Rattle.tlv.specs.Tlv.{Tlv, firstValue, isFound}
-use Rattle.tlv.proofs.BoolLaws.{neither, by-test, all-below}
+use Rattle.basics.proofs.BoolLaws.{neither, by-test, all-below}
 use Rattle.tlv.proofs.TlvLaws.{byCount, lone-read, unless-is-bad, unless-is-good}
 use Rattle.restart_tlv.specs.Flags.{PR, counted, without, needsNeighbor, needsTime}
 use Rattle.restart_tlv.specs.Restart.{leastLength, restartBad, restartFault, restartIn, restartOf, restartRead}

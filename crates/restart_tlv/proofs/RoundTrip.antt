@@ -3,9 +3,9 @@ use Prim.Native.Nat.{ℕ, _^_, _<_}
 use mathlib.Core.Path.{_≡_}
 use mathlib.Core.List.{[], _∷_, _++_}
 use lib.Count.{ones, onesIn}
-use Rattle.tlv.specs.Octets.{big, octetsOf, hasBits}
+use Rattle.basics.specs.Octets.{big, octetsOf, hasBits}
 use Rattle.tlv.specs.Tlv.{tlvs, tlvsUp, ofType, loneFault, unless}
-use Rattle.tlv.proofs.OctetsLaws.{big-octetsOf}
+use Rattle.basics.proofs.OctetsLaws.{big-octetsOf}
 use Rattle.restart_tlv.specs.Flags.{RA, PA, counted, without, invalid, needsNeighbor, needsTime}
 use Rattle.restart_tlv.specs.Restart.{ackFlag, restartOctets, restartRead, restartBad, leastLength, restartWith, timeOf, neighborOf}
 use Rattle.restart_tlv.specs.declared.writer.Ack.{Ack}

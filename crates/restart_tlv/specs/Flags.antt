@@ -4,7 +4,7 @@ use mathlib.Core.Bool.{Bool, not, cond, _||_, _&&_}
 use lib.Dec.{ltb, eqb}
 use lib.Bits.{bitAnd, bitOr}
 use lib.Count.{ones}
-use Rattle.tlv.specs.Octets.{hasBits}
+use Rattle.basics.specs.Octets.{hasBits}
 
 -- RFC 8706, 3.2: Restart Request, Restart Acknowledgement, Suppress adjacency advertisement, Restart is planned, Planned
 -- restart acknowledgement

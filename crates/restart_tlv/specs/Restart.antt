@@ -4,7 +4,7 @@ use mathlib.Core.List.{List, [], _∷_, _++_}
 use mathlib.Core.Bool.{Bool, cond, _||_}
 use lib.ListN.{length}
 use lib.Dec.{ltb}
-use Rattle.tlv.specs.Octets.{octet, big, hasBits, octetsOf}
+use Rattle.basics.specs.Octets.{octet, big, hasBits, octetsOf}
 use Rattle.tlv.specs.Tlv.{Tlv, loneFault, unless}
 use Rattle.tlv.specs.declared.tlvs.Found.{Found}
 use Rattle.restart_tlv.specs.Flags.{RA, PA, PR, counted, invalid, needsNeighbor, needsTime}

@@ -1,7 +1,7 @@
 // The flags of the Restart TLV (RFC 8706, 3.2; document 01, "TLVs read"): a set, built and tested here alone.
-use tlv::octets::has_bits;
+use basics::octets::has_bits;
 ghost use mathlib.Core.Path.{_≡_};
-ghost use Rattle.tlv.specs.Octets.{hasBits};
+ghost use Rattle.basics.specs.Octets.{hasBits};
 ghost use Rattle.restart_tlv.specs.Flags.{without, counted, invalid, needsNeighbor, needsTime};
 ghost use lib.Bits.{bitOr};
 

@@ -3,8 +3,8 @@
 //   octet  1      2-3             4-9
 //          flags  Remaining Time  Restarting Neighbor System ID
 use crate::flags::Flags;
-use tlv::octets::six;
-use tlv::octets::two;
+use basics::octets::six;
+use basics::octets::two;
 use tlv::tlvs::RESTART;
 use tlv::tlvs::value_of;
 ghost use mathlib.Core.Path.{_≡_};

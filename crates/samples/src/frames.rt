@@ -1,11 +1,11 @@
 // The hello frames of the sample runs, and a gateway to take them: one circuit, own System ID 1921.6800.1001, neighbour 1921.6800.1002.
+use basics::kind::CircuitKind;
+use basics::levels::Levels;
 use gateway::calls::set_up;
 use gateway::config::CircuitSettings;
 use gateway::config::GatewaySettings;
-use hello::header::CircuitKind;
-use hello::levels::Levels;
-use timer_parts::t1::Lengths;
-use timers::head::Mode;
+use settings::lengths::Lengths;
+use settings::mode::Mode;
 
 pub const OWN: [u8; 6] = [0x19, 0x21, 0x68, 0x00, 0x10, 0x01];
 

@@ -6,10 +6,10 @@ use crate::frames::start;
 use crate::show::cell;
 use crate::show::metric;
 use crate::show::text;
+use basics::kind::CircuitKind;
 use gateway::calls::link_metric;
 use gateway::calls::receive;
-use hello::header::CircuitKind;
-use timers::head::Mode;
+use settings::mode::Mode;
 
 fn row(name: &[u8], what: &[u8], configured: u32, frame: &[u8]) {
     let mut gateway = [0u64; 640];

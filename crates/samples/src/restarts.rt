@@ -8,11 +8,11 @@ use crate::show::looked;
 use crate::show::number_cell;
 use crate::show::received;
 use crate::show::text;
+use basics::kind::CircuitKind;
 use gateway::calls::look_up;
 use gateway::calls::receive;
 use gateway::calls::tick;
-use hello::header::CircuitKind;
-use timers::head::Mode;
+use settings::mode::Mode;
 
 // A tick to the clock, then the frame; the record afterwards, and the answer.
 fn row(

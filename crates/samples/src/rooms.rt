@@ -4,11 +4,11 @@ use crate::frames::start;
 use crate::show::cell;
 use crate::show::text;
 use crate::show::verdict;
+use basics::kind::CircuitKind;
 use gateway::calls::receive;
 use gateway::calls::tick;
-use hello::header::CircuitKind;
 use model::answers::Received;
-use timers::head::Mode;
+use settings::mode::Mode;
 
 fn send(gateway: &mut [u64; 640], router: u8, hold: u8) -> Received {
     let mut reply = [0u8; 11];

@@ -7,9 +7,9 @@ use crate::frames::start;
 use crate::show::cell;
 use crate::show::text;
 use crate::show::verdict;
+use basics::kind::CircuitKind;
 use gateway::calls::receive;
-use hello::header::CircuitKind;
-use timers::head::Mode;
+use settings::mode::Mode;
 
 fn row(gateway: &mut [u64; 640], name: &[u8], what: &[u8], frame: &[u8]) {
     let mut reply = [0u8; 11];

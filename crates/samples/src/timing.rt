@@ -6,11 +6,11 @@ use crate::frames::start;
 use crate::show::cell;
 use crate::show::number;
 use crate::show::text;
+use basics::kind::CircuitKind;
 use gateway::calls::receive;
 use gateway::calls::tick;
-use hello::header::CircuitKind;
 use model::answers::Ticked;
-use timers::head::Mode;
+use settings::mode::Mode;
 use timers::outcome::Outcome;
 use timers::outcome::Overload;
 

@@ -1,30 +1,19 @@
 -- Which settings are in range (document 01, "What the gateway holds": "A setting outside its range is refused (12) and no gateway
 -- results."), and which levels are enabled.
 use Prim.Native.Nat.{ℕ}
-use mathlib.Core.Bool.{Bool, true, false, _&&_, _||_}
-use mathlib.Core.List.{List, [], _∷_}
+use mathlib.Core.Bool.{Bool, _&&_}
+use mathlib.Core.List.{List}
 use lib.Dec.{leb}
 use lib.ListN.{take}
-use Rattle.hello.specs.declared.levels.Levels.{Levels}
-use Rattle.timer_parts.specs.Levels.{isOn, levelsWith, someLevel}
-use Rattle.timer_parts.specs.declared.t1.Lengths.{Lengths}
+use Rattle.basics.specs.Lists.{every, some}
+use Rattle.basics.specs.declared.levels.Levels.{Levels}
+use Rattle.basics.specs.Levels.{isOn, levelsWith, someOn}
+use Rattle.settings.specs.declared.lengths.Lengths.{Lengths}
 use Rattle.settings.specs.declared.circuit.Circuit.{Circuit}
 use Rattle.settings.specs.declared.setup.Settings.{Settings}
 
 abbrev pub between : ℕ → ℕ → ℕ → Bool
 between low n high = leb low n && leb n high
-
-unfoldable pub every : {A : Type 0} → (A → Bool) → List A → Bool
-every p [] = true
-every p (x ∷ xs) = p x && every p xs
-
-unfoldable pub some : {A : Type 0} → (A → Bool) → List A → Bool
-some p [] = false
-some p (x ∷ xs) = p x || some p xs
-
--- "enabled levels (1, 2 or both)"
-abbrev pub someOn : Levels → Bool
-someOn l = someLevel (λ k. isOn k l)
 
 -- ".. priority (0 to 127), configured holding time (1 to 65,535 s), configured wide metric (0 to 16,777,214)", of a LAN and of P2P
 unfoldable pub circuitOk : Circuit → Bool

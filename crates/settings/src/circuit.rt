@@ -1,9 +1,10 @@
 // One circuit's settings (document 01, "What the gateway holds").
-use hello::header::CircuitKind;
-use hello::levels::Levels;
+use basics::kind::CircuitKind;
+use basics::levels::Levels;
+use basics::levels::some_on;
 ghost use mathlib.Core.Path.{_≡_};
 ghost use mathlib.Core.Bool.{_&&_};
-ghost use Rattle.settings.specs.Settings.{between, someOn, circuitOk};
+ghost use Rattle.settings.specs.Settings.{between, circuitOk};
 
 pub const MAX_PRIORITY: u32 = 127;
 
@@ -22,6 +23,12 @@ pub struct Circuit {
     pub id: u32,
 }
 
+// The circuit of a number.
+pub enum Chosen {
+    Known(Circuit),
+    Unknown,
+}
+
 pub fn is_between(low: u32, n: u32, high: u32) -> bool
     ensures { λ r. ⌜ r ≡ between low n high ⌝ }
 {
@@ -29,17 +36,6 @@ pub fn is_between(low: u32, n: u32, high: u32) -> bool
         return n <= high;
     }
     false
-}
-
-fn some_on(levels: Levels) -> bool
-    ensures { λ r. ⌜ r ≡ someOn levels ⌝ }
-{
-    let one = levels.one;
-    let two = levels.two;
-    if one {
-        return true;
-    }
-    two
 }
 
 pub fn both(a: bool, b: bool) -> bool

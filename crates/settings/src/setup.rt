@@ -3,12 +3,13 @@ use crate::circuit::Circuit;
 use crate::circuit::both;
 use crate::circuit::is_between;
 use crate::circuit::is_circuit_ok;
-use timer_parts::t1::Lengths;
-use timers::head::Mode;
+use crate::lengths::Lengths;
+use crate::mode::Mode;
 ghost use mathlib.Core.Path.{_≡_};
 ghost use Prim.Native.Nat.{_≤_};
 ghost use lib.ListN.{take};
-ghost use Rattle.settings.specs.Settings.{every, circuitOk, lengthsOk, settingsOk};
+ghost use Rattle.basics.specs.Lists.{every};
+ghost use Rattle.settings.specs.Settings.{circuitOk, lengthsOk, settingsOk};
 
 pub const MAX_CIRCUITS: u32 = 8;
 

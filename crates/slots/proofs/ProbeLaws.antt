@@ -7,7 +7,7 @@ use mathlib.Core.List.{List}
 use lib.ListN.{getD}
 use lib.Dec.{eqb, leb}
 use borrow.Author.Tests.{eq-eqb, ne-eqb, eqb-true, eqb-false, le-leb, lt-leb}
-use Rattle.tlv.proofs.BoolLaws.{by-test}
+use Rattle.basics.proofs.BoolLaws.{by-test, and-false, and-true}
 use Rattle.adjacency.specs.Record.{expiryOf}
 use Rattle.adjacency.specs.Duty.{outranks}
 use Rattle.adjacency.specs.declared.duty.Rank.{Rank}
@@ -17,18 +17,12 @@ use Rattle.adjacency.specs.declared.record.State.the-variants.{Init, Up}
 use Rattle.adjacency.specs.declared.record.Key.{Key}
 use Rattle.adjacency.specs.declared.record.Record.{Record}
 use Rattle.slots.specs.Word.{stateAt, dataAt, markAt}
-use Rattle.slots.specs.Slots.{tableOf, heldWord, isFree, isHeld, sameKey, meets, expiredBy, dueAt, marksPlanned, plannedState, outrankedAt}
-use Rattle.slots.specs.declared.slot.Slot.{Slot}
-use Rattle.slots.specs.declared.slot.Slot.the-variants.{Free, Held, Closed}
+use Rattle.slots.specs.Slots.{tableOf, heldWord, dueAt}
+use Rattle.adjacency.specs.Place.{isFree, isHeld, meets, expiredBy, marksPlanned, plannedState, outrankedAt}
+use Rattle.adjacency.specs.Keys.{sameKey}
+use Rattle.adjacency.specs.declared.place.Slot.{Slot}
+use Rattle.adjacency.specs.declared.place.Slot.the-variants.{Free, Held, Closed}
 use Rattle.slots.proofs.SlotLaws.{table-at}
-
-and-false : (a : Bool) → a && false ≡ false
-and-false true = refl
-and-false false = refl
-
-and-true : (a : Bool) → a && true ≡ a
-and-true true = refl
-and-true false = refl
 
 -- a question about a record, false of a place that holds none
 told-by : (a b : Bool) (r : Record) (f : Slot → Bool) → f Free ≡ false → f Closed ≡ false

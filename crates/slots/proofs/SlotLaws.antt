@@ -1,5 +1,5 @@
 -- A place's words: what is stored is read back, and the other places stay. Every store's proof cites `stored`.
-use Prim.Native.Nat.{ℕ, zero, suc, _+_, _*_, _/_, _%_, _<_}
+use Prim.Native.Nat.{ℕ, _+_, _*_, _/_, _%_, _<_}
 use native.Mathlib.Omega.{arith}
 use mathlib.Core.Path.{_≡_, refl, ap, _∙_}
 use mathlib.Core.Bool.{false}
@@ -10,15 +10,17 @@ use lib.Seq.{getD-set-same, getD-set-other}
 use types.Run.{OneOf}
 use denote.Enum.Declared.{tagOf}
 use borrow.Author.Tests.{eq-eqb, ne-eqb}
-use Rattle.slots.proofs.slot.Slot.{the-type}
+use Rattle.basics.proofs.ListLaws.{length-tabulate, getD-tabulate, tabulate-set}
+use Rattle.adjacency.proofs.place.Slot.{the-type}
 use Rattle.adjacency.specs.Record.{expiryOf}
 use Rattle.adjacency.specs.declared.record.State.{State}
 use Rattle.adjacency.specs.declared.record.State.the-variants.{Init, Up}
 use Rattle.adjacency.specs.declared.record.Record.{Record}
 use Rattle.slots.specs.Word.{stateWord, markWord, dataWord, FitState}
-use Rattle.slots.specs.Slots.{slotOf, slotAt, tabulate, tableOf, recordWord, FitRecord, isHeld}
-use Rattle.slots.specs.declared.slot.Slot.{Slot}
-use Rattle.slots.specs.declared.slot.Slot.the-variants.{Free, Held, Closed}
+use Rattle.slots.specs.Slots.{slotOf, slotAt, tableOf, recordWord, FitRecord}
+use Rattle.adjacency.specs.Place.{isHeld}
+use Rattle.adjacency.specs.declared.place.Slot.{Slot}
+use Rattle.adjacency.specs.declared.place.Slot.the-variants.{Free, Held, Closed}
 use Rattle.slots.proofs.WordLaws.{data-digits, data-back, mark-le, mark-back, mark-low}
 
 -- what is packed is read back
@@ -48,37 +50,6 @@ reads-back system mac l (Up d m) hl f =
       mark-back m w (h .low),
       h .level,
     )
-
-module _ {A : Type 0} where
-  pub tabulate-same : (f g : ℕ → A) (n : ℕ) → ((j : ℕ) → j < n → f j ≡ g j) → tabulate f n ≡ tabulate g n
-  tabulate-same f g zero h = refl
-  tabulate-same f g (suc n) h =
-      cc (h zero (omega arith), tabulate-same (λ i. f (suc i)) (λ i. g (suc i)) n (λ j lt. h (suc j) (omega arith)))
-
-  pub length-tabulate : (f : ℕ → A) (n : ℕ) → length (tabulate f n) ≡ n
-  length-tabulate f zero = refl
-  length-tabulate f (suc n) = ap suc (length-tabulate (λ i. f (suc i)) n)
-
-  pub getD-tabulate : (f : ℕ → A) (n i : ℕ) (d : A) → i < n → getD (tabulate f n) i d ≡ f i
-  getD-tabulate f zero i d lt = absurd (omega arith)
-  getD-tabulate f (suc n) zero d lt = refl
-  getD-tabulate f (suc n) (suc i) d lt = getD-tabulate (λ i. f (suc i)) n i d (omega arith)
-
-  -- a function changed at one place
-  pub tabulate-set : (f g : ℕ → A) (n i : ℕ) (v : A) → i < n → f i ≡ v → ((j : ℕ) → j < n → (j ≡ i → ⊥) → f j ≡ g j)
-      → tabulate f n ≡ set (tabulate g n) i v
-  tabulate-set f g zero i v lt e h = absurd (omega arith)
-  tabulate-set f g (suc n) zero v lt e h =
-      cc (
-        e,
-        tabulate-same (λ i. f (suc i)) (λ i. g (suc i)) n (λ j lt. h (suc j) (omega arith) (λ (z : suc j ≡ 0). omega arith)),
-      )
-  tabulate-set f g (suc n) (suc i) v lt e h =
-      cc (
-        h zero (omega arith) (λ (z : 0 ≡ suc i). omega arith),
-        tabulate-set (λ i. f (suc i)) (λ i. g (suc i)) n i v (omega arith) e
-            (λ j lj ne. h (suc j) (omega arith) (λ (z : suc j ≡ suc i). ne (omega arith))),
-      )
 
 pub length-table : (ws : List ℕ) → length (tableOf ws) ≡ 16
 unfolding tableOf

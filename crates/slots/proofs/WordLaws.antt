@@ -2,23 +2,16 @@
 use Prim.Native.Nat.{ℕ, _+_, _*_, _/_, _%_, _<_, _≤_}
 use native.Mathlib.Omega.{arith}
 use mathlib.Core.Path.{_≡_}
-use mathlib.Core.Bool.{Bool, true, false}
-use lib.Dec.{eqb}
+use mathlib.Core.Bool.{Bool}
 use borrow.Author.Tests.{eq-eqb, ne-eqb}
+use Rattle.basics.proofs.BitLaws.{bit-le, bit-back}
 use Rattle.hello.specs.declared.reverse.ReverseMetric.{ReverseMetric}
 use Rattle.hello.specs.declared.reverse.ReverseMetric.the-variants.{Absent, Present}
 use Rattle.adjacency.specs.declared.record.Mark.{Mark}
 use Rattle.adjacency.specs.declared.record.Mark.the-variants.{Clear, Restart, Planned}
 use Rattle.adjacency.specs.declared.record.Data.{Data}
-use Rattle.slots.specs.Word.{bitOf, reverseAt, dataAt, markAt, reverseWord, dataWord, markWord, FitReverse, FitData}
-
-bit-le : (b : Bool) → bitOf b ≤ 1
-bit-le true = omega arith
-bit-le false = omega arith
-
-bit-back : (n : ℕ) (b : Bool) → n ≡ bitOf b → eqb n 1 ≡ b
-bit-back n true e = eq-eqb _ _ e
-bit-back n false e = ne-eqb _ _ (λ (h : n ≡ 1). omega arith)
+use Rattle.basics.specs.Bits.{bitOf}
+use Rattle.slots.specs.Word.{reverseAt, dataAt, markAt, reverseWord, dataWord, markWord, FitReverse, FitData}
 
 -- the digits of a word: x the tag and the mark, then the bits, the level, the priority and the reverse metric
 pub record Digits (x s t l p : ℕ) (v : ReverseMetric) (w : ℕ) : Type 0 where

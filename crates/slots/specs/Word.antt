@@ -1,7 +1,8 @@
 -- The word of a record's small fields (house): what any word means, and the word that a state is stored as.
 use Prim.Native.Nat.{ℕ, _+_, _*_, _/_, _%_, _<_}
-use mathlib.Core.Bool.{Bool, true, false, cond}
+use mathlib.Core.Bool.{cond}
 use lib.Dec.{eqb}
+use Rattle.basics.specs.Bits.{bitOf}
 use Rattle.hello.specs.declared.reverse.ReverseMetric.{ReverseMetric}
 use Rattle.hello.specs.declared.reverse.ReverseMetric.the-variants.{Absent, Present}
 use Rattle.adjacency.specs.declared.record.Mark.{Mark}
@@ -31,10 +32,6 @@ abbrev pub stateAt : ℕ → ℕ → State
 stateAt expiry w = cond (eqb (w % 4) 1) (Init (dataAt expiry w)) (Up (dataAt expiry w) (markAt w))
 
 -- the word of a state
-
-abbrev pub bitOf : Bool → ℕ
-bitOf true = 1
-bitOf false = 0
 
 abbrev pub reverseWord : ReverseMetric → ℕ
 reverseWord Absent = 0

@@ -1,14 +1,15 @@
 // Questions about a place of the table, answered from the words they concern: no record is decoded but where its rank is compared.
-use crate::slot::Slot;
 use crate::slot::load;
 use adjacency::duty::Rank;
 use adjacency::duty::is_outranked_by;
+use adjacency::place::Slot;
 use adjacency::record::Key;
 ghost use mathlib.Core.Path.{_≡_};
 ghost use Prim.Native.Nat.{_+_, _*_, _<_};
 ghost use lib.ListN.{length, getD};
-ghost use Rattle.slots.specs.Slots.{tableOf, heldWord, isHeld, isFree, hasKey, meets, expiredBy, dueAt, plannedState, outrankedAt};
-ghost use Rattle.slots.specs.declared.slot.Slot.the-variants.{Free};
+ghost use Rattle.slots.specs.Slots.{tableOf, heldWord, dueAt};
+ghost use Rattle.adjacency.specs.Place.{isHeld, isFree, hasKey, meets, expiredBy, plannedState, outrankedAt};
+ghost use Rattle.adjacency.specs.declared.place.Slot.the-variants.{Free};
 
 // The tag is INIT or UP.
 fn is_held_word(w: u64) -> bool

@@ -2,6 +2,7 @@
 use crate::word::data_at;
 use crate::word::mark_at;
 use crate::word::state_word;
+use adjacency::place::Slot;
 use adjacency::record::Key;
 use adjacency::record::Record;
 use adjacency::record::State;
@@ -10,13 +11,6 @@ ghost use mathlib.Core.Path.{_≡_};
 ghost use Prim.Native.Nat.{_+_, _*_, _<_};
 ghost use lib.ListN.{length, getD, set};
 ghost use Rattle.slots.specs.Slots.{slotOf, tableOf, recordWord, FitRecord};
-
-// A place of a circuit's room: no record, a record, or a place that the circuit does not have (a P2P circuit has room for one).
-pub enum Slot {
-    Free,
-    Held(Record),
-    Closed,
-}
 
 fn slot_of(system: u64, mac: u64, expiry: u64, w: u64) -> Slot
     ensures { λ r. ⌜ r ≡ slotOf system mac expiry w ⌝ }

@@ -8,10 +8,11 @@ use adjacency::record::Data;
 use adjacency::record::Last;
 use adjacency::record::Mark;
 use adjacency::record::State;
+use basics::bits::digit;
 use hello::reverse::ReverseMetric;
 ghost use mathlib.Core.Path.{_≡_};
 ghost use Prim.Native.Nat.{_+_, _*_, _≤_};
-ghost use Rattle.slots.specs.Word.{bitOf, reverseAt, lastAt, dataAt, markAt, reverseWord, lastWord, dataWord, markWord, stateWord, FitReverse, FitLast, FitData, FitState};
+ghost use Rattle.slots.specs.Word.{reverseAt, lastAt, dataAt, markAt, reverseWord, lastWord, dataWord, markWord, stateWord, FitReverse, FitLast, FitData, FitState};
 
 fn reverse_at(w: u64) -> ReverseMetric
     ensures { λ r. ⌜ r ≡ reverseAt w ⌝ }
@@ -61,13 +62,6 @@ pub fn mark_at(w: u64) -> Mark
     Mark::Planned
 }
 
-fn bit(b: bool) -> u64
-    ensures { λ r. ⌜ r ≡ bitOf b ⌝ }
-    ensures { λ r. ⌜ r ≤ 1 ⌝ }
-{
-    if b { 1 } else { 0 }
-}
-
 // Each packing function also says that its argument fits the bits it is given, and bounds the word.
 fn reverse_word(reverse: ReverseMetric) -> u64
     ensures { λ r. ⌜ r ≡ reverseWord reverse ⌝ }
@@ -81,8 +75,8 @@ fn reverse_word(reverse: ReverseMetric) -> u64
             whole,
             unreachable,
         } => 64
-            + 16777216 * bit(whole)
-            + 33554432 * bit(unreachable)
+            + 16777216 * digit(whole)
+            + 33554432 * digit(unreachable)
             + 4294967296 * (offset as u64),
     }
 }
@@ -93,7 +87,7 @@ fn last_word(last: Last) -> u64
     ensures { λ r. ⌜ r ≤ 32 + 64 + 65536 * 255 + 16777216 + 33554432 + 4294967296 * 4294967295 ⌝ }
 {
     let reverse = last.reverse;
-    reverse_word(reverse) + 32 * bit(last.tlv) + 65536 * (last.priority as u64)
+    reverse_word(reverse) + 32 * digit(last.tlv) + 65536 * (last.priority as u64)
 }
 
 fn data_word(kept: Data) -> u64
@@ -102,7 +96,7 @@ fn data_word(kept: Data) -> u64
     ensures { λ r. ⌜ r ≤ 16 + 32 + 64 + 65536 * 255 + 16777216 + 33554432 + 4294967296 * 4294967295 ⌝ }
 {
     let last = kept.last;
-    last_word(last) + 16 * bit(kept.suppressed)
+    last_word(last) + 16 * digit(kept.suppressed)
 }
 
 fn mark_word(mark: Mark) -> u64

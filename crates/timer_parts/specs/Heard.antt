@@ -2,7 +2,7 @@
 use Prim.Native.Nat.{ℕ}
 use mathlib.Core.Bool.{Bool, true, false, cond, _&&_}
 use lib.Dec.{eqb}
-use Rattle.tlv.specs.Octets.{hasBits}
+use Rattle.basics.specs.Octets.{hasBits}
 use Rattle.restart_tlv.specs.Flags.{RA}
 use Rattle.restart_tlv.specs.declared.flags.Flags.{Flags}
 use Rattle.restart_tlv.specs.declared.reader.Neighbor.{Neighbor}

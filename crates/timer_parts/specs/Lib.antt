@@ -1,5 +1,3 @@
-pub mod Levels
-pub mod Mask
 pub mod Heard
 pub mod T1
 pub mod T2

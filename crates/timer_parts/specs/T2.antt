@@ -2,8 +2,8 @@
 use Prim.Native.Nat.{ℕ}
 use mathlib.Core.Bool.{Bool, true, false, cond, not, _&&_, _||_}
 use lib.Dec.{leb, ltb}
-use Rattle.hello.specs.declared.levels.Levels.{Levels}
-use Rattle.timer_parts.specs.Levels.{Level, First, Second, isOn, levelsWith, someLevel}
+use Rattle.basics.specs.declared.levels.Levels.{Levels}
+use Rattle.basics.specs.Levels.{Level, First, Second, isOn, levelsWith, someLevel}
 use Rattle.timer_parts.specs.declared.t2.Timer.{Timer}
 use Rattle.timer_parts.specs.declared.t2.Timer.the-variants.{Stopped, Until}
 use Rattle.timer_parts.specs.declared.t2.T2.{T2}

@@ -1,6 +1,5 @@
 // The parts of the restart timers, as functions of values (document 01, "Timers while Restarting"; RFC 8706, 3.1 and 3.3.1). No
 // state and no clock of its own; callers: timers, gateway.
-pub mod mask; // mask.rt: a mask over circuits
 pub mod heard; // heard.rt: what an accepted hello says to the timers
 pub mod t1; // t1.rt: the T1 of one circuit
 pub mod t2; // t2.rt: the T2 of each level

@@ -1,19 +1,14 @@
 // The T1 of one circuit (document 01, "Timers while Restarting"; RFC 8706, 3.1 and 3.3.1).
 use crate::heard::Heard;
-use hello::levels::Levels;
+use basics::levels::Levels;
+use basics::levels::is_within;
+use basics::levels::join_levels;
 use restart_tlv::flags::Flags;
+use settings::lengths::Lengths;
 ghost use mathlib.Core.Path.{_≡_};
-ghost use mathlib.Core.Bool.{true, cond, not, _||_};
-ghost use Rattle.timer_parts.specs.Levels.{within, union};
+ghost use mathlib.Core.Bool.{true, cond};
 ghost use Rattle.timer_parts.specs.T1.{startEntry, stopT1, due, helloDue, again, tickT1, done, satisfied, acknowledged, noted, heardT1, freedBy, helloFlags};
 ghost use Rattle.timer_parts.specs.declared.t1.Freed.the-variants.{Stopped, Reinitialise};
-
-// The lengths of T1 and T2 in seconds, and T1's tries, N.
-pub struct Lengths {
-    pub t1: u16,
-    pub t2: u16,
-    pub tries: u8,
-}
 
 // What is kept of a T1: its deadline, its expiries so far, whether an acknowledgement came, and the levels whose CSNP set is
 // complete.
@@ -111,42 +106,6 @@ pub fn stop_t1(t: T1) -> T1
         runs: false,
         entry: e,
     }
-}
-
-fn implies(a: bool, b: bool) -> bool
-    ensures { λ r. ⌜ r ≡ (not a || b) ⌝ }
-{
-    if a {
-        return b;
-    }
-    true
-}
-
-fn either(a: bool, b: bool) -> bool
-    ensures { λ r. ⌜ r ≡ (a || b) ⌝ }
-{
-    if a {
-        return true;
-    }
-    b
-}
-
-// Whether each level of `l` is in `s`.
-fn is_within(l: Levels, s: Levels) -> bool
-    ensures { λ r. ⌜ r ≡ within l s ⌝ }
-{
-    if implies(l.one, s.one) {
-        return implies(l.two, s.two);
-    }
-    false
-}
-
-pub fn join_levels(l: Levels, s: Levels) -> Levels
-    ensures { λ r. ⌜ r ≡ union l s ⌝ }
-{
-    let one = either(l.one, s.one);
-    let two = either(l.two, s.two);
-    Levels { one, two }
 }
 
 // Whether a T1 of a circuit with the levels `l` has all that it waits for.

@@ -1,5 +1,5 @@
 // The T2 of each level (document 01, "Timers while Restarting"; RFC 8706, 3.1).
-use hello::levels::Levels;
+use basics::levels::Levels;
 ghost use mathlib.Core.Path.{_≡_};
 ghost use Rattle.timer_parts.specs.T2.{startTimer, startT2s, t2Runs, expireTimer, expireT2, cancelT2, noticeT2, expireBoth, cancelBoth, noticeBoth, anyT2, t2After, anyAfter, over, spfDue};
 

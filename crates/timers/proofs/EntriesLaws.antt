@@ -2,29 +2,22 @@
 use Prim.Native.Nat.{ℕ, _+_, _*_, _/_, _%_, _<_}
 use native.Mathlib.Omega.{arith}
 use mathlib.Core.Path.{_≡_, refl, _∙_}
-use mathlib.Core.Bool.{Bool, true, false, cond}
+use mathlib.Core.Bool.{Bool, cond}
 use mathlib.Core.Logic.{_≢_}
 use mathlib.Core.List.{List}
 use lib.Dec.{eqb}
 use lib.ListN.{set, length, length-set}
 use lib.Seq.{getD-set-same, getD-set-other}
-use Rattle.timer_parts.specs.Mask.{circuits}
+use Rattle.basics.proofs.BitLaws.{bit-lt, bit-back}
+use Rattle.basics.specs.Mask.{circuits}
 use Rattle.timers.specs.Memory.{wordCount, entryOf, entryAt}
-
-digit-back : (b : Bool) → eqb (cond b 1 0) 1 ≡ b
-digit-back true = refl
-digit-back false = refl
-
-below-two : (b : Bool) → cond b 1 0 < 2
-below-two true = omega arith
-below-two false = omega arith
 
 -- the second word's parts
 pub packs : (d t : ℕ) (a b c : Bool) → t < 256
     → entryOf d (t + 256 * cond a 1 0 + 512 * cond b 1 0 + 1024 * cond c 1 0)
     ≡ record { deadline = d; tries = t; acked = a; sets = record { one = b; two = c } }
 unfolding entryOf
-packs d t a b c h = fields (cond a 1 0) (cond b 1 0) (cond c 1 0) (below-two a) (below-two b) (below-two c) ∙ rw (digit-back a, digit-back b, digit-back c)
+packs d t a b c h = fields (cond a 1 0) (cond b 1 0) (cond c 1 0) (bit-lt a) (bit-lt b) (bit-lt c) ∙ rw (bit-back _ a refl, bit-back _ b refl, bit-back _ c refl)
   where
     fields : (x y z : ℕ) → x < 2 → y < 2 → z < 2
         → entryOf d (t + 256 * x + 512 * y + 1024 * z)

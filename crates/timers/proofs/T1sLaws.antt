@@ -9,14 +9,14 @@ use mathlib.Core.Logic.{_≢_}
 use mathlib.Core.List.{List, [], _∷_, _++_, map, append-nil}
 use lib.ListN.{set, getD, length, take, drop, drop-of-length-le}
 use lib.Seq.{drop-cons, take-suc-set, drop-set-lt, append-snoc, take-all}
-use Rattle.timer_parts.specs.Mask.{circuits, bitsOf, bits, countTrue, anyTrue, firstTrue}
+use Rattle.basics.specs.Mask.{circuits, bitsOf, bits, countTrue, anyTrue, firstTrue}
 use Rattle.timer_parts.specs.T1.{startEntry, stopT1}
 use Rattle.timer_parts.specs.declared.t1.Entry.{Entry}
 use Rattle.timer_parts.specs.declared.t1.T1.{T1}
-use Rattle.timer_parts.proofs.MaskLaws.{length-bitsOf}
+use Rattle.basics.proofs.MaskLaws.{length-bitsOf}
 use Rattle.timers.specs.Timers.{anyRuns, countRuns, firstRuns, noT1}
 use Rattle.timers.specs.Memory.{joined}
-use Rattle.timers.specs.Calls.{startT1}
+use Rattle.timers.specs.Events.{startT1}
 
 pub length-joined : (bs : List Bool) (e : ℕ → Entry) → length (joined bs e) ≡ length bs
 unfolding joined

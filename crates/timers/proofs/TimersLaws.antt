@@ -5,28 +5,29 @@ use mathlib.Core.Path.{_≡_, refl, sym, ap, _∙_}
 use mathlib.Core.Bool.{Bool, true, false, true≢false}
 use mathlib.Core.List.{List, map}
 use lib.ListN.{set, getD}
-use Rattle.hello.specs.declared.levels.Levels.{Levels}
-use Rattle.timer_parts.specs.Mask.{circuits, bits, countTrue, firstTrue}
+use Rattle.basics.specs.declared.levels.Levels.{Levels}
+use Rattle.basics.specs.Mask.{circuits, bits, countTrue, firstTrue}
 use Rattle.timer_parts.specs.T1.{startEntry, tickT1, helloDue, freedBy, satisfied, noted, heardT1}
 use Rattle.timer_parts.specs.T3.{heardT3}
 use Rattle.timer_parts.specs.declared.heard.Heard.{Heard}
-use Rattle.timer_parts.specs.declared.t1.Lengths.{Lengths}
+use Rattle.settings.specs.declared.lengths.Lengths.{Lengths}
 use Rattle.timer_parts.specs.declared.t1.Entry.{Entry}
 use Rattle.timer_parts.specs.declared.t1.T1.{T1}
 use Rattle.timer_parts.specs.declared.t1.Freed.{Freed}
 use Rattle.timer_parts.specs.declared.t1.Freed.the-variants.{Kept}
 use Rattle.timer_parts.specs.declared.t3.T3.{T3}
-use Rattle.timers.specs.declared.head.Mode.{Mode}
-use Rattle.timers.specs.declared.head.Mode.the-variants.{Running, Restarting}
+use Rattle.settings.specs.declared.mode.Mode.{Mode}
+use Rattle.settings.specs.declared.mode.Mode.the-variants.{Running, Restarting}
 use Rattle.timers.specs.declared.head.Head.{Head}
-use Rattle.timers.specs.declared.calls.Start.{Start}
+use Rattle.timers.specs.declared.events.Start.{Start}
 use Rattle.timers.specs.declared.outcome.Outcome.{Outcome}
 use Rattle.timers.specs.declared.outcome.Outcome.the-variants.{Idle, Goes, Ended}
 use Rattle.timers.specs.declared.outcome.Overload.{Overload}
-use Rattle.timers.specs.Timers.{Timers, withT1s, withT3, countRuns, firstRuns, noT1, atT1, tickT1s, expireT2s, cancelT2s, tickT3, finish, inMode, closed, settled, toT3, ticked, heardIn, heard, csnpIn, csnpNoticed, noticeT2s, databaseNoticed}
+use Rattle.timers.specs.Timers.{Timers, withT1s, withT3, countRuns, firstRuns, noT1, atT1, tickT1s, expireT2s, cancelT2s, tickT3, finish, closed, settled, toT3, ticked, heardIn, heard, csnpIn, csnpNoticed, noticeT2s, databaseNoticed}
+use Rattle.settings.specs.Mode.{inMode}
 use Rattle.timers.specs.Memory.{joined, timersOf}
 use Rattle.timers.specs.Outcome.{outcomeWith, outcomeOf, ordered, tickHellos, heardFreed}
-use Rattle.timers.specs.Calls.{startHead, startHellos, started, Starts, Closes, Settles, Ticks, Hears}
+use Rattle.timers.specs.Events.{startHead, startHellos, started, Starts, Closes, Settles, Ticks, Hears}
 use Rattle.timers.proofs.T1sLaws.{countRuns-joined, firstRuns-joined, bits-none, joined-started}
 
 -- ---- for the gateway

@@ -1,4 +1,4 @@
 pub mod Timers
 pub mod Memory
 pub mod Outcome
-pub mod Calls
+pub mod Events

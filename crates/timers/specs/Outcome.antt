@@ -4,25 +4,21 @@ use Prim.Native.Nat.{ℕ}
 use mathlib.Core.Bool.{Bool, true, false, cond, not, _&&_}
 use mathlib.Core.List.{List, map}
 use lib.ListN.{getD}
-use Rattle.hello.specs.declared.levels.Levels.{Levels}
+use Rattle.settings.specs.Mode.{isRunning}
+use Rattle.basics.specs.declared.levels.Levels.{Levels}
 use Rattle.timer_parts.specs.T1.{helloDue, freedBy}
 use Rattle.timer_parts.specs.T2.{spfDue}
 use Rattle.timer_parts.specs.T3.{expiredT3}
 use Rattle.timer_parts.specs.declared.heard.Heard.{Heard}
-use Rattle.timer_parts.specs.declared.t1.Lengths.{Lengths}
+use Rattle.settings.specs.declared.lengths.Lengths.{Lengths}
 use Rattle.timer_parts.specs.declared.t1.Freed.{Freed}
 use Rattle.timer_parts.specs.declared.t1.Freed.the-variants.{Kept}
-use Rattle.timers.specs.declared.head.Mode.{Mode}
-use Rattle.timers.specs.declared.head.Mode.the-variants.{Running, Restarting}
 use Rattle.timers.specs.declared.outcome.Overload.{Overload}
 use Rattle.timers.specs.declared.outcome.Overload.the-variants.{Quiet, Set, Clear, Both}
 use Rattle.timers.specs.declared.outcome.Outcome.{Outcome}
 use Rattle.timers.specs.declared.outcome.Outcome.the-variants.{Idle, Goes, Ended}
-use Rattle.timers.specs.Timers.{Timers, inMode, closed, noT1}
-
-abbrev pub isRunning : Mode → Bool
-isRunning Running = true
-isRunning Restarting = false
+use Rattle.timers.specs.Timers.{Timers, closed, noT1}
+use Rattle.settings.specs.Mode.{inMode}
 
 unfoldable pub overloadOf : Bool → Bool → Overload
 overloadOf false false = Quiet

@@ -4,21 +4,22 @@ use Prim.Native.Nat.{ℕ, suc, _+_}
 use mathlib.Core.Bool.{Bool, false, cond, _||_}
 use mathlib.Core.List.{List, [], _∷_, map}
 use lib.ListN.{getD, set}
-use Rattle.hello.specs.declared.levels.Levels.{Levels}
-use Rattle.timer_parts.specs.Levels.{Level, levelsWith}
+use Rattle.settings.specs.Mode.{inMode}
+use Rattle.basics.specs.declared.levels.Levels.{Levels}
+use Rattle.basics.specs.Levels.{Level, levelsWith}
 use Rattle.timer_parts.specs.T1.{startEntry, stopT1, tickT1, satisfied, noted, heardT1}
 use Rattle.timer_parts.specs.T2.{anyT2, expireBoth, cancelBoth, noticeBoth}
 use Rattle.timer_parts.specs.T3.{expiresT3, heardT3}
-use Rattle.timer_parts.specs.declared.mask.Lowest.{Lowest}
-use Rattle.timer_parts.specs.declared.mask.Lowest.the-variants.{Circuit, Nothing}
+use Rattle.basics.specs.declared.mask.Lowest.{Lowest}
+use Rattle.basics.specs.declared.mask.Lowest.the-variants.{Circuit, Nothing}
 use Rattle.timer_parts.specs.declared.heard.Heard.{Heard}
-use Rattle.timer_parts.specs.declared.t1.Lengths.{Lengths}
+use Rattle.settings.specs.declared.lengths.Lengths.{Lengths}
 use Rattle.timer_parts.specs.declared.t1.T1.{T1}
 use Rattle.timer_parts.specs.declared.t2.T2s.{T2s}
 use Rattle.timer_parts.specs.declared.t3.T3.{T3}
 use Rattle.timer_parts.specs.declared.t3.T3.the-variants.{Idle, Expired}
-use Rattle.timers.specs.declared.head.Mode.{Mode}
-use Rattle.timers.specs.declared.head.Mode.the-variants.{Running, Restarting}
+use Rattle.settings.specs.declared.mode.Mode.{Mode}
+use Rattle.settings.specs.declared.mode.Mode.the-variants.{Running}
 
 -- The T1s are a list over the circuits; that of a circuit that is not there never runs.
 pub record Timers : Type 0 where
@@ -88,11 +89,6 @@ unfoldable pub finish : Timers → Timers
 finish t = cond (anyT2 (t .t2s)) t (over t)
 
 -- ---- calls
-
--- by the mode: the first while it is Running
-abbrev pub inMode : {A : Type 0} → Mode → A → A → A
-inMode Running x y = x
-inMode Restarting x y = y
 
 -- Every call does its own step f, and then T2 cancelling and the end of the mode, at once. While the mode is Running nothing
 -- changes.

@@ -2,35 +2,29 @@
 //
 //   word  2 i       2 i + 1
 //         deadline  expiries + 256 acknowledged + 512 CSNP set of level 1 + 1024 CSNP set of level 2
-use hello::levels::Levels;
-use timer_parts::mask::CIRCUITS;
-use timer_parts::mask::has_bit;
-use timer_parts::mask::put_bit;
+use basics::bits::digit;
+use basics::levels::Levels;
+use basics::mask::CIRCUITS;
+use basics::mask::has_bit;
+use basics::mask::put_bit;
+use settings::lengths::Lengths;
 use timer_parts::t1::Entry;
-use timer_parts::t1::Lengths;
 use timer_parts::t1::T1;
 use timer_parts::t1::is_hello_due;
 use timer_parts::t1::start_entry;
 use timer_parts::t1::tick_t1;
 ghost use mathlib.Core.Path.{_≡_};
-ghost use mathlib.Core.Bool.{cond};
 ghost use mathlib.Core.Logic.{_≢_};
 ghost use mathlib.Core.List.{map};
 ghost use Prim.Native.Nat.{ℕ, _<_};
 ghost use lib.ListN.{set, getD, length};
-ghost use Rattle.timer_parts.specs.Mask.{circuits, bits};
+ghost use Rattle.basics.specs.Mask.{circuits, bits};
 ghost use Rattle.timer_parts.specs.T1.{tickT1, helloDue, startEntry};
 ghost use Rattle.timers.specs.Timers.{noT1};
 ghost use Rattle.timers.specs.Memory.{wordCount, entryOf, entryAt, t1sAt};
 
 // The words that are lent.
 pub const WORDS: usize = 2 * CIRCUITS;
-
-fn digit(b: bool) -> u64
-    ensures { λ r. ⌜ (r ≡ cond b 1 0) × (r < 2) ⌝ }
-{
-    if b { 1 } else { 0 }
-}
 
 fn second_word(e: Entry) -> u64
     ensures { λ r. ⌜ entryOf (e .deadline) r ≡ e ⌝ }

@@ -1,10 +1,11 @@
 // The head of the timers: the mode, the mask of running T1s, the T2 of each level, and T3. Each function says what it does to all
 // timers, whatever the entries are.
-use hello::levels::Levels;
-use timer_parts::mask::Lowest;
-use timer_parts::mask::any_bit;
-use timer_parts::mask::count_bits;
-use timer_parts::mask::lowest_bit;
+use basics::levels::Levels;
+use basics::mask::Lowest;
+use basics::mask::any_bit;
+use basics::mask::count_bits;
+use basics::mask::lowest_bit;
+use settings::mode::Mode;
 use timer_parts::t2::T2s;
 use timer_parts::t2::any_t2;
 use timer_parts::t2::cancel_both;
@@ -14,16 +15,11 @@ use timer_parts::t3::T3;
 use timer_parts::t3::expires_t3;
 ghost use mathlib.Core.Path.{_≡_};
 ghost use Prim.Native.Nat.{ℕ};
-ghost use Rattle.timer_parts.specs.Levels.{levelsWith};
-ghost use Rattle.timer_parts.specs.Mask.{bits};
+ghost use Rattle.basics.specs.Levels.{levelsWith};
+ghost use Rattle.basics.specs.Mask.{bits};
 ghost use Rattle.timer_parts.specs.declared.t1.Entry.{Entry};
 ghost use Rattle.timers.specs.Timers.{withT1s, withT3, waits, expireT2s, cancelT2s, noticeT2s, tickT3, finish, countRuns, firstRuns};
 ghost use Rattle.timers.specs.Memory.{joined, timersOf};
-
-pub enum Mode {
-    Running,
-    Restarting,
-}
 
 pub struct Head {
     pub mode: Mode,

@@ -1,6 +1,6 @@
 // The restart timers of a gateway (document 01, "Timers while Restarting"; RFC 8706, 3.1 and 3.3.1): a head of plain values, and
-// the entries of the T1s in lent words. No clock of its own; callers: gateway.
+// the entries of the T1s in lent words. No clock of its own; callers: control.
 pub mod head; // head.rt: the head, and the steps that need no entry
 pub mod entries; // entries.rt: the T1s, whose entries stand in lent words
 pub mod outcome; // outcome.rt: what a call orders, and how it ends
-pub mod calls; // calls.rt: each call's share
+pub mod events; // events.rt: each call's share

@@ -1,9 +1,9 @@
 // How a call ends, and what it orders (an order is an action the caller must take; document 01, "Timers while Restarting").
 use crate::head::Head;
-use crate::head::Mode;
 use crate::head::cancel_t2s;
 use crate::head::end_restart;
-use hello::levels::Levels;
+use basics::levels::Levels;
+use settings::mode::is_running;
 use timer_parts::t2::spf_due;
 use timer_parts::t3::is_expired;
 ghost use mathlib.Core.Path.{_≡_};
@@ -12,7 +12,7 @@ ghost use Prim.Native.Nat.{ℕ};
 ghost use Rattle.timer_parts.specs.declared.t1.Entry.{Entry};
 ghost use Rattle.timers.specs.Timers.{finish, cancelT2s};
 ghost use Rattle.timers.specs.Memory.{timersOf};
-ghost use Rattle.timers.specs.Outcome.{isRunning, overloadOf, outcomeWith, outcomeOf};
+ghost use Rattle.timers.specs.Outcome.{overloadOf, outcomeWith, outcomeOf};
 
 // Overload is ordered set, clear, both in this order, or not at all.
 pub enum Overload {
@@ -34,15 +34,6 @@ pub enum Outcome {
 pub struct Settled {
     pub head: Head,
     pub outcome: Outcome,
-}
-
-fn is_running(m: Mode) -> bool
-    ensures { λ r. ⌜ r ≡ isRunning m ⌝ }
-{
-    match m {
-        Mode::Running => true,
-        Mode::Restarting => false,
-    }
 }
 
 fn overload_of(set: bool, clear: bool) -> Overload

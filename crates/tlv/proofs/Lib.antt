@@ -1,4 +1,1 @@
-pub mod BoolLaws
-pub mod Chain
-pub mod OctetsLaws
 pub mod TlvLaws

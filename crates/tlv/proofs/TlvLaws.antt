@@ -8,8 +8,8 @@ use lib.ListN.{length, drop, length-drop}
 use lib.Seq.{length-take-le}
 use lib.Dec.{leb, ltb, eqb}
 use borrow.Author.Tests.{le-leb, lt-leb, lt-ltb, le-ltb, eq-eqb, ne-eqb}
-use Rattle.tlv.specs.Octets.{octet}
-use Rattle.tlv.proofs.BoolLaws.{by-test}
+use Rattle.basics.specs.Octets.{octet}
+use Rattle.basics.proofs.BoolLaws.{by-test}
 use Rattle.tlv.specs.Tlv.{Tlvs, done, cut, one, tlvsUp, tlvs, nextAt, valueAt, cutAt, countsOf, walkAs, walkOf, ofType, Tlv, firstValue, several, FoundAt, loneFault, isFound, unless}
 use Rattle.tlv.specs.declared.tlvs.Counts.{Counts}
 use Rattle.tlv.specs.declared.tlvs.Walk.the-variants.{Whole, Cut}

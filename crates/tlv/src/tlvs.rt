@@ -1,6 +1,6 @@
 // The TLVs of a PDU (document 01, "TLVs read"): type octet, length octet, value. The PDU is lent as a part of its own,
 // the frame's first PDU Length octets, so nothing past it is in reach.
-use crate::octets::wide;
+use basics::octets::wide;
 ghost use mathlib.Core.Path.{_≡_};
 ghost use Prim.Native.Nat.{_≤_};
 ghost use lib.ListN.{length};

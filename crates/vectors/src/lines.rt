@@ -1,6 +1,6 @@
 // The frames of a file: a line is `NAME KIND HEX`, and one that begins with `#` is a remark.
 use crate::show::show_frame;
-use hello::header::CircuitKind;
+use basics::kind::CircuitKind;
 ghost use Prim.Native.Nat.{_≤_, _<_};
 ghost use lib.ListN.{length};
 ghost use Rattle.io.specs.Counts.{Counts};

@@ -1,10 +1,10 @@
 // What is printed of a frame: `NAME refused N`, or `NAME LAYOUT SYSTEM hold TIME ..; restart ..; metric ..`.
-use hello::header::CircuitKind;
+use basics::kind::CircuitKind;
+use basics::refusal::number_of;
 use hello::read::Hello;
 use hello::read::Link;
 use hello::read::Read;
 use hello::read::read_hello;
-use hello::refusal::number_of;
 use hello::reverse::ReverseMetric;
 use hello::three_way::Identifiers;
 use hello::three_way::State;

@@ -1,5 +1,5 @@
 -- Each return is one test of `greater`.
-use Rattle.tlv.proofs.Chain.{tests}
+use Rattle.basics.proofs.Chain.{tests}
 use Rattle.adjacency.proofs.duty.is_greater.Statement.{statement}
 use Rattle.adjacency.proofs.duty.is_greater.Tie as tie
 

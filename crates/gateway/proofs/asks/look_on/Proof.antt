@@ -1,7 +1,7 @@
 -- Refusal 1 for the level, or the record of the room.
 use Rattle.gateway.proofs.CallLaws.{looks, looks-not}
 use Rattle.gateway.proofs.WordLaws.{along, refuses}
-use Rattle.hello.specs.declared.refusal.Refusal.the-variants.{NoCircuit}
+use Rattle.basics.specs.declared.refusal.Refusal.the-variants.{NoCircuit}
 use Prim.Native.Nat.{_-_}
 use mathlib.Core.Path.{sym, _∙_}
 use borrow.Author.Needs.{needs}

@@ -3,8 +3,8 @@ use Rattle.gateway.proofs.CallLaws.{measures}
 use Rattle.model.specs.Step.{LinkMetric}
 use Rattle.gateway.proofs.WordLaws.{along, refuses-all, choice, no-circuit, a-circuit}
 use Rattle.gateway.specs.Words.{gatewayOf}
-use Rattle.common.specs.Common.{InRange}
-use Rattle.hello.specs.declared.refusal.Refusal.the-variants.{NoCircuit}
+use Rattle.control.specs.Common.{InRange}
+use Rattle.basics.specs.declared.refusal.Refusal.the-variants.{NoCircuit}
 use Prim.Native.Nat.{_-_}
 use native.Mathlib.Omega.{arith}
 use mathlib.Core.Path.{subst}

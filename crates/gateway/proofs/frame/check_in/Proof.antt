@@ -1,8 +1,8 @@
 -- Refusal 7, or the next stage.
 use Rattle.gateway.proofs.FrameLaws.{source-wrong, source-right}
 use Rattle.gateway.proofs.WordLaws.{along, refuses}
-use Rattle.tlv.specs.Octets.{big}
-use Rattle.hello.specs.declared.refusal.Refusal.the-variants.{WrongSource}
+use Rattle.basics.specs.Octets.{big}
+use Rattle.basics.specs.declared.refusal.Refusal.the-variants.{WrongSource}
 use mathlib.Core.Path.{sym, _∙_}
 use borrow.Author.Needs.{needs}
 use Rattle.gateway.proofs.frame.check_in.Statement.{statement}

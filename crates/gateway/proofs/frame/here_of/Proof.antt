@@ -1,6 +1,6 @@
 -- Each field is read from the common words.
-use Rattle.timers.specs.declared.head.Mode.{Mode}
-use Rattle.timers.specs.Outcome.{isRunning}
+use Rattle.settings.specs.declared.mode.Mode.{Mode}
+use Rattle.settings.specs.Mode.{isRunning}
 use mathlib.Core.Bool.{not}
 use mathlib.Core.Path.{ap, _∙_}
 use borrow.Author.Needs.{needs}

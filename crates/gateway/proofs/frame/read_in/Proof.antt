@@ -2,8 +2,8 @@
 use Rattle.gateway.proofs.FrameLaws.{small, reads-bad, reads-good}
 use Rattle.gateway.proofs.WordLaws.{along, refuses}
 use Rattle.gateway.specs.Words.{gatewayOf}
-use Rattle.tlv.specs.Octets.{big}
-use Rattle.hello.specs.declared.refusal.Refusal.the-variants.{ReplyRoom}
+use Rattle.basics.specs.Octets.{big}
+use Rattle.basics.specs.declared.refusal.Refusal.the-variants.{ReplyRoom}
 use mathlib.Core.Path.{sym, _∙_}
 use borrow.Author.Needs.{needs}
 use Rattle.gateway.proofs.frame.read_in.Statement.{statement}

@@ -2,10 +2,10 @@
 use Rattle.gateway.proofs.FrameLaws.{received-is}
 use Rattle.gateway.proofs.WordLaws.{along, refuses-all, choice, no-circuit, a-circuit}
 use Rattle.gateway.specs.Words.{gatewayOf}
-use Rattle.tlv.specs.Octets.{big}
+use Rattle.basics.specs.Octets.{big}
 use Rattle.model.specs.Step.{Receive}
-use Rattle.common.specs.Common.{InRange}
-use Rattle.hello.specs.declared.refusal.Refusal.the-variants.{NoCircuit}
+use Rattle.control.specs.Common.{InRange}
+use Rattle.basics.specs.declared.refusal.Refusal.the-variants.{NoCircuit}
 use mathlib.Core.Path.{subst, _∙_}
 use borrow.Author.Needs.{needs}
 use Rattle.gateway.proofs.frame.receive_in.Statement.{statement}

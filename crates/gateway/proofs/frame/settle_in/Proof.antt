@@ -2,7 +2,7 @@
 use borrow.Rule.Slice.PartMut.{putMid}
 use Rattle.gateway.proofs.FrameLaws.{left, taken}
 use Rattle.gateway.proofs.WordLaws.{length-room}
-use Rattle.room_calls.specs.Seat.{Seats}
+use Rattle.room.specs.Accept.{Seats}
 use borrow.Rule.Slice.PartMut.{mid-len}
 use mathlib.Core.Path.{_≡_, subst, _∙_}
 use lib.Seq.{length-take-le}

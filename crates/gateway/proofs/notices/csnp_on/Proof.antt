@@ -1,7 +1,7 @@
 -- Refusal 1 for the level, 11, or the common words put back.
 use Rattle.gateway.proofs.CallLaws.{csnp-off, csnp-outside, csnp-taken}
 use Rattle.gateway.proofs.WordLaws.{along, refuses}
-use Rattle.hello.specs.declared.refusal.Refusal.the-variants.{NoCircuit, NotRestarting}
+use Rattle.basics.specs.declared.refusal.Refusal.the-variants.{NoCircuit, NotRestarting}
 use Prim.Native.Nat.{_-_}
 use native.Mathlib.Omega.{arith}
 use mathlib.Core.Path.{sym, _∙_}

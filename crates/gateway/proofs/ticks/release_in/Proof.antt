@@ -4,8 +4,8 @@ use Rattle.model.specs.Step.{Release}
 use borrow.Rule.Slice.PartMut.{mid-len}
 use Rattle.gateway.proofs.WordLaws.{along, refuses-all, choice, no-circuit, a-circuit}
 use Rattle.gateway.specs.Words.{gatewayOf}
-use Rattle.common.specs.Common.{InRange}
-use Rattle.hello.specs.declared.refusal.Refusal.the-variants.{NoCircuit}
+use Rattle.control.specs.Common.{InRange}
+use Rattle.basics.specs.declared.refusal.Refusal.the-variants.{NoCircuit}
 use Prim.Native.Nat.{_+_, _-_, _*_}
 use native.Mathlib.Omega.{arith}
 use mathlib.Core.Path.{subst, _∙_}

@@ -1,13 +1,12 @@
 -- The invariant: what is swept before i and what is still to sweep make the whole sweep; so the marks.
 use Rattle.gateway.proofs.CallLaws.{gather-step, gather-end, length-bits}
 use Rattle.gateway.proofs.WordLaws.{length-rooms}
-use Rattle.gateway.specs.Words.{gatewayWords}
+use Rattle.gateway.specs.Words.{gatewayWords, gatewayOf}
 use Rattle.model.specs.Step.{swept, lapsed}
 use Rattle.model.specs.Gateway.{withRooms, noRoom}
-use Rattle.timer_parts.specs.Mask.{bits}
+use Rattle.basics.specs.Mask.{bits}
 use lib.ListN.{length, take, drop}
 use mathlib.Core.List.{_++_, map}
-use Rattle.gateway.specs.Words.{gatewayOf}
 use Prim.Native.Nat.{_+_, _-_, _≤_}
 use native.Mathlib.Omega.{arith}
 use mathlib.Core.Path.{_≡_, refl, ap, sym, _∙_}

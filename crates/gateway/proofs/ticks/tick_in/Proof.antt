@@ -1,5 +1,5 @@
 -- No circuit, refusal 10, or the rooms swept and the common words put back.
-use Rattle.timer_parts.specs.Mask.{bitsOf}
+use Rattle.basics.specs.Mask.{bitsOf}
 use Rattle.gateway.proofs.CallLaws.{tick-none, tick-back, tick-took}
 use native.Mathlib.Omega.{arith}
 use mathlib.Core.Path.{_∙_}

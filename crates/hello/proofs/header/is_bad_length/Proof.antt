@@ -1,6 +1,6 @@
 -- The ruleset `tests` takes `badLength` one test at a time, at the numbers that the callees read.
 use borrow.Author.Needs.{needs}
-use Rattle.tlv.proofs.Chain.{tests}
+use Rattle.basics.proofs.Chain.{tests}
 use Rattle.hello.specs.Header.{badLength}
 use Rattle.hello.proofs.header.is_bad_length.Statement.{statement}
 use Rattle.hello.proofs.header.is_bad_length.Tie as tie

@@ -1,5 +1,5 @@
 -- The ruleset `tests` takes `idLengthOk` one test at a time.
-use Rattle.tlv.proofs.Chain.{tests}
+use Rattle.basics.proofs.Chain.{tests}
 use Rattle.hello.proofs.header.is_id_length.Statement.{statement}
 use Rattle.hello.proofs.header.is_id_length.Tie as tie
 

@@ -1,6 +1,6 @@
 -- The ruleset `tests` takes `notHello` one test at a time.
 use borrow.Author.Needs.{needs}
-use Rattle.tlv.proofs.Chain.{tests}
+use Rattle.basics.proofs.Chain.{tests}
 use Rattle.hello.specs.Header.{notHello}
 use Rattle.hello.proofs.header.is_not_hello.Statement.{statement}
 use Rattle.hello.proofs.header.is_not_hello.Tie as tie

@@ -2,8 +2,8 @@
 use mathlib.Core.Path.{sym, _∙_}
 use borrow.Author.Tests.{ltb-false}
 use borrow.Author.Needs.{needs}
-use Rattle.tlv.proofs.BoolLaws.{neither}
-use Rattle.tlv.proofs.Chain.{calls}
+use Rattle.basics.proofs.BoolLaws.{neither}
+use Rattle.basics.proofs.Chain.{calls}
 use Rattle.hello.specs.Reverse.{reverseBad}
 use Rattle.hello.proofs.reverse.check_reverse.Statement.{statement}
 use Rattle.hello.proofs.reverse.check_reverse.Tie as tie

@@ -1,6 +1,6 @@
 -- The ruleset `tests` takes `reverseBad` one test at a time.
 use borrow.Author.Needs.{needs}
-use Rattle.tlv.proofs.Chain.{tests}
+use Rattle.basics.proofs.Chain.{tests}
 use Rattle.hello.specs.Reverse.{reverseBad}
 use Rattle.hello.proofs.reverse.is_bad_reverse.Statement.{statement}
 use Rattle.hello.proofs.reverse.is_bad_reverse.Tie as tie

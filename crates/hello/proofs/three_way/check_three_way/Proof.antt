@@ -1,7 +1,7 @@
 -- The rule's outcome decides; by the law `has-state` a value that breaks none has its first octet.
 use mathlib.Core.Path.{sym, _∙_}
 use borrow.Author.Needs.{needs}
-use Rattle.tlv.proofs.Chain.{calls}
+use Rattle.basics.proofs.Chain.{calls}
 use Rattle.hello.proofs.ReadLaws.{has-state}
 use Rattle.hello.proofs.three_way.check_three_way.Statement.{statement}
 use Rattle.hello.proofs.three_way.check_three_way.Tie as tie

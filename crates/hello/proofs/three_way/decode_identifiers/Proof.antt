@@ -1,6 +1,6 @@
 -- The ruleset `tests` takes `identifiersOf` one length at a time.
 use borrow.Author.Needs.{needs}
-use Rattle.tlv.proofs.Chain.{tests}
+use Rattle.basics.proofs.Chain.{tests}
 use Rattle.hello.specs.ThreeWay.{identifiersOf}
 use Rattle.hello.proofs.three_way.decode_identifiers.Statement.{statement}
 use Rattle.hello.proofs.three_way.decode_identifiers.Tie as tie

@@ -3,7 +3,7 @@ use mathlib.Core.Path.{_≡_}
 use native.Mathlib.Omega.{arith}
 use lib.ListN.{length}
 use borrow.Author.Needs.{needs}
-use Rattle.tlv.proofs.Chain.{tests}
+use Rattle.basics.proofs.Chain.{tests}
 use Rattle.hello.specs.ThreeWay.{threeWayLength, threeWayBad}
 use Rattle.hello.proofs.three_way.is_bad_three_way.Statement.{statement}
 use Rattle.hello.proofs.three_way.is_bad_three_way.Tie as tie

@@ -1,5 +1,5 @@
 -- The ruleset `tests` takes `threeWayLength` one test at a time.
-use Rattle.tlv.proofs.Chain.{tests}
+use Rattle.basics.proofs.Chain.{tests}
 use Rattle.hello.specs.ThreeWay.{threeWayLength}
 use Rattle.hello.proofs.three_way.is_length.Statement.{statement}
 use Rattle.hello.proofs.three_way.is_length.Tie as tie

@@ -4,7 +4,7 @@ use native.Mathlib.Omega.{arith}
 use mathlib.Core.Path.{_≡_, refl, sym, _∙_}
 use Prim.Native.Nat.{_-_, _≤_}
 use lib.ListN.{take, drop}
-use Rattle.settings.specs.Settings.{every}
+use Rattle.basics.specs.Lists.{every}
 use Rattle.isis_gr.specs.Settings.{circuitPlaces, circuitKnown}
 use Rattle.isis_gr.proofs.SettingsLaws.{known-here, known-skip, known-end}
 use Rattle.isis_gr.proofs.config.are_circuits_known.Statement.{statement}

@@ -1,6 +1,6 @@
 -- Each field is a callee's answer or an octet.
 use Prim.Native.Nat.{_+_}
-use Rattle.tlv.specs.Octets.{octet}
+use Rattle.basics.specs.Octets.{octet}
 use Rattle.isis_gr.specs.Settings.{circuitFrom}
 use borrow.Author.Needs.{needs}
 use Rattle.isis_gr.proofs.config.circuit_at.Statement.{statement}

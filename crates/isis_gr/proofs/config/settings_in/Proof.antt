@@ -1,5 +1,5 @@
 -- Each field is a callee's answer or an octet.
-use Rattle.tlv.specs.Octets.{octet}
+use Rattle.basics.specs.Octets.{octet}
 use Rattle.isis_gr.specs.Settings.{settingsFrom}
 use borrow.Author.Needs.{needs}
 use Rattle.isis_gr.proofs.config.settings_in.Statement.{statement}

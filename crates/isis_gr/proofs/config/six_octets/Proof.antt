@@ -1,5 +1,5 @@
 -- The definition at six octets.
-use Rattle.tlv.specs.Octets.{big}
+use Rattle.basics.specs.Octets.{big}
 use native.Mathlib.Nat.{add-zero, zero-add}
 use borrow.Author.Needs.{needs}
 use Rattle.isis_gr.proofs.config.six_octets.Statement.{statement}

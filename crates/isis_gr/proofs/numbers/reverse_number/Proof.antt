@@ -10,11 +10,8 @@ enum-told c = search needs
 enum-known-m : tie.Need-enum-known-m
 enum-known-m c = search needs
 
-bit-requires : tie.Need-bit-requires
-bit-requires c κs = search needs
-
-cast-result : tie.Need-cast-result
-cast-result c = search needs
+digit-requires : tie.Need-digit-requires
+digit-requires c κs = search needs
 
 mul-result : tie.Need-mul-result
 mul-result c = search needs
@@ -22,11 +19,8 @@ mul-result c = search needs
 add-result : tie.Need-add-result
 add-result c = search needs
 
-bit-requires-2 : tie.Need-bit-requires-2
-bit-requires-2 c κs = search needs
-
-cast-result-2 : tie.Need-cast-result-2
-cast-result-2 c = search needs
+digit-requires-2 : tie.Need-digit-requires-2
+digit-requires-2 c κs = search needs
 
 mul-result-2 : tie.Need-mul-result-2
 mul-result-2 c = search needs
@@ -34,8 +28,8 @@ mul-result-2 c = search needs
 add-result-2 : tie.Need-add-result-2
 add-result-2 c = search needs
 
-cast-result-3 : tie.Need-cast-result-3
-cast-result-3 c = search needs
+cast-result : tie.Need-cast-result
+cast-result c = search needs
 
 mul-result-3 : tie.Need-mul-result-3
 mul-result-3 c = search needs
@@ -55,15 +49,13 @@ reverse-number-spec =
     (tie.spec
     enum-told
     enum-known-m
-    bit-requires
-    cast-result
+    digit-requires
     mul-result
     add-result
-    bit-requires-2
-    cast-result-2
+    digit-requires-2
     mul-result-2
     add-result-2
-    cast-result-3
+    cast-result
     mul-result-3
     add-result-3
     returns

@@ -1,6 +1,6 @@
 -- Each return is one test of `restartBad`.
 use Rattle.restart_tlv.specs.Restart.{restartBad}
-use Rattle.tlv.proofs.Chain.{tests}
+use Rattle.basics.proofs.Chain.{tests}
 use borrow.Author.Needs.{needs}
 use Rattle.restart_tlv.proofs.reader.is_bad_restart.Statement.{statement}
 use Rattle.restart_tlv.proofs.reader.is_bad_restart.Tie as tie

@@ -1,6 +1,6 @@
 -- Each return is one test of `leastLength`.
 use Rattle.restart_tlv.specs.Restart.{leastLength}
-use Rattle.tlv.proofs.Chain.{calls}
+use Rattle.basics.proofs.Chain.{calls}
 use borrow.Author.Needs.{needs}
 use Rattle.restart_tlv.proofs.reader.least_length.Statement.{statement}
 use Rattle.restart_tlv.proofs.reader.least_length.Tie as tie

@@ -1,5 +1,5 @@
 -- Eleven stores in a row are the eleven octets, then what was there.
-use Rattle.tlv.specs.Octets.{octetsOf}
+use Rattle.basics.specs.Octets.{octetsOf}
 use Rattle.restart_tlv.specs.Restart.{restartOctets}
 use lib.Seq.{sets-eq}
 use lib.ListN.{length-set}

@@ -4,8 +4,9 @@ use native.Mathlib.Omega.{arith}
 use mathlib.Core.Path.{_≡_, refl, sym, _∙_}
 use Prim.Native.Nat.{_-_, _≤_}
 use lib.ListN.{take, drop}
-use Rattle.settings.proofs.SettingsLaws.{every-here, every-skip, every-end}
-use Rattle.settings.specs.Settings.{every, circuitOk}
+use Rattle.basics.proofs.ListLaws.{every-here, every-skip, every-end}
+use Rattle.basics.specs.Lists.{every}
+use Rattle.settings.specs.Settings.{circuitOk}
 use Rattle.settings.proofs.setup.are_circuits_ok.Statement.{statement}
 use Rattle.settings.proofs.setup.are_circuits_ok.Tie as tie
 

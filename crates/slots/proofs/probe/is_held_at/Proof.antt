@@ -1,5 +1,5 @@
 -- The law `told-true`: of a place that holds a record it is true.
-use Rattle.slots.specs.Slots.{isHeld}
+use Rattle.adjacency.specs.Place.{isHeld}
 use mathlib.Core.Path.{refl, _∙_}
 use Rattle.slots.proofs.ProbeLaws.{told-true}
 use borrow.Author.Needs.{needs}

@@ -1,5 +1,5 @@
 -- Each field that differs makes the keys differ; where none does, the tag decides.
-use Rattle.slots.specs.Slots.{hasKey}
+use Rattle.adjacency.specs.Place.{hasKey}
 use mathlib.Core.Path.{refl, _∙_}
 use Rattle.slots.proofs.ProbeLaws.{recordAt, told-false, told-true, other-system, other-mac, other-level, same-key}
 use borrow.Author.Needs.{needs}

@@ -2,7 +2,7 @@
 use mathlib.Core.Path.{ap, refl, sym, _∙_}
 use Rattle.slots.proofs.ProbeLaws.{outranks-none, recordAt, told-false, told-not-up, outranks-init, outranks-level}
 use Rattle.slots.proofs.SlotLaws.{not-held}
-use Rattle.slots.specs.Slots.{outrankedAt}
+use Rattle.adjacency.specs.Place.{outrankedAt}
 use borrow.Author.Needs.{needs}
 use Rattle.slots.proofs.probe.is_outranked_at.Statement.{statement}
 use Rattle.slots.proofs.probe.is_outranked_at.Tie as tie

@@ -1,5 +1,5 @@
 -- Only an UP record is Planned, and of it the mark decides.
-use Rattle.slots.specs.Slots.{meets, plannedState}
+use Rattle.adjacency.specs.Place.{meets, plannedState}
 use mathlib.Core.Path.{refl, _∙_}
 use Rattle.slots.proofs.ProbeLaws.{told-held, told-not-up, planned-up, tag-up}
 use borrow.Author.Needs.{needs}

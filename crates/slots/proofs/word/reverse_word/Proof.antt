@@ -9,8 +9,8 @@ enum-told c = search needs
 enum-known-reverse : tie.Need-enum-known-reverse
 enum-known-reverse c = search needs
 
-bit-requires : tie.Need-bit-requires
-bit-requires c κs = search needs
+digit-requires : tie.Need-digit-requires
+digit-requires c κs = search needs
 
 mul-result : tie.Need-mul-result
 mul-result c = search needs
@@ -18,8 +18,8 @@ mul-result c = search needs
 add-result : tie.Need-add-result
 add-result c = search needs
 
-bit-requires-2 : tie.Need-bit-requires-2
-bit-requires-2 c κs = search needs
+digit-requires-2 : tie.Need-digit-requires-2
+digit-requires-2 c κs = search needs
 
 mul-result-2 : tie.Need-mul-result-2
 mul-result-2 c = search needs
@@ -40,7 +40,7 @@ returns : tie.Need-returns
 returns c = (simp (c .enum-told .given .1), (rw (c .enum-told .given .1) tt, search needs))
 
 returns-2 : tie.Need-returns-2
-returns-2 c = (simp (c .before .before .before .reverse .given .1, c .before .bit .ensures .0, c .bit2 .ensures .0), (rw (c .before .before .before .reverse .given .1) (search needs), search needs))
+returns-2 c = (simp (c .before .before .before .reverse .given .1, c .before .digit .ensures .0, c .digit2 .ensures .0), (rw (c .before .before .before .reverse .given .1) (search needs), search needs))
 
 pub reverse-word-spec : {M : Type 1} → statement M
 reverse-word-spec =
@@ -48,10 +48,10 @@ reverse-word-spec =
     (tie.spec
     enum-told
     enum-known-reverse
-    bit-requires
+    digit-requires
     mul-result
     add-result
-    bit-requires-2
+    digit-requires-2
     mul-result-2
     add-result-2
     cast-result

@@ -5,7 +5,7 @@ use mathlib.Core.Path.{_≡_, _∙_}
 use borrow.Author.Count.{below-more}
 use lib.ListN.{length}
 use Prim.Native.Nat.{ℕ, _-_, _≤_, _<_}
-use Rattle.timer_parts.specs.Mask.{circuits}
+use Rattle.basics.specs.Mask.{circuits}
 use Rattle.timer_parts.specs.T1.{startEntry}
 use Rattle.timers.specs.Memory.{wordCount, entryAt}
 use Rattle.timers.proofs.entries.fill_entries.Statement.{statement}

@@ -1,7 +1,7 @@
 -- A digit and an entry are one T1.
 use native.Mathlib.Omega.{arith}
 use mathlib.Core.Path.{sym}
-use Rattle.timer_parts.specs.Mask.{bits}
+use Rattle.basics.specs.Mask.{bits}
 use Rattle.timers.specs.Memory.{entryAt}
 use Rattle.timers.proofs.T1sLaws.{getD-joined, length-bits}
 use borrow.Author.Needs.{needs}

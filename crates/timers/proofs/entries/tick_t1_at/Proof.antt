@@ -1,7 +1,7 @@
 -- The T1 that was loaded is stored after its tick.
 use mathlib.Core.Path.{ap, _∙_}
 use lib.ListN.{set}
-use Rattle.timer_parts.specs.Mask.{bits}
+use Rattle.basics.specs.Mask.{bits}
 use Rattle.timer_parts.specs.T1.{tickT1, helloDue}
 use Rattle.timers.specs.Memory.{t1sAt}
 use borrow.Author.Needs.{needs}

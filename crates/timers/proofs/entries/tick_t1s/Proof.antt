@@ -5,7 +5,7 @@ use mathlib.Core.Path.{_≡_, refl, _∙_}
 use mathlib.Core.List.{_++_, map}
 use lib.ListN.{length, take, drop, getD}
 use Prim.Native.Nat.{_-_, _≤_, _<_}
-use Rattle.timer_parts.specs.Mask.{circuits, bits}
+use Rattle.basics.specs.Mask.{circuits, bits}
 use Rattle.timer_parts.specs.T1.{tickT1, helloDue}
 use Rattle.timers.specs.Timers.{noT1}
 use Rattle.timers.specs.Memory.{wordCount, t1sAt}

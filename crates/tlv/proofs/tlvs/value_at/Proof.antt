@@ -1,5 +1,5 @@
 -- The part has the length that its length octet says.
-use Rattle.tlv.specs.Octets.{octet}
+use Rattle.basics.specs.Octets.{octet}
 use lib.ListN.{take, drop}
 use native.Mathlib.Omega.{arith}
 use mathlib.Core.Path.{_≡_, ap}

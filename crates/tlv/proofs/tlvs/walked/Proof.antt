@@ -1,7 +1,7 @@
 -- The invariant: what is left to walk is cut where the whole is, and each type is counted so far.
 use Rattle.tlv.proofs.TlvLaws.{walk-cut, walk-whole, cut-end, cut-here, cut-one, oneIf, one-here, one-not, count-one, count-le, none}
 use Rattle.tlv.specs.Tlv.{tlvs, cutAt, nextAt, ofType}
-use Rattle.tlv.specs.Octets.{octet}
+use Rattle.basics.specs.Octets.{octet}
 use lib.ListN.{length}
 use borrow.Author.Needs.{needs}
 use native.Mathlib.Omega.{arith}

@@ -1,6 +1,6 @@
 -- Each return is one test of `needsNeighbor`.
 use Rattle.restart_tlv.specs.Flags.{needsNeighbor}
-use Rattle.tlv.proofs.Chain.{calls}
+use Rattle.basics.proofs.Chain.{calls}
 use borrow.Author.Needs.{needs}
 use Rattle.restart_tlv.proofs.flags.Flags.needs_neighbor.Statement.{statement}
 use Rattle.restart_tlv.proofs.flags.Flags.needs_neighbor.Tie as tie

@@ -1,0 +1,6 @@
+pub mod Octets
+pub mod Bits
+pub mod Lists
+pub mod Levels
+pub mod Mask
+pub mod Refusal

@@ -1,2 +1,0 @@
-pub mod CommonLaws
-pub mod HeadLaws

@@ -1,2 +1,0 @@
-pub mod PackLaws
-pub mod SetupLaws

@@ -1,0 +1,20 @@
+-- The lowest digit of the head's word.
+use Rattle.control.proofs.HeadLaws.{mode-at}
+use Rattle.control.specs.Words.{modeIn}
+use Prim.Native.Nat.{ℕ, _%_}
+use mathlib.Core.Path.{ap, _∙_}
+use borrow.Author.Needs.{needs}
+use Rattle.control.proofs.head.mode_of.Statement.{statement}
+use Rattle.control.proofs.head.mode_of.Tie as tie
+
+marked-at-requires : tie.Need-marked-at-requires
+marked-at-requires c κs = search needs
+
+mode-in-requires : tie.Need-mode-in-requires
+mode-in-requires c κs = search needs
+
+returns : tie.Need-returns
+returns c = c .mode-in .ensures ∙ ap (λ (w : ℕ). modeIn (w % 2)) (c .before .marked-at .ensures) ∙ mode-at _
+
+pub mode-of-spec : {M : Type 1} → statement M
+mode-of-spec = tie.close (tie.spec marked-at-requires mode-in-requires returns)

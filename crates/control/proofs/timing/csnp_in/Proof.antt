@@ -1,0 +1,45 @@
+-- As for a hello.
+use mathlib.Core.Path.{_∙_}
+use native.Mathlib.Omega.{arith}
+use borrow.Rule.Slice.PartMut.{mid-len}
+use Rattle.control.proofs.TimingLaws.{restarting-marked, length-put, mark-put, put-stored, settles-here}
+use borrow.Author.Needs.{needs}
+use Rattle.control.proofs.timing.csnp_in.Statement.{statement}
+use Rattle.control.proofs.timing.csnp_in.Tie as tie
+
+load-head-requires : tie.Need-load-head-requires
+load-head-requires c κs = search needs
+
+sub-notice-csnp : tie.Need-sub-notice-csnp
+sub-notice-csnp c = search needs
+
+part-notice-csnp-start : tie.Need-part-notice-csnp-start
+part-notice-csnp-start c = search needs
+
+part-notice-csnp-end : tie.Need-part-notice-csnp-end
+part-notice-csnp-end c = search needs
+
+notice-csnp-requires : tie.Need-notice-csnp-requires
+notice-csnp-requires c κs = search needs
+
+store-head-requires : tie.Need-store-head-requires
+store-head-requires c κs = let s = c .before .before .before .before .before .before .before .before .before in let ws = s .args .words .now in let x = c .before .before .before .before .notice-csnp in let t = x .kept .0 ∙ mid-len 16 32 ws (omega (arith, s .pre .0)) in (length-put ws (x .last .0) (s .pre .0) t, mark-put ws (x .last .0) (s .pre .0) t (restarting-marked ws (s .pre .2)))
+
+same-length : tie.Need-same-length
+same-length c = search needs
+
+returns : tie.Need-returns
+returns c = let s = c .before .before .before .before .before .before .before .before .before .before .before .before in let ws = s .args .words .now in let x = c .before .before .before .before .before .before .before .notice-csnp in let t = x .kept .0 ∙ mid-len 16 32 ws (omega (arith, s .pre .0)) in let y = c .before .before .store-head in settles-here ws (y .last .0) _ (put-stored ws (x .last .0) (s .pre .0) t (y .last .0) _ (y .ensures)) (s .pre .2) (c .before .before .before .before .before .before .before .before .before .load-head .result) (c .before .before .before .before .before .before .before .before .before .load-head .ensures) _ _ (x .ensures)
+
+pub csnp-in-spec : {M : Type 1} → statement M
+csnp-in-spec =
+    tie.close
+    (tie.spec
+    load-head-requires
+    sub-notice-csnp
+    part-notice-csnp-start
+    part-notice-csnp-end
+    notice-csnp-requires
+    store-head-requires
+    same-length
+    returns)

@@ -1,0 +1,43 @@
+-- The mode decides; while it is Running nothing is written.
+use mathlib.Core.Path.{sym, _∙_}
+use Rattle.control.proofs.TimingLaws.{hears-still}
+use borrow.Author.Needs.{needs}
+use Rattle.control.proofs.timing.hear.Statement.{statement}
+use Rattle.control.proofs.timing.hear.Tie as tie
+
+mode-of-requires : tie.Need-mode-of-requires
+mode-of-requires c κs = search needs
+
+enum-told : tie.Need-enum-told
+enum-told c = search needs
+
+enum-told-2 : tie.Need-enum-told-2
+enum-told-2 c = search needs
+
+hear-in-requires : tie.Need-hear-in-requires
+hear-in-requires c κs = let s = c .before .before .before .before .before .before in (s .pre .0, s .pre .1, sym (c .before .before .before .mode-of .ensures) ∙ c .before .enum-told2 .given .1)
+
+same-length : tie.Need-same-length
+same-length c = search needs
+
+returns : tie.Need-returns
+returns c = hears-still (c .before .before .before .before .before .args .words .now) (sym (c .before .before .mode-of .ensures) ∙ c .enum-told .given .1) _ _ _
+
+same-length-2 : tie.Need-same-length-2
+same-length-2 c = search needs
+
+returns-2 : tie.Need-returns-2
+returns-2 c = search needs
+
+pub hear-spec : {M : Type 1} → statement M
+hear-spec =
+    tie.close
+    (tie.spec
+    mode-of-requires
+    enum-told
+    enum-told-2
+    hear-in-requires
+    same-length
+    returns
+    same-length-2
+    returns-2)

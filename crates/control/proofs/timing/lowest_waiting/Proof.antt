@@ -1,0 +1,21 @@
+-- The lowest that the head means, whatever the entries are.
+use Rattle.timers.specs.Timers.{Timers, firstRuns}
+use Rattle.control.specs.Words.{entriesOf}
+use Rattle.timers.specs.Memory.{entryAt}
+use mathlib.Core.Path.{ap, _∙_}
+use Rattle.control.proofs.TimingLaws.{timers-now}
+use borrow.Author.Needs.{needs}
+use Rattle.control.proofs.timing.lowest_waiting.Statement.{statement}
+use Rattle.control.proofs.timing.lowest_waiting.Tie as tie
+
+load-head-requires : tie.Need-load-head-requires
+load-head-requires c κs = search needs
+
+lowest-waiting-requires : tie.Need-lowest-waiting-requires
+lowest-waiting-requires c κs = search needs
+
+returns : tie.Need-returns
+returns c = let ws = c .before .before .before .args .words .now in c .lowest-waiting .ensures (entryAt (entriesOf ws)) ∙ ap (λ (t : Timers). firstRuns (t .t1s) 1) (timers-now ws _ (c .before .load-head .ensures))
+
+pub lowest-waiting-spec : {M : Type 1} → statement M
+lowest-waiting-spec = tie.close (tie.spec load-head-requires lowest-waiting-requires returns)

@@ -1,0 +1,4 @@
+pub mod Common
+pub mod Words
+pub mod Timing
+pub mod Setup

@@ -1,0 +1,36 @@
+-- What each call says of the common words: the common part that it leaves, and what it orders (document 01, "Timers while
+-- Restarting").
+use Prim.Native.Nat.{ℕ}
+use mathlib.Core.Bool.{Bool}
+use mathlib.Core.Path.{_≡_}
+use mathlib.Core.List.{List}
+use Rattle.basics.specs.declared.levels.Levels.{Levels}
+use Rattle.timer_parts.specs.declared.heard.Heard.{Heard}
+use Rattle.timer_parts.specs.declared.t1.Freed.{Freed}
+use Rattle.timers.specs.Timers.{Timers, settled, toT3, ticked, heardIn}
+use Rattle.timers.specs.Outcome.{ordered, tickHellos, heardFreed}
+use Rattle.settings.specs.declared.mode.Mode.the-variants.{Running}
+use Rattle.timers.specs.declared.outcome.Outcome.{Outcome}
+use Rattle.control.specs.Common.{commonOf, withClock, withTimers}
+
+-- a call whose own step is f; while the mode is Running no word changes
+pub record CommonSettles (f : Timers → Timers) (ws ws′ : List ℕ) (o : Outcome) : Type 0 where
+  pub common : commonOf ws′ ≡ withTimers (settled f (commonOf ws .timers)) (commonOf ws)
+  pub outcome : o ≡ ordered f (commonOf ws .timers)
+  pub kept : commonOf ws .timers .mode ≡ Running → ws′ ≡ ws
+
+-- an accepted hello on circuit i, which has the levels l, at the held clock
+pub record CommonHears (i : ℕ) (l : Levels) (d : Heard) (ws ws′ : List ℕ) (o : Outcome) (r : Freed) : Type 0 where
+  pub settles : CommonSettles (heardIn (commonOf ws .clock) i l d) ws ws′ o
+  pub freed : r ≡ heardFreed i d (commonOf ws .timers)
+
+-- a tick's timers, where the clock is moved already
+pub record CommonTicksOn (clock : ℕ) (ws ws′ : List ℕ) (o : Outcome) (h : List Bool) : Type 0 where
+  pub settles : CommonSettles (toT3 (commonOf ws .lengths) clock) ws ws′ o
+  pub hellos : h ≡ tickHellos (commonOf ws .lengths) clock (commonOf ws .timers)
+
+-- a tick: the clock, and the timers at it
+pub record CommonTicks (clock : ℕ) (ws ws′ : List ℕ) (o : Outcome) (h : List Bool) : Type 0 where
+  pub common : commonOf ws′ ≡ withTimers (ticked (commonOf ws .lengths) clock (commonOf ws .timers)) (withClock clock (commonOf ws))
+  pub outcome : o ≡ ordered (toT3 (commonOf ws .lengths) clock) (commonOf ws .timers)
+  pub hellos : h ≡ tickHellos (commonOf ws .lengths) clock (commonOf ws .timers)

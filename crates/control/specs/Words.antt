@@ -1,0 +1,138 @@
+-- The gateway's common words (house): where each thing stands, and what any words mean.
+use Prim.Native.Nat.{ℕ, zero, suc, _+_, _*_, _/_, _%_}
+use mathlib.Core.Bool.{cond}
+use mathlib.Core.List.{List, [], _∷_}
+use lib.Dec.{eqb, ltb}
+use lib.ListN.{getD, take, drop}
+use Rattle.basics.specs.declared.kind.CircuitKind.{CircuitKind}
+use Rattle.basics.specs.declared.kind.CircuitKind.the-variants.{Lan, P2p}
+use Rattle.settings.specs.declared.lengths.Lengths.{Lengths}
+use Rattle.timer_parts.specs.declared.t2.Timer.{Timer}
+use Rattle.timer_parts.specs.declared.t2.Timer.the-variants.{Stopped, Until}
+use Rattle.timer_parts.specs.declared.t2.T2.{T2}
+use Rattle.timer_parts.specs.declared.t3.T3.{T3}
+use Rattle.timer_parts.specs.declared.t3.T3.the-variants.{Idle, Runs, Expired}
+use Rattle.timers.specs.Memory.{wordCount}
+use Rattle.settings.specs.declared.mode.Mode.{Mode}
+use Rattle.settings.specs.declared.mode.Mode.the-variants.{Running, Restarting}
+use Rattle.timers.specs.declared.head.Head.{Head}
+use Rattle.settings.specs.declared.circuit.Circuit.{Circuit}
+
+abbrev pub commonWords : ℕ
+commonWords = 128
+
+-- ---- the places
+
+abbrev pub markPlace : ℕ
+markPlace = 0
+
+abbrev pub countPlace : ℕ
+countPlace = 1
+
+abbrev pub clockPlace : ℕ
+clockPlace = 2
+
+abbrev pub systemPlace : ℕ
+systemPlace = 3
+
+abbrev pub lengthsPlace : ℕ
+lengthsPlace = 4
+
+-- the timers' head: its small fields, the deadline of each T2, the deadline of T3
+abbrev pub headPlace : ℕ
+headPlace = 5
+
+-- the T1 entries, as the timers' words
+abbrev pub entriesPlace : ℕ
+entriesPlace = 16
+
+-- three words for each circuit: its small fields, its MAC, its extended circuit ID
+abbrev pub circuitsPlace : ℕ
+circuitsPlace = 32
+
+-- ---- the mark
+
+abbrev pub mark : ℕ
+mark = 5283647409863405617
+
+-- a word of memory that was set up; in any other memory it counts as 0
+unfoldable pub marked : List ℕ → ℕ → ℕ
+marked ws i = cond (eqb (getD ws markPlace 0) mark) (getD ws i 0) 0
+
+-- ---- the lengths
+
+unfoldable pub lengthsIn : ℕ → Lengths
+lengthsIn w = record { t1 = w % 65536; t2 = w / 65536 % 65536; tries = w / 4294967296 % 256 }
+
+-- ---- the circuits
+
+abbrev pub kindIn : ℕ → CircuitKind
+kindIn d = cond (eqb d 0) Lan P2p
+
+unfoldable pub circuitIn : ℕ → ℕ → ℕ → Circuit
+circuitIn w mac id =
+    record {
+      kind = kindIn (w % 2);
+      levels = record { one = eqb (w / 2 % 2) 1; two = eqb (w / 4 % 2) 1 };
+      mac = mac;
+      priority = w / 256 % 256;
+      hold = w / 65536 % 65536;
+      metric = w / 4294967296 % 4294967296;
+      id = id % 4294967296;
+    }
+
+-- circuit i, from 0
+unfoldable pub circuitAt : List ℕ → ℕ → Circuit
+circuitAt ws i = circuitIn (getD ws (circuitsPlace + 3 * i) 0) (getD ws (circuitsPlace + 3 * i + 1) 0) (getD ws (circuitsPlace + 3 * i + 2) 0)
+
+-- n circuits from circuit i on
+unfoldable pub circuitsFrom : List ℕ → ℕ → ℕ → List Circuit
+circuitsFrom ws i zero = []
+circuitsFrom ws i (suc n) = circuitAt ws i ∷ circuitsFrom ws (suc i) n
+
+-- at most 8, and a greater number counts for none; none in memory that was never set up
+abbrev pub countIn : ℕ → ℕ
+countIn n = cond (ltb 8 n) 0 n
+
+unfoldable pub countOf : List ℕ → ℕ
+countOf ws = countIn (marked ws countPlace)
+
+-- ---- the timers' head
+
+abbrev pub modeIn : ℕ → Mode
+modeIn d = cond (eqb d 0) Running Restarting
+
+abbrev pub timerIn : ℕ → ℕ → Timer
+timerIn d deadline = cond (eqb d 1) (Until deadline) Stopped
+
+abbrev pub t2In : ℕ → ℕ → ℕ → T2
+t2In d n deadline = record { timer = timerIn d deadline; noticed = eqb n 1 }
+
+abbrev pub t3In : ℕ → ℕ → T3
+t3In d deadline = cond (eqb d 0) Idle (cond (eqb d 1) (Runs deadline) Expired)
+
+unfoldable pub headIn : ℕ → ℕ → ℕ → ℕ → Head
+headIn w a b c =
+    record {
+      mode = modeIn (w % 2);
+      mask = w / 256 % 256;
+      t2s = record { one = t2In (w / 2 % 2) (w / 4 % 2) a; two = t2In (w / 8 % 2) (w / 16 % 2) b };
+      t3 = t3In (w / 32 % 4) c;
+    }
+
+-- in memory that was never set up the mode is Running and nothing runs
+unfoldable pub headOf : List ℕ → Head
+headOf ws = headIn (marked ws headPlace) (getD ws (headPlace + 1) 0) (getD ws (headPlace + 2) 0) (getD ws (headPlace + 3) 0)
+
+abbrev pub entriesOf : List ℕ → List ℕ
+entriesOf ws = take wordCount (drop entriesPlace ws)
+
+-- the deadline that is stored; of a timer that does not run any will do
+abbrev pub timerDeadline : Timer → ℕ
+timerDeadline Stopped = 0
+timerDeadline (Until deadline) = deadline
+
+abbrev pub t3Deadline : T3 → ℕ
+t3Deadline Idle = 0
+t3Deadline (Runs deadline) = deadline
+t3Deadline Expired = 0

@@ -1,0 +1,100 @@
+// The settings stored, and the timers started.
+use crate::head::store_head;
+use crate::pack::circuit_word;
+use crate::pack::lengths_word;
+use crate::words::CIRCUITS_AT;
+use crate::words::CLOCK_AT;
+use crate::words::COUNT_AT;
+use crate::words::ENTRIES_AT;
+use crate::words::LENGTHS_AT;
+use crate::words::MARK;
+use crate::words::MARK_AT;
+use crate::words::SYSTEM_AT;
+use crate::words::levels_of;
+use settings::circuit::Circuit;
+use settings::lengths::Lengths;
+use settings::setup::Settings;
+use timers::events::Start;
+use timers::events::start_timers;
+ghost use mathlib.Core.Path.{_≡_};
+ghost use mathlib.Core.Logic.{_≢_};
+ghost use Prim.Native.Nat.{ℕ, _<_, _≤_};
+ghost use lib.ListN.{length};
+ghost use Rattle.basics.specs.Mask.{bits};
+ghost use Rattle.control.specs.Words.{commonWords, circuitAt, circuitsFrom};
+ghost use Rattle.control.specs.Common.{presentOf};
+ghost use Rattle.control.specs.Setup.{Stores, SetsUp};
+
+// Circuit i, from 0.
+fn store_circuit(words: &mut [u64], i: usize, s: Circuit)
+    requires { ⌜ (length (now words) ≡ commonWords) × (i < 8) ⌝ }
+    ensures { λ _. ⌜ (circuitAt (now (words .exit)) i ≡ s) × ((j : ℕ) → j ≢ i → circuitAt (now (words .exit)) j ≡ circuitAt (now (words .entry)) j) ⌝ }
+{
+    let w = circuit_word(s);
+    let mac = s.mac;
+    let id = s.id;
+    words[CIRCUITS_AT + 3 * i] = w;
+    words[CIRCUITS_AT + 3 * i + 1] = mac;
+    words[CIRCUITS_AT + 3 * i + 2] = id as u64;
+}
+
+fn store_circuits(words: &mut [u64], all: [Circuit; 8])
+    requires { ⌜ length (now words) ≡ commonWords ⌝ }
+    ensures { λ _. ⌜ circuitsFrom (now (words .exit)) 0 8 ≡ all ⌝ }
+{
+    let mut i = 0;
+    while i < 8 {
+        let one = all[i];
+        store_circuit(words, i, one);
+        i += 1;
+    }
+}
+
+fn store_settings(words: &mut [u64], system: u64, lengths: Lengths, clock: u32, count: u8)
+    requires { ⌜ (length (now words) ≡ commonWords) × (count ≤ 8) ⌝ }
+    ensures { λ _. ⌜ Stores system lengths clock count (now (words .entry)) (now (words .exit)) ⌝ }
+{
+    let w = lengths_word(lengths);
+    words[MARK_AT] = MARK;
+    words[COUNT_AT] = count as u64;
+    words[CLOCK_AT] = clock as u64;
+    words[SYSTEM_AT] = system;
+    words[LENGTHS_AT] = w;
+}
+
+// The mask of the first circuits.
+fn present_of(count: u8) -> u8
+    requires { ⌜ count ≤ 8 ⌝ }
+    ensures { λ r. ⌜ r ≡ presentOf count ⌝ }
+{
+    ((1u16 << count) - 1) as u8
+}
+
+// The common part of a new gateway; the answer is the mask of the circuits whose hello is ordered.
+pub fn set_up(words: &mut [u64], s: Settings) -> u8
+    requires { ⌜ (length (now words) ≡ commonWords) × (s .count ≤ 8) ⌝ }
+    ensures { λ r. ⌜ SetsUp s (now (words .exit)) (bits r) ⌝ }
+{
+    let lengths = s.lengths;
+    let mode = s.mode;
+    let all = s.circuits;
+    let clock = s.clock;
+    let count = s.count;
+    let system = s.system;
+    store_circuits(words, all);
+    store_settings(words, system, lengths, clock, count);
+    let levels = levels_of(words);
+    let present = present_of(count);
+    let start = Start {
+        mode,
+        lengths,
+        clock,
+        present,
+        levels,
+    };
+    let x = start_timers(&mut words[ENTRIES_AT..CIRCUITS_AT], start);
+    let head = x.head;
+    let hellos = x.hellos;
+    store_head(words, head);
+    hellos
+}

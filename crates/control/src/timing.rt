@@ -1,0 +1,175 @@
+// The calls on the timers, over the common words. Circuits count from 0 here. In the mode Running only a tick's clock is written.
+use crate::head::load_head;
+use crate::head::mode_of;
+use crate::head::store_head;
+use crate::words::CIRCUITS_AT;
+use crate::words::ENTRIES_AT;
+use crate::words::clock_of;
+use crate::words::lengths_of;
+use crate::words::move_clock;
+use basics::levels::Levels;
+use basics::mask::Lowest;
+use restart_tlv::flags::Flags;
+use settings::mode::Mode;
+use timer_parts::heard::Heard;
+use timer_parts::t1::Freed;
+use timers::outcome::Outcome;
+ghost use mathlib.Core.Path.{_≡_};
+ghost use Prim.Native.Nat.{_<_};
+ghost use lib.ListN.{length, getD};
+ghost use Rattle.basics.specs.Mask.{circuits, bits};
+ghost use Rattle.timer_parts.specs.T1.{helloFlags};
+ghost use Rattle.timers.specs.Timers.{noT1, csnpIn, noticeT2s, countRuns, firstRuns};
+ghost use Rattle.settings.specs.declared.mode.Mode.the-variants.{Restarting};
+ghost use Rattle.control.specs.Words.{commonWords};
+ghost use Rattle.control.specs.Common.{commonOf};
+ghost use Rattle.control.specs.Timing.{CommonSettles, CommonHears, CommonTicksOn, CommonTicks};
+
+pub struct Handled {
+    pub outcome: Outcome,
+    pub freed: Freed,
+}
+
+pub struct Ticked {
+    pub hellos: u8,
+    pub outcome: Outcome,
+}
+
+fn hear_in(words: &mut [u64], i: usize, l: Levels, d: Heard) -> Handled
+    requires { ⌜ (length (now words) ≡ commonWords) × (i < circuits) × (commonOf (now words) .timers .mode ≡ Restarting) ⌝ }
+    ensures { λ r. ⌜ CommonHears i l d (now (words .entry)) (now (words .exit)) (r .outcome) (r .freed) ⌝ }
+{
+    let h = load_head(words);
+    let clock = clock_of(words);
+    let x = timers::events::hear_hello(&mut words[ENTRIES_AT..CIRCUITS_AT], h, clock, i, l, d);
+    let head = x.head;
+    let outcome = x.outcome;
+    let freed = x.freed;
+    store_head(words, head);
+    Handled { outcome, freed }
+}
+
+// An accepted hello on circuit i, which has the levels `l`, at the held clock.
+pub fn hear(words: &mut [u64], i: usize, l: Levels, d: Heard) -> Handled
+    requires { ⌜ (length (now words) ≡ commonWords) × (i < circuits) ⌝ }
+    ensures { λ r. ⌜ CommonHears i l d (now (words .entry)) (now (words .exit)) (r .outcome) (r .freed) ⌝ }
+{
+    let mode = mode_of(words);
+    match mode {
+        Mode::Running => Handled {
+            outcome: Outcome::Idle,
+            freed: Freed::Kept,
+        },
+        Mode::Restarting => hear_in(words, i, l, d),
+    }
+}
+
+fn csnp_in(words: &mut [u64], i: usize, l: Levels, n: Levels) -> Outcome
+    requires { ⌜ (length (now words) ≡ commonWords) × (i < circuits) × (commonOf (now words) .timers .mode ≡ Restarting) ⌝ }
+    ensures { λ r. ⌜ CommonSettles (csnpIn i l n) (now (words .entry)) (now (words .exit)) r ⌝ }
+{
+    let h = load_head(words);
+    let x = timers::events::notice_csnp(&mut words[ENTRIES_AT..CIRCUITS_AT], h, i, l, n);
+    let head = x.head;
+    let outcome = x.outcome;
+    store_head(words, head);
+    outcome
+}
+
+// The CSNP sets of the levels `n` are complete on circuit i, which has the levels `l`.
+pub fn notice_csnp(words: &mut [u64], i: usize, l: Levels, n: Levels) -> Outcome
+    requires { ⌜ (length (now words) ≡ commonWords) × (i < circuits) ⌝ }
+    ensures { λ r. ⌜ CommonSettles (csnpIn i l n) (now (words .entry)) (now (words .exit)) r ⌝ }
+{
+    let mode = mode_of(words);
+    match mode {
+        Mode::Running => Outcome::Idle,
+        Mode::Restarting => csnp_in(words, i, l, n),
+    }
+}
+
+fn database_in(words: &mut [u64], n: Levels) -> Outcome
+    requires { ⌜ (length (now words) ≡ commonWords) × (commonOf (now words) .timers .mode ≡ Restarting) ⌝ }
+    ensures { λ r. ⌜ CommonSettles (noticeT2s n) (now (words .entry)) (now (words .exit)) r ⌝ }
+{
+    let h = load_head(words);
+    let x = timers::events::notice_database(h, n);
+    let head = x.head;
+    let outcome = x.outcome;
+    store_head(words, head);
+    outcome
+}
+
+// The databases of the levels `n` are complete.
+pub fn notice_database(words: &mut [u64], n: Levels) -> Outcome
+    requires { ⌜ length (now words) ≡ commonWords ⌝ }
+    ensures { λ r. ⌜ CommonSettles (noticeT2s n) (now (words .entry)) (now (words .exit)) r ⌝ }
+{
+    let mode = mode_of(words);
+    match mode {
+        Mode::Running => Outcome::Idle,
+        Mode::Restarting => database_in(words, n),
+    }
+}
+
+fn tick_in(words: &mut [u64], clock: u32) -> Ticked
+    requires { ⌜ (length (now words) ≡ commonWords) × (commonOf (now words) .timers .mode ≡ Restarting) ⌝ }
+    ensures { λ r. ⌜ CommonTicksOn clock (now (words .entry)) (now (words .exit)) (r .outcome) (bits (r .hellos)) ⌝ }
+{
+    let h = load_head(words);
+    let s = lengths_of(words);
+    let x = timers::events::tick_timers(&mut words[ENTRIES_AT..CIRCUITS_AT], h, s, clock);
+    let head = x.head;
+    let outcome = x.outcome;
+    let hellos = x.hellos;
+    store_head(words, head);
+    Ticked { hellos, outcome }
+}
+
+fn tick_on(words: &mut [u64], clock: u32) -> Ticked
+    requires { ⌜ length (now words) ≡ commonWords ⌝ }
+    ensures { λ r. ⌜ CommonTicksOn clock (now (words .entry)) (now (words .exit)) (r .outcome) (bits (r .hellos)) ⌝ }
+{
+    let mode = mode_of(words);
+    match mode {
+        Mode::Running => Ticked {
+            hellos: 0,
+            outcome: Outcome::Idle,
+        },
+        Mode::Restarting => tick_in(words, clock),
+    }
+}
+
+// The clock, and then the timers at it.
+pub fn tick(words: &mut [u64], clock: u32) -> Ticked
+    requires { ⌜ length (now words) ≡ commonWords ⌝ }
+    ensures { λ r. ⌜ CommonTicks clock (now (words .entry)) (now (words .exit)) (r .outcome) (bits (r .hellos)) ⌝ }
+{
+    move_clock(words, clock);
+    tick_on(words, clock)
+}
+
+// The flags of the next hello on circuit i.
+pub fn next_flags(words: &[u64], i: usize) -> Flags
+    requires { ⌜ (length (now words) ≡ commonWords) × (i < circuits) ⌝ }
+    ensures { λ r. ⌜ r ≡ helloFlags (getD (commonOf (now (words .entry)) .timers .t1s) i noT1) ⌝ }
+{
+    let h = load_head(words);
+    timers::events::next_flags(&words[ENTRIES_AT..CIRCUITS_AT], h, i)
+}
+
+// How many circuits still wait for T1.
+pub fn count_waiting(words: &[u64]) -> u32
+    requires { ⌜ length (now words) ≡ commonWords ⌝ }
+    ensures { λ r. ⌜ r ≡ countRuns (commonOf (now (words .entry)) .timers .t1s) ⌝ }
+{
+    timers::head::count_waiting(load_head(words))
+}
+
+// The lowest such circuit, by its number from 1.
+pub fn lowest_waiting(words: &[u64]) -> Lowest
+    requires { ⌜ length (now words) ≡ commonWords ⌝ }
+    ensures { λ r. ⌜ r ≡ firstRuns (commonOf (now (words .entry)) .timers .t1s) 1 ⌝ }
+{
+    timers::head::lowest_waiting(load_head(words))
+}

@@ -1,0 +1,172 @@
+// The gateway's common words (house).
+//
+//   word  0     1      2      3          4        5             6, 7          8            9-15   16-31       32-55     56-127
+//         mark  count  clock  System ID  lengths  timers' head  T2 deadlines  T3 deadline  free   T1 entries  circuits  free
+//
+// A circuit has three words: its small fields, its MAC, its extended circuit ID. In memory without the mark the words 1 and 5
+// count as 0: it has no circuits, and no timer runs there.
+use basics::kind::CircuitKind;
+use basics::levels::Levels;
+use basics::levels::join_levels;
+use settings::circuit::Chosen;
+use settings::circuit::Circuit;
+use settings::lengths::Lengths;
+ghost use mathlib.Core.Path.{_≡_};
+ghost use Prim.Native.Nat.{_<_, _≤_};
+ghost use lib.ListN.{length};
+ghost use Rattle.settings.specs.Settings.{enabledLevels};
+ghost use Rattle.control.specs.Words.{commonWords, marked, countOf, kindIn, circuitIn, circuitAt, lengthsIn};
+ghost use Rattle.control.specs.Common.{commonOf, withClock, Chooses};
+
+pub const MARK: u64 = 5283647409863405617;
+
+pub const MARK_AT: usize = 0;
+
+pub const COUNT_AT: usize = 1;
+
+pub const CLOCK_AT: usize = 2;
+
+pub const SYSTEM_AT: usize = 3;
+
+pub const LENGTHS_AT: usize = 4;
+
+pub const HEAD_AT: usize = 5;
+
+pub const ENTRIES_AT: usize = 16;
+
+pub const CIRCUITS_AT: usize = 32;
+
+// A word of memory that was set up.
+pub fn marked_at(words: &[u64], i: usize) -> u64
+    requires { ⌜ (length (now words) ≡ commonWords) × (i < commonWords) ⌝ }
+    ensures { λ r. ⌜ r ≡ marked (now (words .entry)) i ⌝ }
+{
+    if words[MARK_AT] == MARK {
+        return words[i];
+    }
+    0
+}
+
+pub fn count_of(words: &[u64]) -> usize
+    requires { ⌜ length (now words) ≡ commonWords ⌝ }
+    ensures { λ r. ⌜ (r ≡ countOf (now (words .entry))) × (r ≤ 8) ⌝ }
+{
+    let n = marked_at(words, COUNT_AT);
+    if 8 < n {
+        return 0;
+    }
+    n as usize
+}
+
+fn kind_in(d: u64) -> CircuitKind
+    ensures { λ r. ⌜ r ≡ kindIn d ⌝ }
+{
+    if d == 0 {
+        return CircuitKind::Lan;
+    }
+    CircuitKind::P2p
+}
+
+fn circuit_in(w: u64, mac: u64, id: u64) -> Circuit
+    ensures { λ r. ⌜ r ≡ circuitIn w mac id ⌝ }
+{
+    let kind = kind_in(w % 2);
+    Circuit {
+        kind,
+        levels: Levels {
+            one: w / 2 % 2 == 1,
+            two: w / 4 % 2 == 1,
+        },
+        mac,
+        priority: (w / 256 % 256) as u8,
+        hold: (w / 65536 % 65536) as u16,
+        metric: (w / 4294967296 % 4294967296) as u32,
+        id: (id % 4294967296) as u32,
+    }
+}
+
+// Circuit i, from 0.
+fn load_circuit(words: &[u64], i: usize) -> Circuit
+    requires { ⌜ (length (now words) ≡ commonWords) × (i < 8) ⌝ }
+    ensures { λ r. ⌜ r ≡ circuitAt (now (words .entry)) i ⌝ }
+{
+    circuit_in(
+        words[CIRCUITS_AT + 3 * i],
+        words[CIRCUITS_AT + 3 * i + 1],
+        words[CIRCUITS_AT + 3 * i + 2],
+    )
+}
+
+// The circuit of the number n; where there is none, a call on it is refused (1).
+pub fn circuit_of(words: &[u64], n: u8) -> Chosen
+    requires { ⌜ length (now words) ≡ commonWords ⌝ }
+    ensures { λ r. ⌜ Chooses (commonOf (now (words .entry))) n r ⌝ }
+{
+    if n == 0 {
+        return Chosen::Unknown;
+    }
+    let i = n as usize - 1;
+    if count_of(words) <= i {
+        return Chosen::Unknown;
+    }
+    let circuit = load_circuit(words, i);
+    Chosen::Known(circuit)
+}
+
+pub fn clock_of(words: &[u64]) -> u32
+    requires { ⌜ length (now words) ≡ commonWords ⌝ }
+    ensures { λ r. ⌜ r ≡ commonOf (now (words .entry)) .clock ⌝ }
+{
+    (words[CLOCK_AT] % 4294967296) as u32
+}
+
+pub fn system_of(words: &[u64]) -> u64
+    requires { ⌜ length (now words) ≡ commonWords ⌝ }
+    ensures { λ r. ⌜ r ≡ commonOf (now (words .entry)) .system ⌝ }
+{
+    words[SYSTEM_AT]
+}
+
+fn lengths_in(w: u64) -> Lengths
+    ensures { λ r. ⌜ r ≡ lengthsIn w ⌝ }
+{
+    Lengths {
+        t1: (w % 65536) as u16,
+        t2: (w / 65536 % 65536) as u16,
+        tries: (w / 4294967296 % 256) as u8,
+    }
+}
+
+pub fn lengths_of(words: &[u64]) -> Lengths
+    requires { ⌜ length (now words) ≡ commonWords ⌝ }
+    ensures { λ r. ⌜ r ≡ commonOf (now (words .entry)) .lengths ⌝ }
+{
+    lengths_in(words[LENGTHS_AT])
+}
+
+// The levels that are enabled on some circuit.
+pub fn levels_of(words: &[u64]) -> Levels
+    requires { ⌜ length (now words) ≡ commonWords ⌝ }
+    ensures { λ r. ⌜ r ≡ enabledLevels (commonOf (now (words .entry)) .circuits) ⌝ }
+{
+    let count = count_of(words);
+    let mut found = Levels {
+        one: false,
+        two: false,
+    };
+    let mut i = 0;
+    while i < count {
+        let one = load_circuit(words, i);
+        let levels = one.levels;
+        found = join_levels(found, levels);
+        i += 1;
+    }
+    found
+}
+
+pub fn move_clock(words: &mut [u64], clock: u32)
+    requires { ⌜ length (now words) ≡ commonWords ⌝ }
+    ensures { λ _. ⌜ commonOf (now (words .exit)) ≡ withClock clock (commonOf (now (words .entry))) ⌝ }
+{
+    words[CLOCK_AT] = clock as u64;
+}

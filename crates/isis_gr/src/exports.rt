@@ -1,0 +1,144 @@
+// The calls of crate gateway, each with its answer as one word (specs/Numbers.antt). The lowest octet is the code: 0 where the call was
+// done, else the refusal's number, which then is the whole word. A refusal leaves every lent word and octet as it was.
+use crate::answers::flags_word;
+use crate::answers::looked_word;
+use crate::answers::metric_word;
+use crate::answers::noticed_word;
+use crate::answers::received_word;
+use crate::answers::released_word;
+use crate::answers::set_up_word;
+use crate::answers::ticked_word;
+use crate::answers::waiting_word;
+use crate::answers::write_found;
+use crate::config::SETTINGS_OCTETS;
+use crate::config::are_settings_known;
+use crate::config::settings_in;
+use basics::refusal::Refusal;
+use gateway::calls::GATEWAY_WORDS;
+use gateway::calls::csnp_complete;
+use gateway::calls::database_complete;
+use gateway::calls::link_metric;
+use gateway::calls::look_up;
+use gateway::calls::next_hello_flags;
+use gateway::calls::receive;
+use gateway::calls::release;
+use gateway::calls::set_up;
+use gateway::calls::tick;
+use gateway::calls::waiting_circuits;
+use model::answers::SetUp;
+ghost use mathlib.Core.Path.{_≡_};
+ghost use mathlib.Core.List.{[]};
+ghost use Rattle.basics.specs.Octets.{big};
+ghost use Rattle.model.specs.Step.{step, At, Over, Receive, Tick, Release, CsnpComplete, DatabaseComplete, LookUp, LinkMetric, NextHello, Waiting};
+ghost use Rattle.gateway.specs.Words.{gatewayWords, gatewayOf, keyGiven};
+ghost use Rattle.isis_gr.specs.Tells.{Tells, TellsFound};
+ghost use Rattle.isis_gr.specs.Settings.{setupFrom, TellsSetup};
+
+// How many words of memory a caller lends.
+#[no_mangle]
+pub extern "C" fn isis_gr_raw_gateway_words() -> u32
+    ensures { λ r. ⌜ r ≡ gatewayWords ⌝ }
+{
+    GATEWAY_WORDS as u32
+}
+
+// The settings' octets stand as specs/Settings.antt says; a number that is not known there is refused (12).
+#[no_mangle]
+pub extern "C" fn isis_gr_raw_set_up(
+    gateway: &mut [u64; GATEWAY_WORDS],
+    settings: &[u8; SETTINGS_OCTETS],
+) -> u32
+    ensures { λ r. ⌜ TellsSetup r (setupFrom (now (settings .entry))) (now (gateway .entry)) (now (gateway .exit)) ⌝ }
+{
+    if are_settings_known(settings) {
+        return set_up_word(set_up(gateway, settings_in(settings)));
+    }
+    set_up_word(SetUp::Refused(Refusal::BadSetting))
+}
+
+#[no_mangle]
+pub extern "C" fn isis_gr_raw_receive(
+    gateway: &mut [u64; GATEWAY_WORDS],
+    circuit: u8,
+    source: &[u8; 6],
+    frame: &[u8],
+    reply: &mut [u8],
+) -> u64
+    ensures { λ r. ⌜ Tells r (step (gatewayOf (now (gateway .entry))) (At circuit (Receive (big 6 (now (source .entry)) 0) (now (frame .entry)) (now (reply .entry))))) (now (gateway .entry)) (now (gateway .exit)) (now (reply .exit)) ⌝ }
+{
+    received_word(receive(gateway, circuit, source, frame, reply))
+}
+
+#[no_mangle]
+pub extern "C" fn isis_gr_raw_tick(gateway: &mut [u64; GATEWAY_WORDS], clock: u32) -> u64
+    ensures { λ r. ⌜ Tells r (step (gatewayOf (now (gateway .entry))) (Over (Tick clock))) (now (gateway .entry)) (now (gateway .exit)) [] ⌝ }
+{
+    ticked_word(tick(gateway, clock))
+}
+
+#[no_mangle]
+pub extern "C" fn isis_gr_raw_release(gateway: &mut [u64; GATEWAY_WORDS], circuit: u8) -> u32
+    ensures { λ r. ⌜ Tells r (step (gatewayOf (now (gateway .entry))) (At circuit Release)) (now (gateway .entry)) (now (gateway .exit)) [] ⌝ }
+{
+    released_word(release(gateway, circuit))
+}
+
+#[no_mangle]
+pub extern "C" fn isis_gr_raw_csnp_complete(
+    gateway: &mut [u64; GATEWAY_WORDS],
+    circuit: u8,
+    level: u8,
+) -> u64
+    ensures { λ r. ⌜ Tells r (step (gatewayOf (now (gateway .entry))) (At circuit (CsnpComplete level))) (now (gateway .entry)) (now (gateway .exit)) [] ⌝ }
+{
+    noticed_word(csnp_complete(gateway, circuit, level))
+}
+
+#[no_mangle]
+pub extern "C" fn isis_gr_raw_database_complete(
+    gateway: &mut [u64; GATEWAY_WORDS],
+    level: u8,
+) -> u64
+    ensures { λ r. ⌜ Tells r (step (gatewayOf (now (gateway .entry))) (Over (DatabaseComplete level))) (now (gateway .entry)) (now (gateway .exit)) [] ⌝ }
+{
+    noticed_word(database_complete(gateway, level))
+}
+
+// The record's two words are its expiry and its data.
+#[no_mangle]
+pub extern "C" fn isis_gr_raw_look_up(
+    gateway: &[u64; GATEWAY_WORDS],
+    circuit: u8,
+    level: u8,
+    system: &[u8; 6],
+    mac: &[u8; 6],
+    found: &mut [u64; 2],
+) -> u32
+    ensures { λ r. ⌜ TellsFound r (step (gatewayOf (now (gateway .entry))) (At circuit (LookUp (keyGiven level (now (system .entry)) (now (mac .entry)))))) (now (gateway .entry)) (now (found .entry)) (now (found .exit)) ⌝ }
+{
+    let a = look_up(gateway, circuit, level, system, mac);
+    write_found(found, a);
+    looked_word(a)
+}
+
+#[no_mangle]
+pub extern "C" fn isis_gr_raw_link_metric(gateway: &[u64; GATEWAY_WORDS], circuit: u8) -> u64
+    ensures { λ r. ⌜ Tells r (step (gatewayOf (now (gateway .entry))) (At circuit LinkMetric)) (now (gateway .entry)) (now (gateway .entry)) [] ⌝ }
+{
+    metric_word(link_metric(gateway, circuit))
+}
+
+#[no_mangle]
+pub extern "C" fn isis_gr_raw_next_hello_flags(gateway: &[u64; GATEWAY_WORDS], circuit: u8) -> u32
+    ensures { λ r. ⌜ Tells r (step (gatewayOf (now (gateway .entry))) (At circuit NextHello)) (now (gateway .entry)) (now (gateway .entry)) [] ⌝ }
+{
+    flags_word(next_hello_flags(gateway, circuit))
+}
+
+// The lowest octet is the count, since this call is never refused.
+#[no_mangle]
+pub extern "C" fn isis_gr_raw_waiting(gateway: &[u64; GATEWAY_WORDS]) -> u32
+    ensures { λ r. ⌜ Tells r (step (gatewayOf (now (gateway .entry))) (Over Waiting)) (now (gateway .entry)) (now (gateway .entry)) [] ⌝ }
+{
+    waiting_word(waiting_circuits(gateway))
+}

@@ -1,0 +1,52 @@
+// The IS Neighbours TLVs of a LAN hello, type 6, any number of them, place by place (document 01, "TLVs read").
+use crate::search::is_listed_in;
+use tlv::tlvs::Found;
+use tlv::tlvs::IS_NEIGHBOURS;
+use tlv::tlvs::find;
+use tlv::tlvs::value_at;
+ghost use mathlib.Core.Path.{_≡_};
+ghost use mathlib.Core.Bool.{_||_};
+ghost use lib.ListN.{length};
+ghost use Rattle.tlv.specs.Tlv.{tlvs, ofType};
+ghost use Rattle.neighbours.specs.Neighbours.{listedIn};
+ghost use Rattle.neighbours.specs.Lists.{listRead};
+
+// What reading them gives: a length is no multiple of 6, or whether a MAC is listed.
+pub enum ListRead {
+    Bad,
+    Good(bool),
+}
+
+// Whether the MAC was listed before, or is in this value.
+fn is_listed_here(listed: bool, v: &[u8], mac: u64) -> bool
+    ensures { λ r. ⌜ r ≡ (listed || listedIn mac (now (v .entry))) ⌝ }
+{
+    if listed {
+        return true;
+    }
+    is_listed_in(v, mac)
+}
+
+// The lists of a PDU whose TLVs start at `from`, of which `count` are lists.
+pub fn read_lists(pdu: &[u8], from: usize, count: usize, mac: u64) -> ListRead
+    requires { ⌜ count ≡ length (ofType 6 (tlvs (now pdu) from)) ⌝ }
+    ensures { λ r. ⌜ r ≡ listRead mac (ofType 6 (tlvs (now (pdu .entry)) from)) ⌝ }
+{
+    let mut listed = false;
+    let mut at = from;
+    let mut left = count;
+    while 0 < left {
+        let found = find(pdu, at, IS_NEIGHBOURS);
+        let Found::At(p) = found else {
+            return ListRead::Good(listed);
+        };
+        let v = value_at(pdu, p);
+        if v.len() % 6 != 0 {
+            return ListRead::Bad;
+        }
+        listed = is_listed_here(listed, v, mac);
+        at = p + 2 + v.len();
+        left -= 1;
+    }
+    ListRead::Good(listed)
+}

@@ -1,0 +1,5 @@
+pub mod Table
+pub mod Place
+pub mod Sweep
+pub mod Gather
+pub mod Accept

@@ -1,0 +1,44 @@
+// Line 1's order of CSNPs and flooding marks, of the room as the frame left it (document 01, "Marks and holding time").
+use crate::search::is_outranked;
+use adjacency::duty::Csnps;
+use adjacency::duty::Rank;
+use adjacency::duty::csnps_of;
+use adjacency::marks::Line;
+use basics::levels::Levels;
+use hello::read::Link;
+ghost use mathlib.Core.Path.{_≡_};
+ghost use lib.ListN.{length};
+ghost use Rattle.slots.specs.Slots.{tableOf};
+ghost use Rattle.room.specs.Accept.{csnpsIn};
+
+// Line 1's order. On P2P it is given always, so only on a LAN is the room looked through.
+fn line_one_csnps(words: &[u64], rank: Rank, levels: Levels, link: Link) -> Csnps
+    requires { ⌜ length (now words) ≡ 64 ⌝ }
+    ensures { λ r. ⌜ r ≡ csnpsIn rank Line.One levels link (tableOf (now (words .entry))) ⌝ }
+{
+    let Link::Lan {
+        level: _,
+        priority: _,
+        listed: _,
+    } = link
+    else {
+        return Csnps::Ordered(levels);
+    };
+    let outranked = is_outranked(words, rank);
+    csnps_of(Line::One, levels, link, outranked)
+}
+
+// Of the lines only line 1 orders.
+pub fn csnps_in(words: &[u64], rank: Rank, line: Line, levels: Levels, link: Link) -> Csnps
+    requires { ⌜ length (now words) ≡ 64 ⌝ }
+    ensures { λ r. ⌜ r ≡ csnpsIn rank line levels link (tableOf (now (words .entry))) ⌝ }
+{
+    match line {
+        Line::Ordinary => Csnps::Nothing,
+        Line::One => line_one_csnps(words, rank, levels, link),
+        Line::Two => Csnps::Nothing,
+        Line::Three => Csnps::Nothing,
+        Line::Four => Csnps::Nothing,
+        Line::Five => Csnps::Nothing,
+    }
+}

@@ -1,4 +1,0 @@
-pub mod TableLaws
-pub mod SearchLaws
-pub mod PlaceLaws
-pub mod SweepLaws

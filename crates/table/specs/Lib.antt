@@ -1,4 +1,0 @@
-pub mod Table
-pub mod Place
-pub mod Sweep
-pub mod Gather

@@ -1,0 +1,54 @@
+-- One T1 is loaded, changed and stored; then the call is settled.
+use mathlib.Core.Path.{ap, _∙_}
+use Rattle.timer_parts.specs.declared.t1.T1.{T1}
+use Rattle.timer_parts.specs.T1.{satisfied, noted}
+use Rattle.timers.specs.Timers.{csnpIn}
+use Rattle.timers.specs.Memory.{entryAt, timersOf}
+use Rattle.timers.proofs.TimersLaws.{closes, t1-stored, csnpIn-is}
+use borrow.Author.Needs.{needs}
+use Rattle.timers.proofs.events.csnp_in.Statement.{statement}
+use Rattle.timers.proofs.events.csnp_in.Tie as tie
+
+load-t1-requires : tie.Need-load-t1-requires
+load-t1-requires c κs = search needs
+
+note-requires : tie.Need-note-requires
+note-requires c κs = search needs
+
+satisfy-requires : tie.Need-satisfy-requires
+satisfy-requires c κs = search needs
+
+store-t1-requires : tie.Need-store-t1-requires
+store-t1-requires c κs = search needs
+
+with-mask-requires : tie.Need-with-mask-requires
+with-mask-requires c κs = search needs
+
+settle-requires : tie.Need-settle-requires
+settle-requires c κs = search needs
+
+same-length : tie.Need-same-length
+same-length c = search needs
+
+returns : tie.Need-returns
+returns c = let a = c .before .before .before .before .before .before .before .before .before .before .before .before .args in
+    let st = c .before .before .before .before .before .store-t1 in
+    let e = entryAt (a .words .now) in
+    let f = entryAt (st .last .0) in
+    let changed = c .before .before .before .before .before .before .before .satisfy .ensures ∙ ap (satisfied (a .l)) (c .before .before .before .before .before .before .before .before .note .ensures ∙ ap (noted (a .n)) (c .before .before .before .before .before .before .before .before .before .load-t1 .ensures)) in
+    closes (csnpIn (a .i) (a .l) (a .n)) (timersOf (a .h) e) _ _ _
+    (c .before .before .with-mask .ensures f ∙ t1-stored (a .h) (st .result) (a .i) e f (λ (x : T1). satisfied (a .l) (noted (a .n) x)) _ changed (st .ensures) ∙ csnpIn-is (a .i) (a .l) (a .n) (timersOf (a .h) e))
+    (c .before .settle .ensures e f)
+
+pub csnp-in-spec : {M : Type 1} → statement M
+csnp-in-spec =
+    tie.close
+    (tie.spec
+    load-t1-requires
+    note-requires
+    satisfy-requires
+    store-t1-requires
+    with-mask-requires
+    settle-requires
+    same-length
+    returns)

@@ -1,0 +1,19 @@
+-- The notice is kept; then the call is settled.
+use Rattle.timers.specs.Timers.{noticeT2s}
+use Rattle.timers.specs.Memory.{timersOf}
+use Rattle.timers.proofs.TimersLaws.{closes}
+use borrow.Author.Needs.{needs}
+use Rattle.timers.proofs.events.database_in.Statement.{statement}
+use Rattle.timers.proofs.events.database_in.Tie as tie
+
+notice-t2s-requires : tie.Need-notice-t2s-requires
+notice-t2s-requires c κs = search needs
+
+settle-requires : tie.Need-settle-requires
+settle-requires c κs = search needs
+
+returns : tie.Need-returns
+returns c = λ e. let a = c .before .before .before .args in closes (noticeT2s (a .n)) (timersOf (a .h) e) _ _ _ (c .before .before .notice-t2s .ensures e) (c .before .settle .ensures e e)
+
+pub database-in-spec : {M : Type 1} → statement M
+database-in-spec = tie.close (tie.spec notice-t2s-requires settle-requires returns)

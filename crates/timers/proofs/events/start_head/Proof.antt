@@ -1,0 +1,56 @@
+-- The mode decides `startHead`.
+use Rattle.timers.specs.Events.{startHead}
+use borrow.Author.Needs.{needs}
+use Rattle.timers.proofs.events.start_head.Statement.{statement}
+use Rattle.timers.proofs.events.start_head.Tie as tie
+
+enum-told : tie.Need-enum-told
+enum-told c = search needs
+
+start-t2s-requires : tie.Need-start-t2s-requires
+start-t2s-requires c κs = search needs
+
+enum-told-2 : tie.Need-enum-told-2
+enum-told-2 c = search needs
+
+cast-start-t2s : tie.Need-cast-start-t2s
+cast-start-t2s c = search needs
+
+cast-start-t2s-2 : tie.Need-cast-start-t2s-2
+cast-start-t2s-2 c = search needs
+
+add-start-t2s : tie.Need-add-start-t2s
+add-start-t2s c = search needs
+
+start-t2s-requires-2 : tie.Need-start-t2s-requires-2
+start-t2s-requires-2 c κs = search needs
+
+cast-t11 : tie.Need-cast-t11
+cast-t11 c = search needs
+
+add-t13 : tie.Need-add-t13
+add-t13 c = search needs
+
+returns : tie.Need-returns
+unfolding startHead
+returns c = rw (c .before .enum-told .given .1, c .start-t2s .ensures)
+
+returns-2 : tie.Need-returns-2
+unfolding startHead
+returns-2 c = rw (c .before .before .enum-told2 .given .1, c .start-t2s2 .ensures)
+
+pub start-head-spec : {M : Type 1} → statement M
+start-head-spec =
+    tie.close
+    (tie.spec
+    enum-told
+    start-t2s-requires
+    enum-told-2
+    cast-start-t2s
+    cast-start-t2s-2
+    add-start-t2s
+    start-t2s-requires-2
+    cast-t11
+    add-t13
+    returns
+    returns-2)

@@ -1,0 +1,41 @@
+-- The T1 step, then the steps of the head; then the call is settled.
+use Rattle.timers.specs.Timers.{toT3}
+use Rattle.timers.specs.Memory.{entryAt, timersOf}
+use Rattle.timers.proofs.TimersLaws.{closes, toT3-is}
+use borrow.Author.Needs.{needs}
+use Rattle.timers.proofs.events.tick_in.Statement.{statement}
+use Rattle.timers.proofs.events.tick_in.Tie as tie
+
+tick-t1s-requires : tie.Need-tick-t1s-requires
+tick-t1s-requires c κs = search needs
+
+with-mask-requires : tie.Need-with-mask-requires
+with-mask-requires c κs = search needs
+
+tick-head-requires : tie.Need-tick-head-requires
+tick-head-requires c κs = search needs
+
+settle-requires : tie.Need-settle-requires
+settle-requires c κs = search needs
+
+same-length : tie.Need-same-length
+same-length c = search needs
+
+returns : tie.Need-returns
+returns c = let a = c .before .before .before .before .before .before .before .before .before .args in
+    let x = c .before .before .before .before .before .before .tick-t1s in
+    let e = entryAt (a .words .now) in
+    let f = entryAt (x .last .0) in
+    let mid = toT3-is (a .s) (a .clock) (x .result .mask) (a .h) e f _ _ (x .ensures .0) (c .before .before .before .with-mask .ensures f) (c .before .before .tick-head .ensures f) in
+    (closes (toT3 (a .s) (a .clock)) (timersOf (a .h) e) _ _ _ mid (c .before .settle .ensures e f), x .ensures .1)
+
+pub tick-in-spec : {M : Type 1} → statement M
+tick-in-spec =
+    tie.close
+    (tie.spec
+    tick-t1s-requires
+    with-mask-requires
+    tick-head-requires
+    settle-requires
+    same-length
+    returns)

@@ -1,0 +1,250 @@
+// Each call's share of the timers: start, tick, an accepted hello, the two notices, and the flags of the next hello. Circuits
+// count from 0 here. In the mode Running nothing changes and the outcome is Idle; refusals are the caller's.
+use crate::entries::fill_entries;
+use crate::entries::load_t1;
+use crate::entries::store_t1;
+use crate::entries::tick_t1s;
+use crate::head::Head;
+use crate::head::notice_t2s;
+use crate::head::tick_head;
+use crate::head::with_mask;
+use crate::head::with_t3;
+use crate::outcome::Outcome;
+use crate::outcome::settle;
+use basics::levels::Levels;
+use restart_tlv::flags::Flags;
+use settings::lengths::Lengths;
+use settings::mode::Mode;
+use timer_parts::heard::Heard;
+use timer_parts::t1::Freed;
+use timer_parts::t1::freed_by;
+use timer_parts::t1::hear_t1;
+use timer_parts::t1::hello_flags;
+use timer_parts::t1::note;
+use timer_parts::t1::satisfy;
+use timer_parts::t2::start_t2s;
+use timer_parts::t3::T3;
+use timer_parts::t3::hear_t3;
+ghost use mathlib.Core.Path.{_≡_};
+ghost use mathlib.Core.List.{map};
+ghost use Prim.Native.Nat.{ℕ, _<_};
+ghost use lib.ListN.{length, getD};
+ghost use Rattle.basics.specs.Mask.{circuits, bits};
+ghost use Rattle.timer_parts.specs.T1.{helloDue, freedBy, helloFlags};
+ghost use Rattle.timer_parts.specs.declared.t1.Entry.{Entry};
+ghost use Rattle.timers.specs.Timers.{noT1, toT3, heardIn, csnpIn, noticeT2s};
+ghost use Rattle.timers.specs.Memory.{wordCount, timersOf, timersAt, t1sAt};
+ghost use Rattle.timers.specs.Events.{startHead, Starts, Closes, Settles, Ticks, Hears};
+
+// What setup gives to the timers: the mode, the lengths, the clock, the mask of the circuits that are there, and the levels that
+// are enabled on some circuit.
+pub struct Start {
+    pub mode: Mode,
+    pub lengths: Lengths,
+    pub clock: u32,
+    pub present: u8,
+    pub levels: Levels,
+}
+
+pub struct Started {
+    pub head: Head,
+    pub hellos: u8,
+}
+
+pub struct Ticked {
+    pub head: Head,
+    pub hellos: u8,
+    pub outcome: Outcome,
+}
+
+pub struct Handled {
+    pub head: Head,
+    pub outcome: Outcome,
+    pub freed: Freed,
+}
+
+pub struct Noticed {
+    pub head: Head,
+    pub outcome: Outcome,
+}
+
+fn start_head(s: Start) -> Head
+    ensures { λ r. ⌜ r ≡ startHead s ⌝ }
+{
+    let mode = s.mode;
+    let lengths = s.lengths;
+    let levels = s.levels;
+    let clock = s.clock;
+    match mode {
+        Mode::Running => {
+            let none = Levels {
+                one: false,
+                two: false,
+            };
+            let t2s = start_t2s(none, 0);
+            Head {
+                mode,
+                mask: 0,
+                t2s,
+                t3: T3::Idle,
+            }
+        }
+        Mode::Restarting => {
+            let t2s = start_t2s(levels, clock as u64 + lengths.t2 as u64);
+            Head {
+                mode,
+                mask: s.present,
+                t2s,
+                t3: T3::Runs(clock as u64 + 65535),
+            }
+        }
+    }
+}
+
+// The timers as setup leaves them, and the hellos that it orders.
+pub fn start_timers(words: &mut [u64], s: Start) -> Started
+    requires { ⌜ length (now words) ≡ wordCount ⌝ }
+    ensures { λ r. ⌜ Starts s (timersAt (r .head) (now (words .exit))) (bits (r .hellos)) ⌝ }
+{
+    let lengths = s.lengths;
+    let clock = s.clock;
+    fill_entries(words, clock as u64 + lengths.t1 as u64);
+    let head = start_head(s);
+    Started {
+        head,
+        hellos: head.mask,
+    }
+}
+
+fn tick_in(words: &mut [u64], h: Head, s: Lengths, clock: u32) -> Ticked
+    requires { ⌜ length (now words) ≡ wordCount ⌝ }
+    ensures { λ r. ⌜ Closes (toT3 s clock) (timersAt h (now (words .entry))) (timersAt (r .head) (now (words .exit))) (r .outcome)
+        × (bits (r .hellos) ≡ map (helloDue s clock) (t1sAt (h .mask) (now (words .entry)))) ⌝ }
+{
+    let m = tick_t1s(words, h.mask, s, clock);
+    let mask = m.mask;
+    let hellos = m.hellos;
+    let mid = tick_head(clock, with_mask(h, mask));
+    let end = settle(h, mid);
+    let head = end.head;
+    let outcome = end.outcome;
+    Ticked {
+        head,
+        hellos,
+        outcome,
+    }
+}
+
+// A tick, after its records.
+pub fn tick_timers(words: &mut [u64], h: Head, s: Lengths, clock: u32) -> Ticked
+    requires { ⌜ length (now words) ≡ wordCount ⌝ }
+    ensures { λ r. ⌜ Ticks s clock (timersAt h (now (words .entry))) (timersAt (r .head) (now (words .exit))) (r .outcome) (bits (r .hellos)) ⌝ }
+{
+    let mode = h.mode;
+    match mode {
+        Mode::Running => Ticked {
+            head: h,
+            hellos: 0,
+            outcome: Outcome::Idle,
+        },
+        Mode::Restarting => tick_in(words, h, s, clock),
+    }
+}
+
+fn hear_in(words: &mut [u64], h: Head, clock: u32, i: usize, l: Levels, d: Heard) -> Handled
+    requires { ⌜ (length (now words) ≡ wordCount) × (i < circuits) ⌝ }
+    ensures { λ r. ⌜ Closes (heardIn clock i l d) (timersAt h (now (words .entry))) (timersAt (r .head) (now (words .exit))) (r .outcome)
+        × (r .freed ≡ freedBy d (getD (t1sAt (h .mask) (now (words .entry))) i noT1)) ⌝ }
+{
+    let m = h.mask;
+    let x = h.t3;
+    let t = load_t1(words, m, i);
+    let freed = freed_by(d, t);
+    let next = hear_t1(l, d, t);
+    let mask = store_t1(words, m, i, next);
+    let t3 = hear_t3(clock, d, x);
+    let end = settle(h, with_t3(with_mask(h, mask), t3));
+    let head = end.head;
+    let outcome = end.outcome;
+    Handled {
+        head,
+        outcome,
+        freed,
+    }
+}
+
+// An accepted hello on circuit i, which has the levels `l`.
+pub fn hear_hello(words: &mut [u64], h: Head, clock: u32, i: usize, l: Levels, d: Heard) -> Handled
+    requires { ⌜ (length (now words) ≡ wordCount) × (i < circuits) ⌝ }
+    ensures { λ r. ⌜ Hears clock i l d (timersAt h (now (words .entry))) (timersAt (r .head) (now (words .exit))) (r .outcome) (r .freed) ⌝ }
+{
+    let mode = h.mode;
+    match mode {
+        Mode::Running => Handled {
+            head: h,
+            outcome: Outcome::Idle,
+            freed: Freed::Kept,
+        },
+        Mode::Restarting => hear_in(words, h, clock, i, l, d),
+    }
+}
+
+fn csnp_in(words: &mut [u64], h: Head, i: usize, l: Levels, n: Levels) -> Noticed
+    requires { ⌜ (length (now words) ≡ wordCount) × (i < circuits) ⌝ }
+    ensures { λ r. ⌜ Closes (csnpIn i l n) (timersAt h (now (words .entry))) (timersAt (r .head) (now (words .exit))) (r .outcome) ⌝ }
+{
+    let m = h.mask;
+    let t = load_t1(words, m, i);
+    let next = satisfy(l, note(n, t));
+    let mask = store_t1(words, m, i, next);
+    let end = settle(h, with_mask(h, mask));
+    let head = end.head;
+    let outcome = end.outcome;
+    Noticed { head, outcome }
+}
+
+// The CSNP sets of the levels `n` are complete on circuit i, which has the levels `l`.
+pub fn notice_csnp(words: &mut [u64], h: Head, i: usize, l: Levels, n: Levels) -> Noticed
+    requires { ⌜ (length (now words) ≡ wordCount) × (i < circuits) ⌝ }
+    ensures { λ r. ⌜ Settles (csnpIn i l n) (timersAt h (now (words .entry))) (timersAt (r .head) (now (words .exit))) (r .outcome) ⌝ }
+{
+    let mode = h.mode;
+    match mode {
+        Mode::Running => Noticed {
+            head: h,
+            outcome: Outcome::Idle,
+        },
+        Mode::Restarting => csnp_in(words, h, i, l, n),
+    }
+}
+
+fn database_in(h: Head, n: Levels) -> Noticed
+    ensures { λ r. ⌜ ((e : ℕ → Entry) → Closes (noticeT2s n) (timersOf h e) (timersOf (r .head) e) (r .outcome)) ⌝ }
+{
+    let end = settle(h, notice_t2s(n, h));
+    let head = end.head;
+    let outcome = end.outcome;
+    Noticed { head, outcome }
+}
+
+// The databases of the levels `n` are complete. No entry changes.
+pub fn notice_database(h: Head, n: Levels) -> Noticed
+    ensures { λ r. ⌜ ((e : ℕ → Entry) → Settles (noticeT2s n) (timersOf h e) (timersOf (r .head) e) (r .outcome)) ⌝ }
+{
+    let mode = h.mode;
+    match mode {
+        Mode::Running => Noticed {
+            head: h,
+            outcome: Outcome::Idle,
+        },
+        Mode::Restarting => database_in(h, n),
+    }
+}
+
+// The flags of the next hello on circuit i.
+pub fn next_flags(words: &[u64], h: Head, i: usize) -> Flags
+    requires { ⌜ (length (now words) ≡ wordCount) × (i < circuits) ⌝ }
+    ensures { λ r. ⌜ r ≡ helloFlags (getD (timersAt h (now (words .entry)) .t1s) i noT1) ⌝ }
+{
+    hello_flags(load_t1(words, h.mask, i))
+}
