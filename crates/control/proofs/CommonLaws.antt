@@ -13,8 +13,9 @@ use Rattle.settings.specs.Settings.{enabledLevels}
 use Rattle.settings.proofs.SettingsLaws.{enabled-step}
 use Rattle.timers.specs.Memory.{wordCount, timersAt}
 use Rattle.settings.specs.declared.circuit.Circuit.{Circuit}
-use Rattle.control.specs.Words.{commonWords, markPlace, countPlace, clockPlace, systemPlace, lengthsPlace, headPlace, entriesPlace, circuitsPlace, marked, countIn, countOf, circuitIn, circuitAt, circuitsFrom, headOf, entriesOf, lengthsIn}
-use Rattle.control.specs.Common.{commonOf, withClock, withTimers, circuitOf, Chooses}
+use Rattle.control.specs.Words.{controlWords, markPlace, countPlace, clockPlace, systemPlace, lengthsPlace, headPlace, entriesPlace, circuitsPlace, marked, countIn, countOf, circuitAt, circuitsFrom, headOf, entriesOf, lengthsIn, commonOf}
+use Rattle.control.specs.Common.{withClock, withTimers, circuitOf, Chooses, noCircuit}
+use Rattle.basics.specs.Mask.{circuits}
 use Rattle.settings.specs.declared.circuit.Chosen.the-variants.{Known, Unknown}
 
 -- ---- the circuits
@@ -55,7 +56,7 @@ module _ (ws : List ℕ) where
       let q : length (commonOf ws .circuits) ≤ i = omega (arith, circuits-length) in
       record { is = rw (le-ltb i (length (commonOf ws .circuits)) q) refl; range = tt }
 
-  pub chooses-known : (n : ℕ) → 0 < n → n - 1 < countOf ws → countOf ws ≤ 8 → Chooses (commonOf ws) n (Known (circuitAt ws (n - 1)))
+  pub chooses-known : (n : ℕ) → 0 < n → n - 1 < countOf ws → countOf ws ≤ circuits → Chooses (commonOf ws) n (Known (circuitAt ws (n - 1)))
   unfolding circuitOf
   chooses-known zero p e h = absurd (omega arith)
   chooses-known (suc i) p e h =
@@ -63,7 +64,7 @@ module _ (ws : List ℕ) where
       let z : suc i - 1 ≡ i = omega arith in
       let l : i < countOf ws = omega arith in
       record {
-        is = rw (lt-ltb i (length (commonOf ws .circuits)) q) (ap Known (ap (circuitAt ws) z ∙ sym (circuits-nth i (circuitIn 0 0 0) l)));
+        is = rw (lt-ltb i (length (commonOf ws .circuits)) q) (ap Known (ap (circuitAt ws) z ∙ sym (circuits-nth i noCircuit l)));
         range = (omega arith, omega arith);
       }
 
@@ -72,7 +73,7 @@ module _ (ws : List ℕ) where
       → union found (enabledLevels (drop i (commonOf ws .circuits))) ≡ enabledLevels (commonOf ws .circuits)
       → union next (enabledLevels (drop (i + 1) (commonOf ws .circuits))) ≡ enabledLevels (commonOf ws .circuits)
   levels-step found next i s lt e n h =
-      let d = circuitIn 0 0 0 in
+      let d = noCircuit in
       let cs = commonOf ws .circuits in
       ap (λ (l : Levels). union l (enabledLevels (drop (i + 1) cs)))
       (n ∙ ap (λ (x : Circuit). union found (x .levels)) (e ∙ sym (circuits-nth i d lt)))
@@ -117,7 +118,7 @@ module _ (a e : ℕ) (ws ws′ : List ℕ) (k : Keeps a e ws ws′) where
       aside i lt (inl h) = inr (omega arith)
       aside i lt (inr h) = inl (omega arith)
 
-  pub entries-kept : length ws ≡ commonWords → length ws′ ≡ commonWords → e ≤ entriesPlace → entriesOf ws′ ≡ entriesOf ws
+  pub entries-kept : length ws ≡ controlWords → length ws′ ≡ controlWords → e ≤ entriesPlace → entriesOf ws′ ≡ entriesOf ws
   entries-kept l l′ h =
       ext-getD 0 (entriesOf ws′) (entriesOf ws) (long ws′ l′ ∙ sym (long ws l))
       (λ i lt.
@@ -125,22 +126,22 @@ module _ (a e : ℕ) (ws ws′ : List ℕ) (k : Keeps a e ws ws′) where
       getD-take wordCount (drop entriesPlace ws′) i 0 b ∙ getD-drop entriesPlace ws′ i 0 ∙ k (entriesPlace + i) (inr (omega arith))
       ∙ sym (getD-take wordCount (drop entriesPlace ws) i 0 b ∙ getD-drop entriesPlace ws i 0))
     where
-      long : (xs : List ℕ) → length xs ≡ commonWords → length (entriesOf xs) ≡ wordCount
+      long : (xs : List ℕ) → length xs ≡ controlWords → length (entriesOf xs) ≡ wordCount
       long xs l = length-take-le wordCount (drop entriesPlace xs) (simp length-drop (omega arith))
 
 module _ (ws ws′ : List ℕ) where
   -- the clock's word
-  clock-changed : Keeps clockPlace (clockPlace + 1) ws ws′ → length ws ≡ commonWords → length ws′ ≡ commonWords
+  clock-changed : Keeps clockPlace (clockPlace + 1) ws ws′ → length ws ≡ controlWords → length ws′ ≡ controlWords
       → commonOf ws′ ≡ withClock (getD ws′ clockPlace 0 % 4294967296) (commonOf ws)
   unfolding commonOf countOf
   clock-changed k l l′ =
       cc (
         k systemPlace (inr (omega arith)),
         k lengthsPlace (inr (omega arith)),
-        marked-kept 2 3 ws ws′ k countPlace (omega arith) (inl (omega arith)),
-        circuits-kept 2 3 ws ws′ k 0 (countIn (marked ws countPlace)) (omega arith),
-        head-kept 2 3 ws ws′ k (omega arith) (inl (omega arith)),
-        entries-kept 2 3 ws ws′ k l l′ (omega arith),
+        marked-kept clockPlace (clockPlace + 1) ws ws′ k countPlace (omega arith) (inl (omega arith)),
+        circuits-kept clockPlace (clockPlace + 1) ws ws′ k 0 (countIn (marked ws countPlace)) (omega arith),
+        head-kept clockPlace (clockPlace + 1) ws ws′ k (omega arith) (inl (omega arith)),
+        entries-kept clockPlace (clockPlace + 1) ws ws′ k l l′ (omega arith),
       )
 
   -- the timers' words
@@ -151,11 +152,11 @@ module _ (ws ws′ : List ℕ) where
         k systemPlace (inl (omega arith)),
         k lengthsPlace (inl (omega arith)),
         k clockPlace (inl (omega arith)),
-        marked-kept 5 32 ws ws′ k countPlace (omega arith) (inl (omega arith)),
-        circuits-kept 5 32 ws ws′ k 0 (countIn (marked ws countPlace)) (omega arith),
+        marked-kept headPlace circuitsPlace ws ws′ k countPlace (omega arith) (inl (omega arith)),
+        circuits-kept headPlace circuitsPlace ws ws′ k 0 (countIn (marked ws countPlace)) (omega arith),
       )
 
-pub clock-set : (ws : List ℕ) (clock : ℕ) → length ws ≡ commonWords → clock < 4294967296
+pub clock-set : (ws : List ℕ) (clock : ℕ) → length ws ≡ controlWords → clock < 4294967296
     → commonOf (set ws clockPlace clock) ≡ withClock clock (commonOf ws)
 clock-set ws clock l lt =
     let e : clock % 4294967296 ≡ clock = omega arith in

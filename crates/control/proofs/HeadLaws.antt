@@ -11,11 +11,11 @@ use borrow.Author.Tests.{eq-eqb}
 use Rattle.basics.proofs.BitLaws.{bit-back}
 use Rattle.timers.specs.Memory.{timersOf, timersAt}
 use Rattle.timers.specs.declared.head.Head.{Head}
-use Rattle.control.specs.Words.{commonWords, markPlace, headPlace, circuitsPlace, mark, marked, modeIn, timerIn, t2In, t3In, headIn, headOf, entriesOf, timerDeadline, t3Deadline}
-use Rattle.control.specs.Common.{commonOf, withTimers}
+use Rattle.control.specs.Words.{controlWords, markPlace, headPlace, circuitsPlace, mark, marked, modeIn, timerIn, t2In, t3In, headIn, headOf, entriesOf, timerDeadline, t3Deadline, commonOf}
+use Rattle.control.specs.Common.{withTimers}
 use Rattle.control.proofs.CommonLaws.{Keeps, entries-kept, timers-changed}
 
-pub mode-at : (ws : List ℕ) → modeIn (marked ws headPlace % 2) ≡ commonOf ws .timers .mode
+pub mode-at : (ws : List ℕ) → modeIn (marked ws headPlace % 4) ≡ commonOf ws .timers .mode
 unfolding commonOf headOf headIn timersOf
 mode-at ws = refl
 
@@ -25,33 +25,33 @@ unfolding headOf
 head-at ws w e = rw e refl
 
 -- the digits of the head's word: the mode, whether each T2 runs and was noticed, T3, the mask
-fields : (m x n y p z k a b e : ℕ) → m < 2 → x < 2 → n < 2 → y < 2 → p < 2 → z < 4 → k < 256
-    → headIn (m + 2 * x + 4 * n + 8 * y + 16 * p + 32 * z + 256 * k) a b e
+fields : (m x n y p z k a b e : ℕ) → m < 4 → x < 2 → n < 2 → y < 2 → p < 2 → z < 4 → k < 256
+    → headIn (m + 4 * x + 8 * n + 16 * y + 32 * p + 64 * z + 256 * k) a b e
     ≡ record { mode = modeIn m; mask = k; t2s = record { one = t2In x n a; two = t2In y p b }; t3 = t3In z e }
 unfolding headIn
 fields m x n y p z k a b e hm hx hn hy hp hz hk =
-    let e₀ : (m + 2 * x + 4 * n + 8 * y + 16 * p + 32 * z + 256 * k) % 2 ≡ m = omega arith in
-    let q₁ : (m + 2 * x + 4 * n + 8 * y + 16 * p + 32 * z + 256 * k) / 2 ≡ x + 2 * n + 4 * y + 8 * p + 16 * z + 128 * k = omega arith in
-    let q₂ : (m + 2 * x + 4 * n + 8 * y + 16 * p + 32 * z + 256 * k) / 4 ≡ n + 2 * y + 4 * p + 8 * z + 64 * k = omega arith in
-    let q₃ : (m + 2 * x + 4 * n + 8 * y + 16 * p + 32 * z + 256 * k) / 8 ≡ y + 2 * p + 4 * z + 32 * k = omega arith in
-    let q₄ : (m + 2 * x + 4 * n + 8 * y + 16 * p + 32 * z + 256 * k) / 16 ≡ p + 2 * z + 16 * k = omega arith in
-    let q₅ : (m + 2 * x + 4 * n + 8 * y + 16 * p + 32 * z + 256 * k) / 32 ≡ z + 8 * k = omega arith in
-    let q₆ : (m + 2 * x + 4 * n + 8 * y + 16 * p + 32 * z + 256 * k) / 256 ≡ k = omega arith in
-    let e₁ : (x + 2 * n + 4 * y + 8 * p + 16 * z + 128 * k) % 2 ≡ x = omega arith in
-    let e₂ : (n + 2 * y + 4 * p + 8 * z + 64 * k) % 2 ≡ n = omega arith in
-    let e₃ : (y + 2 * p + 4 * z + 32 * k) % 2 ≡ y = omega arith in
-    let e₄ : (p + 2 * z + 16 * k) % 2 ≡ p = omega arith in
-    let e₅ : (z + 8 * k) % 4 ≡ z = omega arith in
+    let e₀ : (m + 4 * x + 8 * n + 16 * y + 32 * p + 64 * z + 256 * k) % 4 ≡ m = omega arith in
+    let q₁ : (m + 4 * x + 8 * n + 16 * y + 32 * p + 64 * z + 256 * k) / 4 ≡ x + 2 * n + 4 * y + 8 * p + 16 * z + 64 * k = omega arith in
+    let q₂ : (m + 4 * x + 8 * n + 16 * y + 32 * p + 64 * z + 256 * k) / 8 ≡ n + 2 * y + 4 * p + 8 * z + 32 * k = omega arith in
+    let q₃ : (m + 4 * x + 8 * n + 16 * y + 32 * p + 64 * z + 256 * k) / 16 ≡ y + 2 * p + 4 * z + 16 * k = omega arith in
+    let q₄ : (m + 4 * x + 8 * n + 16 * y + 32 * p + 64 * z + 256 * k) / 32 ≡ p + 2 * z + 8 * k = omega arith in
+    let q₅ : (m + 4 * x + 8 * n + 16 * y + 32 * p + 64 * z + 256 * k) / 64 ≡ z + 4 * k = omega arith in
+    let q₆ : (m + 4 * x + 8 * n + 16 * y + 32 * p + 64 * z + 256 * k) / 256 ≡ k = omega arith in
+    let e₁ : (x + 2 * n + 4 * y + 8 * p + 16 * z + 64 * k) % 2 ≡ x = omega arith in
+    let e₂ : (n + 2 * y + 4 * p + 8 * z + 32 * k) % 2 ≡ n = omega arith in
+    let e₃ : (y + 2 * p + 4 * z + 16 * k) % 2 ≡ y = omega arith in
+    let e₄ : (p + 2 * z + 8 * k) % 2 ≡ p = omega arith in
+    let e₅ : (z + 4 * k) % 4 ≡ z = omega arith in
     let e₆ : k % 256 ≡ k = omega arith in
     rw (e₀, q₁, q₂, q₃, q₄, q₅, q₆, e₁, e₂, e₃, e₄, e₅, e₆)
 
 -- the word that a head is stored as
 module _ (h : Head) (m x n y p z : ℕ) where
-  pub head-back : (modeIn m ≡ h .mode) × (m < 2)
+  pub head-back : (modeIn m ≡ h .mode) × (m < 4)
       → (timerIn x (timerDeadline (h .t2s .one .timer)) ≡ h .t2s .one .timer) × (x < 2) → (n ≡ cond (h .t2s .one .noticed) 1 0) × (n < 2)
       → (timerIn y (timerDeadline (h .t2s .two .timer)) ≡ h .t2s .two .timer) × (y < 2) → (p ≡ cond (h .t2s .two .noticed) 1 0) × (p < 2)
       → (t3In z (t3Deadline (h .t3)) ≡ h .t3) × (z < 4) → h .mask < 256
-      → headIn (m + 2 * x + 4 * n + 8 * y + 16 * p + 32 * z + 256 * h .mask) (timerDeadline (h .t2s .one .timer)) (timerDeadline (h .t2s .two .timer)) (t3Deadline (h .t3)) ≡ h
+      → headIn (m + 4 * x + 8 * n + 16 * y + 32 * p + 64 * z + 256 * h .mask) (timerDeadline (h .t2s .one .timer)) (timerDeadline (h .t2s .two .timer)) (t3Deadline (h .t3)) ≡ h
   head-back hm hx hn hy hp hz hk =
       fields m x n y p z (h .mask) (timerDeadline (h .t2s .one .timer)) (timerDeadline (h .t2s .two .timer)) (t3Deadline (h .t3)) (hm .1) (hx .1) (hn .1) (hy .1) (hp .1) (hz .1) hk
       ∙ rw (hm .0, hx .0, bit-back _ (h .t2s .one .noticed) (hn .0), hy .0, bit-back _ (h .t2s .two .noticed) (hp .0), hz .0)
@@ -60,8 +60,8 @@ module _ (h : Head) (m x n y p z : ℕ) where
 abbrev pub set4 : List ℕ → ℕ → ℕ → ℕ → ℕ → List ℕ
 set4 ws w a b e = set (set (set (set ws headPlace w) (headPlace + 1) a) (headPlace + 2) b) (headPlace + 3) e
 
-module _ (ws : List ℕ) (w a b e : ℕ) (len : length ws ≡ commonWords) where
-  length-set4 : length (set4 ws w a b e) ≡ commonWords
+module _ (ws : List ℕ) (w a b e : ℕ) (len : length ws ≡ controlWords) where
+  length-set4 : length (set4 ws w a b e) ≡ controlWords
   length-set4 = simp length-set len
 
   set4-keeps : Keeps headPlace (headPlace + 4) ws (set4 ws w a b e)

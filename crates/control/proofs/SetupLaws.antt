@@ -5,6 +5,7 @@ use mathlib.Core.Path.{_≡_, refl, ap, sym, _∙_}
 use mathlib.Core.Logic.{inl, inr, _≢_}
 use mathlib.Core.List.{List, [], _∷_}
 use lib.Dec.{ltb}
+use Rattle.basics.specs.Mask.{circuits}
 use Rattle.basics.proofs.BoolLaws.{by-test}
 use lib.ListN.{length, getD, set, take, length-set}
 use lib.Seq.{ext-getD, getD-set-same, getD-set-other}
@@ -17,8 +18,8 @@ use Rattle.timers.specs.declared.events.Start.{Start}
 use Rattle.settings.specs.declared.circuit.Circuit.{Circuit}
 use Rattle.settings.specs.declared.setup.Settings.{Settings}
 use Rattle.settings.specs.Settings.{circuitsOf, enabledLevels}
-use Rattle.control.specs.Words.{commonWords, markPlace, countPlace, clockPlace, systemPlace, lengthsPlace, circuitsPlace, mark, marked, lengthsIn, circuitIn, circuitAt, circuitsFrom, countOf}
-use Rattle.control.specs.Common.{commonOf, withTimers, presentOf, startOf, setupCommon}
+use Rattle.control.specs.Words.{controlWords, markPlace, countPlace, clockPlace, systemPlace, lengthsPlace, circuitsPlace, mark, marked, lengthsIn, circuitIn, circuitAt, circuitsFrom, countOf, commonOf}
+use Rattle.control.specs.Common.{withTimers, presentOf, startOf, setupCommon, noCircuit}
 use Rattle.control.proofs.CommonLaws.{length-circuits, circuits-at, Keeps, circuits-kept}
 use Rattle.control.specs.Setup.{Stores, SetsUp}
 
@@ -44,7 +45,7 @@ module _ (ws : List ℕ) (i w mac id : ℕ) where
       let a = ap (λ (n : ℕ). getD (set3 ws i w mac id) n 0) (sym z) ∙ apart j 0 ne (omega arith) ∙ ap (λ (n : ℕ). getD ws n 0) z in
       rw (a, apart j 1 ne (omega arith), apart j 2 ne (omega arith)) refl
 
-  pub circuit-here : length ws ≡ commonWords → i < 8 → circuitAt (set3 ws i w mac id) i ≡ circuitIn w mac id
+  pub circuit-here : length ws ≡ controlWords → i < circuits → circuitAt (set3 ws i w mac id) i ≡ circuitIn w mac id
   unfolding circuitAt
   circuit-here len lt =
       let x1 = set ws (circuitsPlace + 3 * i) w in
@@ -62,7 +63,7 @@ module _ (ws : List ℕ) (i w mac id : ℕ) where
 
 -- the circuits before i are stored
 abbrev pub Stored : List ℕ → List Circuit → ℕ → Type 0
-Stored ws all i = (j : ℕ) → j < i → circuitAt ws j ≡ getD all j (circuitIn 0 0 0)
+Stored ws all i = (j : ℕ) → j < i → circuitAt ws j ≡ getD all j (noCircuit)
 
 default-free : (l : List Circuit) (i : ℕ) (d d′ : Circuit) → i < length l → getD l i d ≡ getD l i d′
 default-free [] i d d′ lt = absurd (omega arith)
@@ -73,15 +74,15 @@ pub stored-step : (ws ws′ : List ℕ) (all : List Circuit) (i : ℕ) (d : Circ
     → ((j : ℕ) → j ≢ i → circuitAt ws′ j ≡ circuitAt ws j) → Stored ws′ all (i + 1)
 stored-step ws ws′ all i d li s e o j lt =
     by-test (ltb j i) (λ q. let h : j < i = ltb-true j i q in o j (λ (z : j ≡ i). omega arith) ∙ s j h)
-    (λ q. let h : i ≤ j = ltb-false j i q in let z : j ≡ i = omega arith in rw z (e ∙ default-free all i d (circuitIn 0 0 0) li))
+    (λ q. let h : i ≤ j = ltb-false j i q in let z : j ≡ i = omega arith in rw z (e ∙ default-free all i d (noCircuit) li))
 
-pub stored-all : (ws : List ℕ) (all : List Circuit) → length all ≡ 8 → Stored ws all 8 → circuitsFrom ws 0 8 ≡ all
+pub stored-all : (ws : List ℕ) (all : List Circuit) → length all ≡ circuits → Stored ws all circuits → circuitsFrom ws 0 circuits ≡ all
 stored-all ws all len s =
-    ext-getD (circuitIn 0 0 0) (circuitsFrom ws 0 8) all (length-circuits ws 0 8 ∙ sym len)
+    ext-getD (noCircuit) (circuitsFrom ws 0 circuits) all (length-circuits ws 0 circuits ∙ sym len)
     (λ i lt.
-    let h : i < 8 = omega (arith, length-circuits ws 0 8) in
+    let h : i < circuits = omega (arith, length-circuits ws 0 circuits) in
     let z : 0 + i ≡ i = omega arith in
-    circuits-at ws 0 8 i (circuitIn 0 0 0) h ∙ ap (circuitAt ws) z ∙ s i h)
+    circuits-at ws 0 circuits i (noCircuit) h ∙ ap (circuitAt ws) z ∙ s i h)
 
 -- the first n of the eight
 circuits-take : (ws : List ℕ) (i n k : ℕ) → n ≤ k → circuitsFrom ws i n ≡ take n (circuitsFrom ws i k)
@@ -92,7 +93,7 @@ circuits-take ws i (suc n) (suc k) le = ap (λ (l : List Circuit). circuitAt ws 
 
 -- ---- the other settings
 
-module _ (ws : List ℕ) (system clock count w : ℕ) (len : length ws ≡ commonWords) where
+module _ (ws : List ℕ) (system clock count w : ℕ) (len : length ws ≡ controlWords) where
   abbrev x1 : List ℕ
   x1 = set ws markPlace mark
 
@@ -139,12 +140,12 @@ module _ (ws : List ℕ) (system clock count w : ℕ) (len : length ws ≡ commo
   system-there : getD set5 systemPlace 0 ≡ system
   system-there = far x4 lengthsPlace systemPlace w (omega arith) ∙ getD-set-same x3 systemPlace system 0 (simp length-set (omega arith))
 
-  counted : count ≤ 8 → countOf set5 ≡ count
+  counted : count ≤ circuits → countOf set5 ≡ count
   unfolding countOf marked
   counted h =
-      rw (eq-eqb (getD set5 markPlace 0) mark mark-there, count-there, le-ltb 8 count h) refl
+      rw (eq-eqb (getD set5 markPlace 0) mark mark-there, count-there, le-ltb circuits count h) refl
 
-  pub settings-stored : (lengths : Lengths) → lengthsIn w ≡ lengths → clock < 4294967296 → count ≤ 8 → Stores system lengths clock count ws set5
+  pub settings-stored : (lengths : Lengths) → lengthsIn w ≡ lengths → clock < 4294967296 → count ≤ circuits → Stores system lengths clock count ws set5
   unfolding commonOf
   settings-stored lengths e hc hn =
       let z : clock % 4294967296 ≡ clock = omega arith in
@@ -158,14 +159,14 @@ module _ (ws : List ℕ) (system clock count w : ℕ) (len : length ws ≡ commo
 
 -- ---- all of it
 
-module _ (s : Settings) (le : s .count ≤ 8) (ws mid : List ℕ) (start : Start) where
-  pub all-set : circuitsFrom ws 0 8 ≡ s .circuits → Stores (s .system) (s .lengths) (s .clock) (s .count) ws mid
+module _ (s : Settings) (le : s .count ≤ circuits) (ws mid : List ℕ) (start : Start) where
+  pub all-set : circuitsFrom ws 0 circuits ≡ s .circuits → Stores (s .system) (s .lengths) (s .clock) (s .count) ws mid
       → start .mode ≡ s .mode → start .lengths ≡ s .lengths → start .clock ≡ s .clock → start .present ≡ presentOf (s .count)
       → start .levels ≡ enabledLevels (commonOf mid .circuits)
       → (withTimers (started start) (commonOf mid) ≡ setupCommon s) × (start ≡ startOf s)
   unfolding setupCommon
   all-set c m e₁ e₂ e₃ e₄ e₅ =
-      let k : commonOf mid .circuits ≡ circuitsOf s = m .circuits ∙ circuits-take ws 0 (s .count) 8 le ∙ ap (take (s .count)) c in
+      let k : commonOf mid .circuits ≡ circuitsOf s = m .circuits ∙ circuits-take ws 0 (s .count) circuits le ∙ ap (take (s .count)) c in
       let q : start ≡ startOf s = begun start (startOf s) e₁ e₂ e₃ e₄ (e₅ ∙ ap enabledLevels k) in
       (cc (m .system, m .lengths, m .clock, k, ap started q), q)
     where

@@ -4,7 +4,7 @@ use native.Mathlib.Omega.{arith}
 use mathlib.Core.Path.{_≡_, refl, ap, sym, subst, _∙_}
 use mathlib.Core.Bool.{Bool, true, false, true≢false}
 use mathlib.Core.Logic.{inl, inr}
-use mathlib.Core.List.{List}
+use mathlib.Core.List.{List, map}
 use lib.Dec.{eqb}
 use lib.ListN.{length, getD}
 use borrow.Author.Tests.{eqb-true}
@@ -20,31 +20,30 @@ use Rattle.timers.specs.Timers.{Timers, settled, toT3, heardIn}
 use Rattle.timers.specs.Memory.{wordCount, entryAt, timersOf, timersAt}
 use Rattle.settings.specs.Mode.{isRunning}
 use Rattle.timers.specs.Outcome.{ordered, tickHellos}
-use Rattle.timers.specs.Events.{Settles, Ticks, Hears}
-use Rattle.settings.specs.declared.mode.Mode.{Mode}
-use Rattle.settings.specs.declared.mode.Mode.the-variants.{Running, Restarting}
+use Rattle.timers.specs.Events.{Closes, Ticks, Hears}
+use Rattle.settings.specs.declared.mode.Mode.the-variants.{Running}
 use Rattle.timers.specs.declared.head.Head.{Head}
 use Rattle.timers.specs.declared.outcome.Outcome.{Outcome}
 use Rattle.timers.specs.declared.outcome.Outcome.the-variants.{Idle}
-use Rattle.timers.proofs.TimersLaws.{settles-running, ticks-running, hears-running}
-use Rattle.control.specs.Words.{commonWords, markPlace, entriesPlace, circuitsPlace, headPlace, mark, marked, headOf, entriesOf}
-use Rattle.control.specs.Common.{Common, commonOf, withClock, withTimers}
+use Rattle.timers.proofs.T1sLaws.{bits-none}
+use Rattle.timers.proofs.TimersLaws.{settled-on, ordered-on, hellos-on, freed-on, settled-off, ordered-off, hellos-off, freed-off}
+use Rattle.control.specs.Words.{controlWords, markPlace, entriesPlace, circuitsPlace, headPlace, mark, marked, headOf, entriesOf, commonOf, entriesEnd}
+use Rattle.control.specs.Common.{Common, withClock, withTimers}
 use Rattle.control.proofs.CommonLaws.{Keeps, timers-changed}
 use Rattle.control.proofs.HeadLaws.{mode-at}
-use Rattle.control.specs.Timing.{CommonSettles, CommonHears, CommonTicksOn, CommonTicks}
+use Rattle.control.specs.Timing.{On, CommonSettles, CommonHears, CommonTicksOn, CommonTicks}
 use Rattle.basics.proofs.PartLaws.{length-back, part-same, outside}
 
 -- ---- the mode
 
-not-both : (m : Mode) → m ≡ Restarting → m ≡ Running → ⊥
-not-both m e f = true≢false (sym (ap isRunning f) ∙ ap isRunning e)
-
--- memory in the mode Restarting was set up
-pub restarting-marked : (ws : List ℕ) → commonOf ws .timers .mode ≡ Restarting → getD ws markPlace 0 ≡ mark
+-- memory whose mode is not Running was set up
+pub on-marked : (ws : List ℕ) → On ws → getD ws markPlace 0 ≡ mark
 unfolding marked
-restarting-marked ws m =
+on-marked ws m =
     by-test (eqb (getD ws markPlace 0) mark) (λ q. eqb-true (getD ws markPlace 0) mark q)
-    (λ q. absurd (not-both (commonOf ws .timers .mode) m (sym (mode-at ws) ∙ rw q refl)))
+    (λ q.
+    let e : commonOf ws .timers .mode ≡ Running = sym (mode-at ws) ∙ rw q refl in
+    absurd (true≢false (sym (ap isRunning e) ∙ m)))
 
 -- ---- the head, and the entries put back
 
@@ -52,15 +51,15 @@ pub timers-now : (ws : List ℕ) (h : Head) → h ≡ headOf ws → timersAt h (
 unfolding commonOf
 timers-now ws h e = rw e refl
 
-module _ (ws t : List ℕ) (len : length ws ≡ commonWords) (lt : length t ≡ wordCount) where
+module _ (ws t : List ℕ) (len : length ws ≡ controlWords) (lt : length t ≡ wordCount) where
   abbrev back : List ℕ
   back = putMid entriesPlace wordCount ws t
 
-  pub length-put : length back ≡ commonWords
-  length-put = length-back entriesPlace circuitsPlace ws t (omega arith) (omega arith) lt ∙ len
+  pub length-put : length back ≡ controlWords
+  length-put = length-back entriesPlace entriesEnd ws t (omega arith) (omega arith) lt ∙ len
 
-  put-keeps : Keeps entriesPlace circuitsPlace ws back
-  put-keeps = outside entriesPlace circuitsPlace ws t (omega arith) (omega arith) lt
+  put-keeps : Keeps entriesPlace entriesEnd ws back
+  put-keeps = outside entriesPlace entriesEnd ws t (omega arith) (omega arith) lt
 
   pub mark-put : getD ws markPlace 0 ≡ mark → getD back markPlace 0 ≡ mark
   mark-put m = put-keeps markPlace (inl (omega arith)) ∙ m
@@ -70,66 +69,66 @@ module _ (ws t : List ℕ) (len : length ws ≡ commonWords) (lt : length t ≡ 
       → commonOf u ≡ withTimers (timersAt h t) (commonOf ws)
   put-stored u h p =
       p ∙ ap (λ (c : Common). withTimers (timersAt h (entriesOf back)) c) (timers-changed ws back wider)
-      ∙ ap (λ (l : List ℕ). withTimers (timersAt h l) (commonOf ws)) (part-same entriesPlace circuitsPlace ws t (omega arith) (omega arith) lt)
+      ∙ ap (λ (l : List ℕ). withTimers (timersAt h l) (commonOf ws)) (part-same entriesPlace entriesEnd ws t (omega arith) (omega arith) lt)
     where
       wider : Keeps headPlace circuitsPlace ws back
       wider q (inl h) = put-keeps q (inl (omega arith))
-      wider q (inr h) = put-keeps q (inr h)
+      wider q (inr h) = put-keeps q (inr (omega arith))
 
 -- ---- what a call leaves
 
-module _ (ws u : List ℕ) (after : Timers) (p : commonOf u ≡ withTimers after (commonOf ws)) (m : commonOf ws .timers .mode ≡ Restarting) where
-  settles-on : (f : Timers → Timers) (o : Outcome) → Settles f (commonOf ws .timers) after o → CommonSettles f ws u o
+module _ (ws u : List ℕ) (after : Timers) (p : commonOf u ≡ withTimers after (commonOf ws)) (m : On ws) where
+  settles-on : (f : Timers → Timers) (o : Outcome) → Closes f (commonOf ws .timers) after o → CommonSettles f ws u o
   settles-on f o s =
       record {
-        common = p ∙ ap (λ (t : Timers). withTimers t (commonOf ws)) (s .timers);
-        outcome = s .outcome;
-        kept = λ r. absurd (not-both (commonOf ws .timers .mode) m r);
+        common = p ∙ ap (λ (t : Timers). withTimers t (commonOf ws)) (s .timers ∙ settled-on (commonOf ws .timers) m f);
+        outcome = s .outcome ∙ ordered-on (commonOf ws .timers) m f;
       }
 
   module _ (h : Head) (e : h ≡ headOf ws) where
-    pub settles-here : (f : Timers → Timers) (o : Outcome) → Settles f (timersAt h (entriesOf ws)) after o → CommonSettles f ws u o
-    settles-here f o s = settles-on f o (subst (λ (t : Timers). Settles f t after o) (timers-now ws h e) s)
+    pub settles-here : (f : Timers → Timers) (o : Outcome) → Closes f (timersAt h (entriesOf ws)) after o → CommonSettles f ws u o
+    settles-here f o s = settles-on f o (subst (λ (t : Timers). Closes f t after o) (timers-now ws h e) s)
 
     pub hears-here : (clock i : ℕ) (l : Levels) (d : Heard) (o : Outcome) (r : Freed) → clock ≡ commonOf ws .clock
         → Hears clock i l d (timersAt h (entriesOf ws)) after o r → CommonHears i l d ws u o r
     hears-here clock i l d o r k s =
         let x = subst (λ (t : Timers). Hears (commonOf ws .clock) i l d t after o r) (timers-now ws h e)
         (subst (λ (n : ℕ). Hears n i l d (timersAt h (entriesOf ws)) after o r) k s) in
-        record { settles = settles-on (heardIn (commonOf ws .clock) i l d) o (x .settles); freed = x .freed }
+        record { settles = settles-on (heardIn (commonOf ws .clock) i l d) o (x .closes); freed = x .freed ∙ freed-on (commonOf ws .timers) m i d }
 
     pub ticks-here : (lengths : Lengths) (clock : ℕ) (o : Outcome) (hs : List Bool) → lengths ≡ commonOf ws .lengths
         → Ticks lengths clock (timersAt h (entriesOf ws)) after o hs → CommonTicksOn clock ws u o hs
     ticks-here lengths clock o hs k s =
         let x = subst (λ (t : Timers). Ticks (commonOf ws .lengths) clock t after o hs) (timers-now ws h e)
         (subst (λ (n : Lengths). Ticks n clock (timersAt h (entriesOf ws)) after o hs) k s) in
-        record { settles = settles-on (toT3 (commonOf ws .lengths) clock) o (x .settles); hellos = x .hellos }
+        record {
+          settles = settles-on (toT3 (commonOf ws .lengths) clock) o (x .closes);
+          hellos = x .hellos ∙ hellos-on (commonOf ws .timers) m (commonOf ws .lengths) clock;
+        }
 
 -- while the mode is Running
-module _ (ws : List ℕ) (m : commonOf ws .timers .mode ≡ Running) where
-  head-runs : headOf ws .mode ≡ Running
-  unfolding timersOf
-  head-runs = ap (λ (t : Timers). t .mode) (timers-now ws (headOf ws) refl) ∙ m
-
-  at-rest : (f : Timers → Timers) → Settles f (commonOf ws .timers) (commonOf ws .timers) Idle → CommonSettles f ws ws Idle
-  at-rest f s =
-      record { common = ap (λ (t : Timers). withTimers t (commonOf ws)) (s .timers); outcome = s .outcome; kept = λ r. refl }
-
-  pub settles-still : (f : Timers → Timers) → CommonSettles f ws ws Idle
-  unfolding commonOf
-  settles-still f = at-rest f (settles-running (headOf ws) (entryAt (entriesOf ws)) f head-runs)
+module _ (ws : List ℕ) (m : isRunning (commonOf ws .timers .mode) ≡ true) where
+  settles-still : (f : Timers → Timers) → CommonSettles f ws ws Idle
+  settles-still f =
+      record {
+        common = ap (λ (t : Timers). withTimers t (commonOf ws)) (settled-off (commonOf ws .timers) m f);
+        outcome = ordered-off (commonOf ws .timers) m f;
+      }
 
   pub hears-still : (i : ℕ) (l : Levels) (d : Heard) → CommonHears i l d ws ws Idle Kept
-  unfolding commonOf
   hears-still i l d =
-      let x = hears-running (headOf ws) (entryAt (entriesOf ws)) (commonOf ws .clock) i l d head-runs in
-      record { settles = at-rest (heardIn (commonOf ws .clock) i l d) (x .settles); freed = x .freed }
+      record { settles = settles-still (heardIn (commonOf ws .clock) i l d); freed = freed-off (commonOf ws .timers) m i d }
+
+  no-hellos : bits 0 ≡ map (λ x. false) (commonOf ws .timers .t1s)
+  unfolding commonOf timersOf
+  no-hellos = bits-none (headOf ws .mask) (entryAt (entriesOf ws))
 
   pub ticks-still : (clock : ℕ) → CommonTicksOn clock ws ws Idle (bits 0)
-  unfolding commonOf
   ticks-still clock =
-      let x = ticks-running (headOf ws) (entryAt (entriesOf ws)) (commonOf ws .lengths) clock head-runs in
-      record { settles = at-rest (toT3 (commonOf ws .lengths) clock) (x .settles); hellos = x .hellos }
+      record {
+        settles = settles-still (toT3 (commonOf ws .lengths) clock);
+        hellos = no-hellos ∙ hellos-off (commonOf ws .timers) m (commonOf ws .lengths) clock;
+      }
 
 -- the clock is moved first
 pub ticks-moved : (ws mid u : List ℕ) (clock : ℕ) (o : Outcome) (hs : List Bool) → commonOf mid ≡ withClock clock (commonOf ws)

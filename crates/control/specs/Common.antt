@@ -1,19 +1,19 @@
 -- What is not one circuit's own records (document 01, "What the gateway holds"): the settings, the clock and the timers.
-use Prim.Native.Nat.{ℕ, zero, suc, _-_, _^_, _%_, _<_, _≤_}
-use mathlib.Core.Bool.{cond}
+use Prim.Native.Nat.{ℕ, zero, suc, _-_, _^_, _<_, _≤_}
+use mathlib.Core.Bool.{false, cond}
 use mathlib.Core.Path.{_≡_}
 use mathlib.Core.List.{List}
 use lib.Dec.{ltb}
 use lib.ListN.{length, getD}
+use Rattle.basics.specs.Mask.{circuits}
+use Rattle.basics.specs.declared.kind.CircuitKind.the-variants.{Lan}
 use Rattle.settings.specs.declared.lengths.Lengths.{Lengths}
 use Rattle.timers.specs.Timers.{Timers}
-use Rattle.timers.specs.Memory.{timersAt}
 use Rattle.timers.specs.Events.{started}
 use Rattle.timers.specs.declared.events.Start.{Start}
 use Rattle.settings.specs.declared.circuit.Circuit.{Circuit}
 use Rattle.settings.specs.declared.setup.Settings.{Settings}
 use Rattle.settings.specs.Settings.{circuitsOf, enabledLevels}
-use Rattle.control.specs.Words.{clockPlace, systemPlace, lengthsPlace, countOf, lengthsIn, circuitIn, circuitsFrom, headOf, entriesOf}
 use Rattle.settings.specs.declared.circuit.Chosen.{Chosen}
 use Rattle.settings.specs.declared.circuit.Chosen.the-variants.{Known, Unknown}
 
@@ -24,30 +24,23 @@ pub record Common : Type 0 where
   pub clock : ℕ
   pub timers : Timers
 
--- Any words mean some common part. Memory that was never set up has no circuits, and its mode is Running.
-unfoldable pub commonOf : List ℕ → Common
-commonOf ws =
-    record {
-      system = getD ws systemPlace 0;
-      lengths = lengthsIn (getD ws lengthsPlace 0);
-      circuits = circuitsFrom ws 0 (countOf ws);
-      clock = getD ws clockPlace 0 % 4294967296;
-      timers = timersAt (headOf ws) (entriesOf ws);
-    }
-
 abbrev pub withClock : ℕ → Common → Common
 withClock clock c = record { system = c .system; lengths = c .lengths; circuits = c .circuits; clock = clock; timers = c .timers }
 
 abbrev pub withTimers : Timers → Common → Common
 withTimers t c = record { system = c .system; lengths = c .lengths; circuits = c .circuits; clock = c .clock; timers = t }
 
+-- what stands past the circuits' end: no call asks for it
+abbrev pub noCircuit : Circuit
+noCircuit = record { kind = Lan; levels = record { one = false; two = false }; mac = 0; priority = 0; hold = 0; metric = 0; id = 0 }
+
 -- "1 to 8 circuits, numbered from 1"; document 01, "Refusals by number": 1 where there is no circuit of that number
 unfoldable pub circuitOf : Common → ℕ → Chosen
 circuitOf c zero = Unknown
-circuitOf c (suc i) = cond (ltb i (length (c .circuits))) (Known (getD (c .circuits) i (circuitIn 0 0 0))) Unknown
+circuitOf c (suc i) = cond (ltb i (length (c .circuits))) (Known (getD (c .circuits) i noCircuit)) Unknown
 
 abbrev pub InRange : ℕ → Chosen → Type 0
-InRange n (Known s) = (0 < n) × (n ≤ 8)
+InRange n (Known s) = (0 < n) × (n ≤ circuits)
 InRange n Unknown = Unit {0}
 
 -- the circuit of the number n, with the number's range

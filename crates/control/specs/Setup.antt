@@ -7,8 +7,8 @@ use lib.ListN.{getD}
 use Rattle.settings.specs.declared.lengths.Lengths.{Lengths}
 use Rattle.timers.specs.Events.{startHellos}
 use Rattle.settings.specs.declared.setup.Settings.{Settings}
-use Rattle.control.specs.Words.{markPlace, mark, circuitsFrom}
-use Rattle.control.specs.Common.{commonOf, startOf, setupCommon}
+use Rattle.control.specs.Words.{markPlace, mark, circuitsFrom, commonOf}
+use Rattle.control.specs.Common.{startOf, setupCommon}
 
 -- the words that are no timer's and no circuit's
 pub record Stores (own : ℕ) (l : Lengths) (time n : ℕ) (ws ws′ : List ℕ) : Type 0 where

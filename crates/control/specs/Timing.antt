@@ -1,7 +1,7 @@
 -- What each call says of the common words: the common part that it leaves, and what it orders (document 01, "Timers while
 -- Restarting").
 use Prim.Native.Nat.{ℕ}
-use mathlib.Core.Bool.{Bool}
+use mathlib.Core.Bool.{Bool, false}
 use mathlib.Core.Path.{_≡_}
 use mathlib.Core.List.{List}
 use Rattle.basics.specs.declared.levels.Levels.{Levels}
@@ -9,15 +9,19 @@ use Rattle.timer_parts.specs.declared.heard.Heard.{Heard}
 use Rattle.timer_parts.specs.declared.t1.Freed.{Freed}
 use Rattle.timers.specs.Timers.{Timers, settled, toT3, ticked, heardIn}
 use Rattle.timers.specs.Outcome.{ordered, tickHellos, heardFreed}
-use Rattle.settings.specs.declared.mode.Mode.the-variants.{Running}
+use Rattle.settings.specs.Mode.{isRunning}
 use Rattle.timers.specs.declared.outcome.Outcome.{Outcome}
-use Rattle.control.specs.Common.{commonOf, withClock, withTimers}
+use Rattle.control.specs.Words.{commonOf}
+use Rattle.control.specs.Common.{withClock, withTimers}
 
--- a call whose own step is f; while the mode is Running no word changes
+-- the mode of the words is not Running
+abbrev pub On : List ℕ → Type 0
+On ws = isRunning (commonOf ws .timers .mode) ≡ false
+
+-- a call whose own step is f
 pub record CommonSettles (f : Timers → Timers) (ws ws′ : List ℕ) (o : Outcome) : Type 0 where
   pub common : commonOf ws′ ≡ withTimers (settled f (commonOf ws .timers)) (commonOf ws)
   pub outcome : o ≡ ordered f (commonOf ws .timers)
-  pub kept : commonOf ws .timers .mode ≡ Running → ws′ ≡ ws
 
 -- an accepted hello on circuit i, which has the levels l, at the held clock
 pub record CommonHears (i : ℕ) (l : Levels) (d : Heard) (ws ws′ : List ℕ) (o : Outcome) (r : Freed) : Type 0 where

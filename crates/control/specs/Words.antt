@@ -1,4 +1,5 @@
--- The gateway's common words (house): where each thing stands, and what any words mean.
+-- The control words (house): where each thing stands, and what any words mean. They hold the common part: what is not one circuit's own
+-- records.
 use Prim.Native.Nat.{ℕ, zero, suc, _+_, _*_, _/_, _%_}
 use mathlib.Core.Bool.{cond}
 use mathlib.Core.List.{List, [], _∷_}
@@ -12,14 +13,17 @@ use Rattle.timer_parts.specs.declared.t2.Timer.the-variants.{Stopped, Until}
 use Rattle.timer_parts.specs.declared.t2.T2.{T2}
 use Rattle.timer_parts.specs.declared.t3.T3.{T3}
 use Rattle.timer_parts.specs.declared.t3.T3.the-variants.{Idle, Runs, Expired}
-use Rattle.timers.specs.Memory.{wordCount}
+use Rattle.timers.specs.Memory.{wordCount, timersAt}
 use Rattle.settings.specs.declared.mode.Mode.{Mode}
 use Rattle.settings.specs.declared.mode.Mode.the-variants.{Running, Restarting}
 use Rattle.timers.specs.declared.head.Head.{Head}
 use Rattle.settings.specs.declared.circuit.Circuit.{Circuit}
+use Rattle.control.specs.Common.{Common}
+use Rattle.basics.specs.Mask.{circuits}
 
-abbrev pub commonWords : ℕ
-commonWords = 128
+-- the words of this part
+abbrev pub controlWords : ℕ
+controlWords = 128
 
 -- ---- the places
 
@@ -46,9 +50,12 @@ headPlace = 5
 abbrev pub entriesPlace : ℕ
 entriesPlace = 16
 
+abbrev pub entriesEnd : ℕ
+entriesEnd = entriesPlace + wordCount
+
 -- three words for each circuit: its small fields, its MAC, its extended circuit ID
 abbrev pub circuitsPlace : ℕ
-circuitsPlace = 32
+circuitsPlace = 64
 
 -- ---- the mark
 
@@ -92,7 +99,7 @@ circuitsFrom ws i (suc n) = circuitAt ws i ∷ circuitsFrom ws (suc i) n
 
 -- at most 8, and a greater number counts for none; none in memory that was never set up
 abbrev pub countIn : ℕ → ℕ
-countIn n = cond (ltb 8 n) 0 n
+countIn n = cond (ltb circuits n) 0 n
 
 unfoldable pub countOf : List ℕ → ℕ
 countOf ws = countIn (marked ws countPlace)
@@ -100,7 +107,7 @@ countOf ws = countIn (marked ws countPlace)
 -- ---- the timers' head
 
 abbrev pub modeIn : ℕ → Mode
-modeIn d = cond (eqb d 0) Running Restarting
+modeIn d = cond (eqb d 1) Restarting Running
 
 abbrev pub timerIn : ℕ → ℕ → Timer
 timerIn d deadline = cond (eqb d 1) (Until deadline) Stopped
@@ -114,10 +121,10 @@ t3In d deadline = cond (eqb d 0) Idle (cond (eqb d 1) (Runs deadline) Expired)
 unfoldable pub headIn : ℕ → ℕ → ℕ → ℕ → Head
 headIn w a b c =
     record {
-      mode = modeIn (w % 2);
+      mode = modeIn (w % 4);
       mask = w / 256 % 256;
-      t2s = record { one = t2In (w / 2 % 2) (w / 4 % 2) a; two = t2In (w / 8 % 2) (w / 16 % 2) b };
-      t3 = t3In (w / 32 % 4) c;
+      t2s = record { one = t2In (w / 4 % 2) (w / 8 % 2) a; two = t2In (w / 16 % 2) (w / 32 % 2) b };
+      t3 = t3In (w / 64 % 4) c;
     }
 
 -- in memory that was never set up the mode is Running and nothing runs
@@ -136,3 +143,16 @@ abbrev pub t3Deadline : T3 → ℕ
 t3Deadline Idle = 0
 t3Deadline (Runs deadline) = deadline
 t3Deadline Expired = 0
+
+-- ---- all of it
+
+-- Any words mean some common part. Memory that was never set up has no circuits, and its mode is Running.
+unfoldable pub commonOf : List ℕ → Common
+commonOf ws =
+    record {
+      system = getD ws systemPlace 0;
+      lengths = lengthsIn (getD ws lengthsPlace 0);
+      circuits = circuitsFrom ws 0 (countOf ws);
+      clock = getD ws clockPlace 0 % 4294967296;
+      timers = timersAt (headOf ws) (entriesOf ws);
+    }

@@ -1,7 +1,7 @@
 // The timers' head in its words (house).
 //
-//   bits   0     1       2         3       4         5-6  7  8-15  16-63
-//          mode  T2 of level 1     T2 of level 2     T3   0  mask  0
+//   bits   0-1   2       3         4       5         6-7  8-15  16-63
+//          mode  T2 of level 1     T2 of level 2     T3   mask  0
 //                runs    noticed   runs    noticed
 //
 // Mode: 0 Running, 1 Restarting. T3: 0 idle, 1 runs, 2 expired. The deadlines follow in words of their own.
@@ -18,16 +18,16 @@ ghost use mathlib.Core.Path.{_≡_};
 ghost use Prim.Native.Nat.{_<_};
 ghost use lib.ListN.{length, getD};
 ghost use Rattle.timers.specs.Memory.{timersAt};
-ghost use Rattle.control.specs.Words.{commonWords, markPlace, mark, modeIn, timerIn, t2In, t3In, headIn, headOf, entriesOf, timerDeadline, t3Deadline};
-ghost use Rattle.control.specs.Common.{commonOf, withTimers};
+ghost use Rattle.control.specs.Words.{controlWords, markPlace, mark, modeIn, timerIn, t2In, t3In, headIn, headOf, entriesOf, timerDeadline, t3Deadline, commonOf};
+ghost use Rattle.control.specs.Common.{withTimers};
 
 fn mode_in(d: u64) -> Mode
     ensures { λ r. ⌜ r ≡ modeIn d ⌝ }
 {
-    if d == 0 {
-        return Mode::Running;
+    if d == 1 {
+        return Mode::Restarting;
     }
-    Mode::Restarting
+    Mode::Running
 }
 
 fn timer_in(d: u64, deadline: u64) -> Timer
@@ -64,10 +64,10 @@ fn t3_in(d: u64, deadline: u64) -> T3
 fn head_in(w: u64, a: u64, b: u64, e: u64) -> Head
     ensures { λ r. ⌜ r ≡ headIn w a b e ⌝ }
 {
-    let mode = mode_in(w % 2);
-    let one = t2_in(w / 2 % 2, w / 4 % 2, a);
-    let two = t2_in(w / 8 % 2, w / 16 % 2, b);
-    let t3 = t3_in(w / 32 % 4, e);
+    let mode = mode_in(w % 4);
+    let one = t2_in(w / 4 % 2, w / 8 % 2, a);
+    let two = t2_in(w / 16 % 2, w / 32 % 2, b);
+    let t3 = t3_in(w / 64 % 4, e);
     let t2s = T2s { one, two };
     Head {
         mode,
@@ -78,14 +78,14 @@ fn head_in(w: u64, a: u64, b: u64, e: u64) -> Head
 }
 
 pub fn mode_of(words: &[u64]) -> Mode
-    requires { ⌜ length (now words) ≡ commonWords ⌝ }
+    requires { ⌜ length (now words) ≡ controlWords ⌝ }
     ensures { λ r. ⌜ r ≡ commonOf (now (words .entry)) .timers .mode ⌝ }
 {
-    mode_in(marked_at(words, HEAD_AT) % 2)
+    mode_in(marked_at(words, HEAD_AT) % 4)
 }
 
 pub fn load_head(words: &[u64]) -> Head
-    requires { ⌜ length (now words) ≡ commonWords ⌝ }
+    requires { ⌜ length (now words) ≡ controlWords ⌝ }
     ensures { λ r. ⌜ r ≡ headOf (now (words .entry)) ⌝ }
 {
     let w = marked_at(words, HEAD_AT);
@@ -99,7 +99,7 @@ pub fn load_head(words: &[u64]) -> Head
 
 // Each digit says what it is read as, and bounds itself.
 fn mode_digit(m: Mode) -> u64
-    ensures { λ r. ⌜ (modeIn r ≡ m) × (r < 2) ⌝ }
+    ensures { λ r. ⌜ (modeIn r ≡ m) × (r < 4) ⌝ }
 {
     match m {
         Mode::Running => 0,
@@ -162,12 +162,12 @@ fn head_word(h: Head) -> u64
     let y = timer_digit(l);
     let p = digit(two.noticed);
     let z = t3_digit(t3);
-    m + 2 * x + 4 * n + 8 * y + 16 * p + 32 * z + 256 * (mask as u64)
+    m + 4 * x + 8 * n + 16 * y + 32 * p + 64 * z + 256 * (mask as u64)
 }
 
 // In memory that was set up.
 pub fn store_head(words: &mut [u64], h: Head)
-    requires { ⌜ (length (now words) ≡ commonWords) × (getD (now words) markPlace 0 ≡ mark) ⌝ }
+    requires { ⌜ (length (now words) ≡ controlWords) × (getD (now words) markPlace 0 ≡ mark) ⌝ }
     ensures { λ _. ⌜ commonOf (now (words .exit)) ≡ withTimers (timersAt h (entriesOf (now (words .entry)))) (commonOf (now (words .entry))) ⌝ }
 {
     let w = head_word(h);

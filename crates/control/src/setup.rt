@@ -6,11 +6,13 @@ use crate::words::CIRCUITS_AT;
 use crate::words::CLOCK_AT;
 use crate::words::COUNT_AT;
 use crate::words::ENTRIES_AT;
+use crate::words::ENTRIES_END;
 use crate::words::LENGTHS_AT;
 use crate::words::MARK;
 use crate::words::MARK_AT;
 use crate::words::SYSTEM_AT;
 use crate::words::levels_of;
+use basics::mask::CIRCUITS;
 use settings::circuit::Circuit;
 use settings::lengths::Lengths;
 use settings::setup::Settings;
@@ -20,14 +22,14 @@ ghost use mathlib.Core.Path.{_≡_};
 ghost use mathlib.Core.Logic.{_≢_};
 ghost use Prim.Native.Nat.{ℕ, _<_, _≤_};
 ghost use lib.ListN.{length};
-ghost use Rattle.basics.specs.Mask.{bits};
-ghost use Rattle.control.specs.Words.{commonWords, circuitAt, circuitsFrom};
+ghost use Rattle.basics.specs.Mask.{bits, circuits};
+ghost use Rattle.control.specs.Words.{controlWords, circuitAt, circuitsFrom};
 ghost use Rattle.control.specs.Common.{presentOf};
 ghost use Rattle.control.specs.Setup.{Stores, SetsUp};
 
 // Circuit i, from 0.
 fn store_circuit(words: &mut [u64], i: usize, s: Circuit)
-    requires { ⌜ (length (now words) ≡ commonWords) × (i < 8) ⌝ }
+    requires { ⌜ (length (now words) ≡ controlWords) × (i < circuits) ⌝ }
     ensures { λ _. ⌜ (circuitAt (now (words .exit)) i ≡ s) × ((j : ℕ) → j ≢ i → circuitAt (now (words .exit)) j ≡ circuitAt (now (words .entry)) j) ⌝ }
 {
     let w = circuit_word(s);
@@ -38,12 +40,12 @@ fn store_circuit(words: &mut [u64], i: usize, s: Circuit)
     words[CIRCUITS_AT + 3 * i + 2] = id as u64;
 }
 
-fn store_circuits(words: &mut [u64], all: [Circuit; 8])
-    requires { ⌜ length (now words) ≡ commonWords ⌝ }
-    ensures { λ _. ⌜ circuitsFrom (now (words .exit)) 0 8 ≡ all ⌝ }
+fn store_circuits(words: &mut [u64], all: [Circuit; CIRCUITS])
+    requires { ⌜ length (now words) ≡ controlWords ⌝ }
+    ensures { λ _. ⌜ circuitsFrom (now (words .exit)) 0 circuits ≡ all ⌝ }
 {
     let mut i = 0;
-    while i < 8 {
+    while i < CIRCUITS {
         let one = all[i];
         store_circuit(words, i, one);
         i += 1;
@@ -51,7 +53,7 @@ fn store_circuits(words: &mut [u64], all: [Circuit; 8])
 }
 
 fn store_settings(words: &mut [u64], system: u64, lengths: Lengths, clock: u32, count: u8)
-    requires { ⌜ (length (now words) ≡ commonWords) × (count ≤ 8) ⌝ }
+    requires { ⌜ (length (now words) ≡ controlWords) × (count ≤ circuits) ⌝ }
     ensures { λ _. ⌜ Stores system lengths clock count (now (words .entry)) (now (words .exit)) ⌝ }
 {
     let w = lengths_word(lengths);
@@ -64,7 +66,7 @@ fn store_settings(words: &mut [u64], system: u64, lengths: Lengths, clock: u32, 
 
 // The mask of the first circuits.
 fn present_of(count: u8) -> u8
-    requires { ⌜ count ≤ 8 ⌝ }
+    requires { ⌜ count ≤ circuits ⌝ }
     ensures { λ r. ⌜ r ≡ presentOf count ⌝ }
 {
     ((1u16 << count) - 1) as u8
@@ -72,7 +74,7 @@ fn present_of(count: u8) -> u8
 
 // The common part of a new gateway; the answer is the mask of the circuits whose hello is ordered.
 pub fn set_up(words: &mut [u64], s: Settings) -> u8
-    requires { ⌜ (length (now words) ≡ commonWords) × (s .count ≤ 8) ⌝ }
+    requires { ⌜ (length (now words) ≡ controlWords) × (s .count ≤ circuits) ⌝ }
     ensures { λ r. ⌜ SetsUp s (now (words .exit)) (bits r) ⌝ }
 {
     let lengths = s.lengths;
@@ -92,7 +94,7 @@ pub fn set_up(words: &mut [u64], s: Settings) -> u8
         present,
         levels,
     };
-    let x = start_timers(&mut words[ENTRIES_AT..CIRCUITS_AT], start);
+    let x = start_timers(&mut words[ENTRIES_AT..ENTRIES_END], start);
     let head = x.head;
     let hellos = x.hellos;
     store_head(words, head);

@@ -1,9 +1,9 @@
-// The calls on the timers, over the common words. Circuits count from 0 here. In the mode Running only a tick's clock is written.
+// The calls on the timers, over the common words. Circuits count from 0 here. In the mode Running only a tick's clock is written. The caller asks for the mode where a refusal or a record goes by it too.
 use crate::head::load_head;
 use crate::head::mode_of;
 use crate::head::store_head;
-use crate::words::CIRCUITS_AT;
 use crate::words::ENTRIES_AT;
+use crate::words::ENTRIES_END;
 use crate::words::clock_of;
 use crate::words::lengths_of;
 use crate::words::move_clock;
@@ -11,6 +11,7 @@ use basics::levels::Levels;
 use basics::mask::Lowest;
 use restart_tlv::flags::Flags;
 use settings::mode::Mode;
+use settings::mode::is_running;
 use timer_parts::heard::Heard;
 use timer_parts::t1::Freed;
 use timers::outcome::Outcome;
@@ -20,10 +21,8 @@ ghost use lib.ListN.{length, getD};
 ghost use Rattle.basics.specs.Mask.{circuits, bits};
 ghost use Rattle.timer_parts.specs.T1.{helloFlags};
 ghost use Rattle.timers.specs.Timers.{noT1, csnpIn, noticeT2s, countRuns, firstRuns};
-ghost use Rattle.settings.specs.declared.mode.Mode.the-variants.{Restarting};
-ghost use Rattle.control.specs.Words.{commonWords};
-ghost use Rattle.control.specs.Common.{commonOf};
-ghost use Rattle.control.specs.Timing.{CommonSettles, CommonHears, CommonTicksOn, CommonTicks};
+ghost use Rattle.control.specs.Words.{controlWords, commonOf};
+ghost use Rattle.control.specs.Timing.{On, CommonSettles, CommonHears, CommonTicksOn, CommonTicks};
 
 pub struct Handled {
     pub outcome: Outcome,
@@ -36,12 +35,12 @@ pub struct Ticked {
 }
 
 fn hear_in(words: &mut [u64], i: usize, l: Levels, d: Heard) -> Handled
-    requires { ⌜ (length (now words) ≡ commonWords) × (i < circuits) × (commonOf (now words) .timers .mode ≡ Restarting) ⌝ }
+    requires { ⌜ (length (now words) ≡ controlWords) × (i < circuits) × On (now words) ⌝ }
     ensures { λ r. ⌜ CommonHears i l d (now (words .entry)) (now (words .exit)) (r .outcome) (r .freed) ⌝ }
 {
     let h = load_head(words);
     let clock = clock_of(words);
-    let x = timers::events::hear_hello(&mut words[ENTRIES_AT..CIRCUITS_AT], h, clock, i, l, d);
+    let x = timers::events::hear_hello(&mut words[ENTRIES_AT..ENTRIES_END], h, clock, i, l, d);
     let head = x.head;
     let outcome = x.outcome;
     let freed = x.freed;
@@ -49,47 +48,36 @@ fn hear_in(words: &mut [u64], i: usize, l: Levels, d: Heard) -> Handled
     Handled { outcome, freed }
 }
 
-// An accepted hello on circuit i, which has the levels `l`, at the held clock.
-pub fn hear(words: &mut [u64], i: usize, l: Levels, d: Heard) -> Handled
-    requires { ⌜ (length (now words) ≡ commonWords) × (i < circuits) ⌝ }
+// An accepted hello on circuit i, which has the levels `l`, at the held clock and in the held mode.
+pub fn hear(words: &mut [u64], mode: Mode, i: usize, l: Levels, d: Heard) -> Handled
+    requires { ⌜ (length (now words) ≡ controlWords) × (i < circuits) × (mode ≡ commonOf (now words) .timers .mode) ⌝ }
     ensures { λ r. ⌜ CommonHears i l d (now (words .entry)) (now (words .exit)) (r .outcome) (r .freed) ⌝ }
 {
-    let mode = mode_of(words);
-    match mode {
-        Mode::Running => Handled {
+    if is_running(mode) {
+        return Handled {
             outcome: Outcome::Idle,
             freed: Freed::Kept,
-        },
-        Mode::Restarting => hear_in(words, i, l, d),
+        };
     }
+    hear_in(words, i, l, d)
 }
 
-fn csnp_in(words: &mut [u64], i: usize, l: Levels, n: Levels) -> Outcome
-    requires { ⌜ (length (now words) ≡ commonWords) × (i < circuits) × (commonOf (now words) .timers .mode ≡ Restarting) ⌝ }
+// The CSNP sets of the levels `n` are complete on circuit i, which has the levels `l`.
+pub fn notice_csnp(words: &mut [u64], i: usize, l: Levels, n: Levels) -> Outcome
+    requires { ⌜ (length (now words) ≡ controlWords) × (i < circuits) × On (now words) ⌝ }
     ensures { λ r. ⌜ CommonSettles (csnpIn i l n) (now (words .entry)) (now (words .exit)) r ⌝ }
 {
     let h = load_head(words);
-    let x = timers::events::notice_csnp(&mut words[ENTRIES_AT..CIRCUITS_AT], h, i, l, n);
+    let x = timers::events::notice_csnp(&mut words[ENTRIES_AT..ENTRIES_END], h, i, l, n);
     let head = x.head;
     let outcome = x.outcome;
     store_head(words, head);
     outcome
 }
 
-// The CSNP sets of the levels `n` are complete on circuit i, which has the levels `l`.
-pub fn notice_csnp(words: &mut [u64], i: usize, l: Levels, n: Levels) -> Outcome
-    requires { ⌜ (length (now words) ≡ commonWords) × (i < circuits) ⌝ }
-    ensures { λ r. ⌜ CommonSettles (csnpIn i l n) (now (words .entry)) (now (words .exit)) r ⌝ }
-{
-    let mode = mode_of(words);
-    match mode {
-        Mode::Running => Outcome::Idle,
-        Mode::Restarting => csnp_in(words, i, l, n),
-    }
-}
-
-fn database_in(words: &mut [u64], n: Levels) -> Outcome
-    requires { ⌜ (length (now words) ≡ commonWords) × (commonOf (now words) .timers .mode ≡ Restarting) ⌝ }
+// The databases of the levels `n` are complete.
+pub fn notice_database(words: &mut [u64], n: Levels) -> Outcome
+    requires { ⌜ (length (now words) ≡ controlWords) × On (now words) ⌝ }
     ensures { λ r. ⌜ CommonSettles (noticeT2s n) (now (words .entry)) (now (words .exit)) r ⌝ }
 {
     let h = load_head(words);
@@ -100,25 +88,13 @@ fn database_in(words: &mut [u64], n: Levels) -> Outcome
     outcome
 }
 
-// The databases of the levels `n` are complete.
-pub fn notice_database(words: &mut [u64], n: Levels) -> Outcome
-    requires { ⌜ length (now words) ≡ commonWords ⌝ }
-    ensures { λ r. ⌜ CommonSettles (noticeT2s n) (now (words .entry)) (now (words .exit)) r ⌝ }
-{
-    let mode = mode_of(words);
-    match mode {
-        Mode::Running => Outcome::Idle,
-        Mode::Restarting => database_in(words, n),
-    }
-}
-
 fn tick_in(words: &mut [u64], clock: u32) -> Ticked
-    requires { ⌜ (length (now words) ≡ commonWords) × (commonOf (now words) .timers .mode ≡ Restarting) ⌝ }
+    requires { ⌜ (length (now words) ≡ controlWords) × On (now words) ⌝ }
     ensures { λ r. ⌜ CommonTicksOn clock (now (words .entry)) (now (words .exit)) (r .outcome) (bits (r .hellos)) ⌝ }
 {
     let h = load_head(words);
     let s = lengths_of(words);
-    let x = timers::events::tick_timers(&mut words[ENTRIES_AT..CIRCUITS_AT], h, s, clock);
+    let x = timers::events::tick_timers(&mut words[ENTRIES_AT..ENTRIES_END], h, s, clock);
     let head = x.head;
     let outcome = x.outcome;
     let hellos = x.hellos;
@@ -127,22 +103,21 @@ fn tick_in(words: &mut [u64], clock: u32) -> Ticked
 }
 
 fn tick_on(words: &mut [u64], clock: u32) -> Ticked
-    requires { ⌜ length (now words) ≡ commonWords ⌝ }
+    requires { ⌜ length (now words) ≡ controlWords ⌝ }
     ensures { λ r. ⌜ CommonTicksOn clock (now (words .entry)) (now (words .exit)) (r .outcome) (bits (r .hellos)) ⌝ }
 {
-    let mode = mode_of(words);
-    match mode {
-        Mode::Running => Ticked {
+    if is_running(mode_of(words)) {
+        return Ticked {
             hellos: 0,
             outcome: Outcome::Idle,
-        },
-        Mode::Restarting => tick_in(words, clock),
+        };
     }
+    tick_in(words, clock)
 }
 
 // The clock, and then the timers at it.
 pub fn tick(words: &mut [u64], clock: u32) -> Ticked
-    requires { ⌜ length (now words) ≡ commonWords ⌝ }
+    requires { ⌜ length (now words) ≡ controlWords ⌝ }
     ensures { λ r. ⌜ CommonTicks clock (now (words .entry)) (now (words .exit)) (r .outcome) (bits (r .hellos)) ⌝ }
 {
     move_clock(words, clock);
@@ -151,16 +126,16 @@ pub fn tick(words: &mut [u64], clock: u32) -> Ticked
 
 // The flags of the next hello on circuit i.
 pub fn next_flags(words: &[u64], i: usize) -> Flags
-    requires { ⌜ (length (now words) ≡ commonWords) × (i < circuits) ⌝ }
+    requires { ⌜ (length (now words) ≡ controlWords) × (i < circuits) ⌝ }
     ensures { λ r. ⌜ r ≡ helloFlags (getD (commonOf (now (words .entry)) .timers .t1s) i noT1) ⌝ }
 {
     let h = load_head(words);
-    timers::events::next_flags(&words[ENTRIES_AT..CIRCUITS_AT], h, i)
+    timers::events::next_flags(&words[ENTRIES_AT..ENTRIES_END], h, i)
 }
 
 // How many circuits still wait for T1.
 pub fn count_waiting(words: &[u64]) -> u32
-    requires { ⌜ length (now words) ≡ commonWords ⌝ }
+    requires { ⌜ length (now words) ≡ controlWords ⌝ }
     ensures { λ r. ⌜ r ≡ countRuns (commonOf (now (words .entry)) .timers .t1s) ⌝ }
 {
     timers::head::count_waiting(load_head(words))
@@ -168,7 +143,7 @@ pub fn count_waiting(words: &[u64]) -> u32
 
 // The lowest such circuit, by its number from 1.
 pub fn lowest_waiting(words: &[u64]) -> Lowest
-    requires { ⌜ length (now words) ≡ commonWords ⌝ }
+    requires { ⌜ length (now words) ≡ controlWords ⌝ }
     ensures { λ r. ⌜ r ≡ firstRuns (commonOf (now (words .entry)) .timers .t1s) 1 ⌝ }
 {
     timers::head::lowest_waiting(load_head(words))

@@ -1,22 +1,25 @@
-// The gateway's common words (house).
+// The control words (house).
 //
-//   word  0     1      2      3          4        5             6, 7          8            9-15   16-31       32-55     56-127
-//         mark  count  clock  System ID  lengths  timers' head  T2 deadlines  T3 deadline  free   T1 entries  circuits  free
+//   word  0     1      2      3          4        5             6, 7          8            9-15   16-31       32-63  64-87     88-127
+//         mark  count  clock  System ID  lengths  timers' head  T2 deadlines  T3 deadline  free   T1 entries  free   circuits  free
 //
 // A circuit has three words: its small fields, its MAC, its extended circuit ID. In memory without the mark the words 1 and 5
 // count as 0: it has no circuits, and no timer runs there.
 use basics::kind::CircuitKind;
 use basics::levels::Levels;
 use basics::levels::join_levels;
+use basics::mask::CIRCUITS;
 use settings::circuit::Chosen;
 use settings::circuit::Circuit;
 use settings::lengths::Lengths;
+use timers::entries::WORDS;
 ghost use mathlib.Core.Path.{_≡_};
 ghost use Prim.Native.Nat.{_<_, _≤_};
 ghost use lib.ListN.{length};
+ghost use Rattle.basics.specs.Mask.{circuits};
 ghost use Rattle.settings.specs.Settings.{enabledLevels};
-ghost use Rattle.control.specs.Words.{commonWords, marked, countOf, kindIn, circuitIn, circuitAt, lengthsIn};
-ghost use Rattle.control.specs.Common.{commonOf, withClock, Chooses};
+ghost use Rattle.control.specs.Words.{controlWords, marked, countOf, kindIn, circuitIn, circuitAt, lengthsIn, commonOf};
+ghost use Rattle.control.specs.Common.{withClock, Chooses};
 
 pub const MARK: u64 = 5283647409863405617;
 
@@ -34,11 +37,16 @@ pub const HEAD_AT: usize = 5;
 
 pub const ENTRIES_AT: usize = 16;
 
-pub const CIRCUITS_AT: usize = 32;
+pub const ENTRIES_END: usize = ENTRIES_AT + WORDS;
+
+pub const CIRCUITS_AT: usize = 64;
+
+// The words of this part.
+pub const CONTROL_WORDS: usize = 128;
 
 // A word of memory that was set up.
 pub fn marked_at(words: &[u64], i: usize) -> u64
-    requires { ⌜ (length (now words) ≡ commonWords) × (i < commonWords) ⌝ }
+    requires { ⌜ (length (now words) ≡ controlWords) × (i < controlWords) ⌝ }
     ensures { λ r. ⌜ r ≡ marked (now (words .entry)) i ⌝ }
 {
     if words[MARK_AT] == MARK {
@@ -48,11 +56,11 @@ pub fn marked_at(words: &[u64], i: usize) -> u64
 }
 
 pub fn count_of(words: &[u64]) -> usize
-    requires { ⌜ length (now words) ≡ commonWords ⌝ }
-    ensures { λ r. ⌜ (r ≡ countOf (now (words .entry))) × (r ≤ 8) ⌝ }
+    requires { ⌜ length (now words) ≡ controlWords ⌝ }
+    ensures { λ r. ⌜ (r ≡ countOf (now (words .entry))) × (r ≤ circuits) ⌝ }
 {
     let n = marked_at(words, COUNT_AT);
-    if 8 < n {
+    if (CIRCUITS as u64) < n {
         return 0;
     }
     n as usize
@@ -87,7 +95,7 @@ fn circuit_in(w: u64, mac: u64, id: u64) -> Circuit
 
 // Circuit i, from 0.
 fn load_circuit(words: &[u64], i: usize) -> Circuit
-    requires { ⌜ (length (now words) ≡ commonWords) × (i < 8) ⌝ }
+    requires { ⌜ (length (now words) ≡ controlWords) × (i < circuits) ⌝ }
     ensures { λ r. ⌜ r ≡ circuitAt (now (words .entry)) i ⌝ }
 {
     circuit_in(
@@ -99,7 +107,7 @@ fn load_circuit(words: &[u64], i: usize) -> Circuit
 
 // The circuit of the number n; where there is none, a call on it is refused (1).
 pub fn circuit_of(words: &[u64], n: u8) -> Chosen
-    requires { ⌜ length (now words) ≡ commonWords ⌝ }
+    requires { ⌜ length (now words) ≡ controlWords ⌝ }
     ensures { λ r. ⌜ Chooses (commonOf (now (words .entry))) n r ⌝ }
 {
     if n == 0 {
@@ -114,14 +122,14 @@ pub fn circuit_of(words: &[u64], n: u8) -> Chosen
 }
 
 pub fn clock_of(words: &[u64]) -> u32
-    requires { ⌜ length (now words) ≡ commonWords ⌝ }
+    requires { ⌜ length (now words) ≡ controlWords ⌝ }
     ensures { λ r. ⌜ r ≡ commonOf (now (words .entry)) .clock ⌝ }
 {
     (words[CLOCK_AT] % 4294967296) as u32
 }
 
 pub fn system_of(words: &[u64]) -> u64
-    requires { ⌜ length (now words) ≡ commonWords ⌝ }
+    requires { ⌜ length (now words) ≡ controlWords ⌝ }
     ensures { λ r. ⌜ r ≡ commonOf (now (words .entry)) .system ⌝ }
 {
     words[SYSTEM_AT]
@@ -138,7 +146,7 @@ fn lengths_in(w: u64) -> Lengths
 }
 
 pub fn lengths_of(words: &[u64]) -> Lengths
-    requires { ⌜ length (now words) ≡ commonWords ⌝ }
+    requires { ⌜ length (now words) ≡ controlWords ⌝ }
     ensures { λ r. ⌜ r ≡ commonOf (now (words .entry)) .lengths ⌝ }
 {
     lengths_in(words[LENGTHS_AT])
@@ -146,7 +154,7 @@ pub fn lengths_of(words: &[u64]) -> Lengths
 
 // The levels that are enabled on some circuit.
 pub fn levels_of(words: &[u64]) -> Levels
-    requires { ⌜ length (now words) ≡ commonWords ⌝ }
+    requires { ⌜ length (now words) ≡ controlWords ⌝ }
     ensures { λ r. ⌜ r ≡ enabledLevels (commonOf (now (words .entry)) .circuits) ⌝ }
 {
     let count = count_of(words);
@@ -165,7 +173,7 @@ pub fn levels_of(words: &[u64]) -> Levels
 }
 
 pub fn move_clock(words: &mut [u64], clock: u32)
-    requires { ⌜ length (now words) ≡ commonWords ⌝ }
+    requires { ⌜ length (now words) ≡ controlWords ⌝ }
     ensures { λ _. ⌜ commonOf (now (words .exit)) ≡ withClock clock (commonOf (now (words .entry))) ⌝ }
 {
     words[CLOCK_AT] = clock as u64;

@@ -3,7 +3,7 @@ use Prim.Native.Nat.{ℕ, suc, _+_, _-_, _<_, _≤_}
 use native.Mathlib.Omega.{arith}
 use native.Mathlib.Numerals.{add-one}
 use mathlib.Core.Path.{_≡_, refl, ap, sym, subst, _∙_}
-use mathlib.Core.Bool.{Bool, true, false}
+use mathlib.Core.Bool.{Bool, true, false, cond}
 use mathlib.Core.List.{List, [], _∷_, _++_, map, append-nil}
 use lib.ListN.{length, getD, set, take, drop, drop-of-length-le}
 use lib.Seq.{take-suc-set, drop-set-lt, drop-cons, append-snoc, take-all}
@@ -13,7 +13,7 @@ use Rattle.basics.specs.declared.refusal.Refusal.the-variants.{NoCircuit, Clock
 use Rattle.basics.specs.Levels.{hasLevel, onlyLevel}
 use Rattle.adjacency.specs.declared.record.Adjacency.{Adjacency}
 use Rattle.adjacency.specs.declared.record.Key.{Key}
-use Rattle.slots.specs.Slots.{tableOf}
+use Rattle.slots.specs.Slots.{tableOf, roomWords}
 use Rattle.adjacency.specs.Place.{expiredBy}
 use Rattle.adjacency.specs.declared.place.Slot.{Slot}
 use Rattle.room.specs.Table.{find, released, firstState, expired, anyExpired}
@@ -23,19 +23,17 @@ use Rattle.restart_tlv.specs.declared.flags.Flags.{Flags}
 use Rattle.basics.specs.declared.levels.Levels.{Levels}
 use Rattle.basics.specs.declared.kind.CircuitKind.{CircuitKind}
 use Rattle.basics.specs.declared.kind.CircuitKind.the-variants.{Lan}
-use Rattle.basics.specs.Mask.{bits, bitsOf}
+use Rattle.basics.specs.Mask.{bits, bitsOf, circuits}
 use Rattle.timer_parts.specs.T1.{helloFlags}
 use Rattle.basics.specs.declared.mask.Lowest.{Lowest}
 use Rattle.timers.specs.Timers.{Timers, ticked, toT3, csnpIn, noticeT2s, noT1, countRuns, firstRuns}
-use Rattle.settings.specs.Mode.{inMode}
-use Rattle.timers.proofs.TimersLaws.{in-running, in-restarting}
+use Rattle.settings.specs.Mode.{isRestarting}
 use Rattle.timers.specs.Outcome.{ordered, tickHellos}
-use Rattle.settings.specs.declared.mode.Mode.the-variants.{Running, Restarting}
 use Rattle.timers.specs.declared.outcome.Outcome.{Outcome as Timed}
 use Rattle.settings.specs.Settings.{enabledLevels}
 use Rattle.settings.specs.declared.circuit.Circuit.{Circuit}
-use Rattle.control.specs.Words.{countOf}
-use Rattle.control.specs.Common.{Common, commonOf, withClock, withTimers}
+use Rattle.control.specs.Words.{countOf, commonOf, controlWords}
+use Rattle.control.specs.Common.{Common, withClock, withTimers}
 use Rattle.control.proofs.CommonLaws.{circuits-length}
 use Rattle.control.specs.Timing.{CommonSettles, CommonTicks}
 use Rattle.adjacency.specs.Keys.{keyOn}
@@ -53,9 +51,9 @@ module _ (ws : List ℕ) (n : ℕ) (len : length ws ≡ gatewayWords) where
   abbrev g : Gateway
   g = gatewayOf ws
 
-  common-acts : (f : Common → Room → Acted) (x : Fact) (u : List ℕ) → length u ≡ 128 → Told x ≡ f (g .common) (roomOf g n) .answer
+  common-acts : (f : Common → Room → Acted) (x : Fact) (u : List ℕ) → length u ≡ controlWords → Told x ≡ f (g .common) (roomOf g n) .answer
       → [] ≡ f (g .common) (roomOf g n) .reply → commonOf u ≡ f (g .common) (roomOf g n) .common → roomOf g n ≡ f (g .common) (roomOf g n) .room
-      → Meets (Told x) (lift g n f) ws (putMid 0 128 ws u) []
+      → Meets (Told x) (lift g n f) ws (putMid 0 controlWords ws u) []
   unfolding lift
   common-acts f x u lu p q c r =
       record {
@@ -68,9 +66,9 @@ module _ (ws : List ℕ) (n : ℕ) (len : length ws ≡ gatewayWords) where
       }
 
   -- release
-  pub releases : (lo : 0 < n) (hi : n ≤ 8) (s : Circuit) (t : List ℕ) → length t ≡ roomPlace (n - 1) + 64 - roomPlace (n - 1)
-      → tableOf t ≡ released (tableOf (part (roomPlace (n - 1)) (roomPlace (n - 1) + 64 - roomPlace (n - 1)) ws))
-      → Meets (Told Done) (lift g n (act n s Release)) ws (putMid (roomPlace (n - 1)) (roomPlace (n - 1) + 64 - roomPlace (n - 1)) ws t) []
+  pub releases : (lo : 0 < n) (hi : n ≤ circuits) (s : Circuit) (t : List ℕ) → length t ≡ roomPlace (n - 1) + roomWords - roomPlace (n - 1)
+      → tableOf t ≡ released (tableOf (part (roomPlace (n - 1)) (roomPlace (n - 1) + roomWords - roomPlace (n - 1)) ws))
+      → Meets (Told Done) (lift g n (act n s Release)) ws (putMid (roomPlace (n - 1)) (roomPlace (n - 1) + roomWords - roomPlace (n - 1)) ws t) []
   unfolding lift act
   releases lo hi s t lt e =
       let r : Room = record { slots = released (roomOf g n .slots) } in
@@ -89,17 +87,17 @@ module _ (ws : List ℕ) (n : ℕ) (len : length ws ≡ gatewayWords) where
     csnp-off e = rw e refl
 
     module _ (has : hasLevel (s .levels) level ≡ true) where
-      pub csnp-outside : commonOf (part 0 128 ws) .timers .mode ≡ Running → lift g n (refuse [] NotRestarting) ≡ lift g n (csnpComplete n s level)
+      pub csnp-outside : isRestarting (commonOf (part 0 controlWords ws) .timers .mode) ≡ false → lift g n (refuse [] NotRestarting) ≡ lift g n (csnpComplete n s level)
       unfolding lift csnpComplete gatewayOf
       csnp-outside m = rw (has, m) refl
 
-      pub csnp-taken : (m : commonOf (part 0 128 ws) .timers .mode ≡ Restarting) (on : Levels) (se : on ≡ onlyLevel level) (u : List ℕ) (lu : length u ≡ 128) (o : Timed)
-          → CommonSettles (csnpIn (n - 1) (s .levels) on) (part 0 128 ws) u o
-          → Meets (Told (Noticed o)) (lift g n (csnpComplete n s level)) ws (putMid 0 128 ws u) []
+      pub csnp-taken : (m : isRestarting (commonOf (part 0 controlWords ws) .timers .mode) ≡ true) (on : Levels) (se : on ≡ onlyLevel level) (u : List ℕ) (lu : length u ≡ controlWords) (o : Timed)
+          → CommonSettles (csnpIn (n - 1) (s .levels) on) (part 0 controlWords ws) u o
+          → Meets (Told (Noticed o)) (lift g n (csnpComplete n s level)) ws (putMid 0 controlWords ws u) []
       unfolding csnpComplete gatewayOf
       csnp-taken m on se u lu o h =
           let f : Timers → Timers = csnpIn (n - 1) (s .levels) (onlyLevel level) in
-          let h′ : CommonSettles f (part 0 128 ws) u o = subst (λ (x : Levels). CommonSettles (csnpIn (n - 1) (s .levels) x) (part 0 128 ws) u o) se h in
+          let h′ : CommonSettles f (part 0 controlWords ws) u o = subst (λ (x : Levels). CommonSettles (csnpIn (n - 1) (s .levels) x) (part 0 controlWords ws) u o) se h in
           common-acts (csnpComplete n s level) (Noticed o) u lu (rw (has, m) (ap (λ (x : Timed). Told (Noticed x)) (h′ .outcome))) (rw (has, m) refl) (rw (has, m) (h′ .common)) (rw (has, m) refl)
 
   -- look up
@@ -108,18 +106,18 @@ module _ (ws : List ℕ) (n : ℕ) (len : length ws ≡ gatewayWords) where
     unfolding lift lookUp
     looks-not e = rw e refl
 
-    pub looks : (lo : 0 < n) (hi : n ≤ 8) (own : Key) (stood : Adjacency) (a : Answer) → asksLevel (s .kind) (s .levels) (k .level) ≡ true → own ≡ keyOn (s .kind) k
-        → stood ≡ find own (tableOf (part (roomPlace (n - 1)) (roomPlace (n - 1) + 64 - roomPlace (n - 1)) ws)) → a ≡ Told (Looked stood)
+    pub looks : (lo : 0 < n) (hi : n ≤ circuits) (own : Key) (stood : Adjacency) (a : Answer) → asksLevel (s .kind) (s .levels) (k .level) ≡ true → own ≡ keyOn (s .kind) k
+        → stood ≡ find own (tableOf (part (roomPlace (n - 1)) (roomPlace (n - 1) + roomWords - roomPlace (n - 1)) ws)) → a ≡ Told (Looked stood)
         → Meets a (lift g n (lookUp s k)) ws ws []
     unfolding lookUp
     looks lo hi own stood a e ke f p =
         let w : stood ≡ find (keyOn (s .kind) k) (roomOf g n .slots) =
-        f ∙ ap (λ (x : Key). find x (tableOf (part (roomPlace (n - 1)) (roomPlace (n - 1) + 64 - roomPlace (n - 1)) ws))) ke ∙ ap (find (keyOn (s .kind) k)) (room-of ws n lo hi) in
+        f ∙ ap (λ (x : Key). find x (tableOf (part (roomPlace (n - 1)) (roomPlace (n - 1) + roomWords - roomPlace (n - 1)) ws))) ke ∙ ap (find (keyOn (s .kind) k)) (room-of ws n lo hi) in
         asks ws n (lookUp s k) a (rw e (p ∙ ap (λ (x : Adjacency). Told (Looked x)) w)) (rw e refl) (rw e refl) (rw e refl)
 
   -- link metric
-  pub measures : (lo : 0 < n) (hi : n ≤ 8) (s : Circuit) (stood : Adjacency) (m : ℕ)
-      → stood ≡ firstState (tableOf (part (roomPlace (n - 1)) (roomPlace (n - 1) + 64 - roomPlace (n - 1)) ws)) → m ≡ linkMetric (s .kind) (s .metric) stood
+  pub measures : (lo : 0 < n) (hi : n ≤ circuits) (s : Circuit) (stood : Adjacency) (m : ℕ)
+      → stood ≡ firstState (tableOf (part (roomPlace (n - 1)) (roomPlace (n - 1) + roomWords - roomPlace (n - 1)) ws)) → m ≡ linkMetric (s .kind) (s .metric) stood
       → Meets (Told (Metric m)) (lift g n (act n s LinkMetric)) ws ws []
   unfolding act linkMetricOf
   measures lo hi s stood m f e =
@@ -127,7 +125,7 @@ module _ (ws : List ℕ) (n : ℕ) (len : length ws ≡ gatewayWords) where
       (ap (λ (x : ℕ). Told (Metric x)) (e ∙ ap (linkMetric (s .kind) (s .metric)) (f ∙ ap firstState (room-of ws n lo hi)))) refl refl refl
 
   -- flags of the next hello
-  pub flags : (s : Circuit) (f : Flags) → f ≡ helloFlags (getD (commonOf (part 0 128 ws) .timers .t1s) (n - 1) noT1)
+  pub flags : (s : Circuit) (f : Flags) → f ≡ helloFlags (getD (commonOf (part 0 controlWords ws) .timers .t1s) (n - 1) noT1)
       → Meets (Told (HelloFlags f)) (lift g n (act n s NextHello)) ws ws []
   unfolding act nextHello gatewayOf
   flags s f e = asks ws n (act n s NextHello) (Told (HelloFlags f)) (ap (λ (x : Flags). Told (HelloFlags x)) e) refl refl refl
@@ -162,31 +160,31 @@ module _ (ws : List ℕ) where
   gw = gatewayOf ws
 
   abbrev cs : Common
-  cs = commonOf (part 0 128 ws)
+  cs = commonOf (part 0 controlWords ws)
 
   -- tick
   module _ (clock : ℕ) where
-    pub tick-none : (k : ℕ) → k ≡ countOf (part 0 128 ws) → k ≡ 0 → Meets quiet (step gw (Over (Tick clock))) ws ws []
+    pub tick-none : (k : ℕ) → k ≡ countOf (part 0 controlWords ws) → k ≡ 0 → Meets quiet (step gw (Over (Tick clock))) ws ws []
     unfolding step judge tickOf carry gatewayOf
     tick-none k e z =
-        rw (none-length (cs .circuits) (circuits-length (part 0 128 ws) ∙ sym e ∙ z)) (record { answer = refl; reply = refl; next = refl; kept = λ x y. refl })
+        rw (none-length (cs .circuits) (circuits-length (part 0 controlWords ws) ∙ sym e ∙ z)) (record { answer = refl; reply = refl; next = refl; kept = λ x y. refl })
 
-    module _ (k : ℕ) (ke : k ≡ countOf (part 0 128 ws)) (some : 0 < k) where
+    module _ (k : ℕ) (ke : k ≡ countOf (part 0 controlWords ws)) (some : 0 < k) where
       is-some : noneOf (cs .circuits) ≡ false
-      is-some = some-length (cs .circuits) (omega (arith, circuits-length (part 0 128 ws)))
+      is-some = some-length (cs .circuits) (omega (arith, circuits-length (part 0 controlWords ws)))
 
       pub tick-back : (c : ℕ) → c ≡ cs .clock → clock < c → Meets (Refused ClockBack) (step gw (Over (Tick clock))) ws ws []
       unfolding step judge tickOf carry gatewayOf
       tick-back c e lt =
           rw (is-some, lt-ltb clock (cs .clock) (rw (← e) lt)) (record { answer = refl; reply = refl; next = refl; kept = λ x y. refl })
 
-      pub tick-took : (c : ℕ) (ws1 u : List ℕ) (marks hellos : List Bool) (o : Timed) → c ≡ cs .clock → c ≤ clock → length ws1 ≡ gatewayWords → length u ≡ 128
+      pub tick-took : (c : ℕ) (ws1 u : List ℕ) (marks hellos : List Bool) (o : Timed) → c ≡ cs .clock → c ≤ clock → length ws1 ≡ gatewayWords → length u ≡ controlWords
           → marks ≡ map (lapsed clock) (gw .rooms) → gatewayOf ws1 ≡ withRooms gw (map (swept clock) (gw .rooms))
-          → CommonTicks clock (part 0 128 ws1) u o hellos
-          → Meets (Ticked marks hellos o) (step gw (Over (Tick clock))) ws (putMid 0 128 ws1 u) []
+          → CommonTicks clock (part 0 controlWords ws1) u o hellos
+          → Meets (Ticked marks hellos o) (step gw (Over (Tick clock))) ws (putMid 0 controlWords ws1 u) []
       unfolding step judge tickOf carry
       tick-took c ws1 u marks hellos o e le l1 lu m r h =
-          let c1 : commonOf (part 0 128 ws1) ≡ gw .common = common-at ws1 ∙ ap (λ (x : Gateway). x .common) r in
+          let c1 : commonOf (part 0 controlWords ws1) ≡ gw .common = common-at ws1 ∙ ap (λ (x : Gateway). x .common) r in
           let s : noneOf (gw .common .circuits) ≡ false = rw (← common-at ws) is-some in
           let w : gw .common .clock ≤ clock = rw (← common-at ws, ← e) le in
           let hc = subst (λ (x : Common). commonOf u ≡ withTimers (ticked (x .lengths) clock (x .timers)) (withClock clock x)) c1 (h .common) in
@@ -210,28 +208,30 @@ module _ (ws : List ℕ) where
     database-off e = rw (← le, e) (record { answer = refl; reply = refl; next = refl; kept = λ x y. refl })
 
     module _ (on : hasLevel l level ≡ true) where
-      judged : (d : Judged) → inMode (gw .common .timers .mode) (Decline NotRestarting) (Tell (settledBy (noticeT2s (onlyLevel level)) (gw .common)) (Told (noticeOf (noticeT2s (onlyLevel level)) (gw .common)))) ≡ d
+      judged : (d : Judged) → cond (isRestarting (gw .common .timers .mode)) (Tell (settledBy (noticeT2s (onlyLevel level)) (gw .common)) (Told (noticeOf (noticeT2s (onlyLevel level)) (gw .common)))) (Decline NotRestarting) ≡ d
           → step gw call ≡ carry gw d
       unfolding step judge databaseOf
       judged d e =
           let h : hasLevel (enabledLevels (gw .common .circuits)) level ≡ true = rw (← common-at ws, ← le) on in
           ap (carry gw) (rw h e)
 
-      pub database-outside : cs .timers .mode ≡ Running → Meets (Refused NotRestarting) (step gw call) ws ws []
+      pub database-outside : isRestarting (cs .timers .mode) ≡ false → Meets (Refused NotRestarting) (step gw call) ws ws []
       unfolding carry
       database-outside m =
-          along (sym (judged (Decline NotRestarting) (sym (in-running {m = gw .common .timers .mode} (Decline NotRestarting) _ (rw (← common-at ws) m)))))
+          let q : isRestarting (gw .common .timers .mode) ≡ false = rw (← common-at ws) m in
+          along (sym (judged (Decline NotRestarting) (rw q)))
           (record { answer = refl; reply = refl; next = refl; kept = λ x y. refl })
 
-      pub database-taken : cs .timers .mode ≡ Restarting → (n : Levels) → n ≡ onlyLevel level → (u : List ℕ) → length ws ≡ gatewayWords → length u ≡ 128
-          → (o : Timed) → CommonSettles (noticeT2s n) (part 0 128 ws) u o → Meets (Told (Noticed o)) (step gw call) ws (putMid 0 128 ws u) []
+      pub database-taken : isRestarting (cs .timers .mode) ≡ true → (n : Levels) → n ≡ onlyLevel level → (u : List ℕ) → length ws ≡ gatewayWords → length u ≡ controlWords
+          → (o : Timed) → CommonSettles (noticeT2s n) (part 0 controlWords ws) u o → Meets (Told (Noticed o)) (step gw call) ws (putMid 0 controlWords ws u) []
       unfolding carry
       database-taken m n ne u len lu o h =
           let f : Timers → Timers = noticeT2s (onlyLevel level) in
-          let k : CommonSettles f (part 0 128 ws) u o = subst (λ (x : Levels). CommonSettles (noticeT2s x) (part 0 128 ws) u o) ne h in
+          let k : CommonSettles f (part 0 controlWords ws) u o = subst (λ (x : Levels). CommonSettles (noticeT2s x) (part 0 controlWords ws) u o) ne h in
           let next = subst (λ (x : Common). commonOf u ≡ settledBy f x) (common-at ws) (k .common) in
           let out = subst (λ (x : Common). Noticed o ≡ noticeOf f x) (common-at ws) (ap Noticed (k .outcome)) in
-          along (sym (judged (Tell (settledBy f (gw .common)) (Told (noticeOf f (gw .common)))) (sym (in-restarting {m = gw .common .timers .mode} (Decline NotRestarting) _ (rw (← common-at ws) m)))))
+          let q : isRestarting (gw .common .timers .mode) ≡ true = rw (← common-at ws) m in
+          along (sym (judged (Tell (settledBy f (gw .common)) (Told (noticeOf f (gw .common)))) (rw q)))
           (record {
             answer = ap Told out;
             reply = refl;
@@ -244,17 +244,17 @@ module _ (ws : List ℕ) where
   unfolding step judge carry gatewayOf
   waits k low e f = record { answer = λ i. Told (Waits (e i) (f i)); reply = refl; next = refl; kept = λ x y. refl }
 
-pub lapsed-at : (ws : List ℕ) (clock i : ℕ) → i < 8 → (any : Bool) (t : List ℕ) → Swept (expiredBy clock) (tableOf (part (roomPlace i) (roomPlace i + 64 - roomPlace i) ws)) (tableOf t) any
-    → length ws ≡ gatewayWords → length t ≡ roomPlace i + 64 - roomPlace i
+pub lapsed-at : (ws : List ℕ) (clock i : ℕ) → i < circuits → (any : Bool) (t : List ℕ) → Swept (expiredBy clock) (tableOf (part (roomPlace i) (roomPlace i + roomWords - roomPlace i) ws)) (tableOf t) any
+    → length ws ≡ gatewayWords → length t ≡ roomPlace i + roomWords - roomPlace i
     → (any ≡ lapsed clock (getD (gatewayOf ws .rooms) i noRoom))
-    × (gatewayOf (putMid (roomPlace i) (roomPlace i + 64 - roomPlace i) ws t) ≡ withRooms (gatewayOf ws) (set (gatewayOf ws .rooms) i (swept clock (getD (gatewayOf ws .rooms) i noRoom))))
+    × (gatewayOf (putMid (roomPlace i) (roomPlace i + roomWords - roomPlace i) ws t) ≡ withRooms (gatewayOf ws) (set (gatewayOf ws .rooms) i (swept clock (getD (gatewayOf ws .rooms) i noRoom))))
 lapsed-at ws clock i lt any t s len lt64 =
     let e = room-at ws i lt in (
       s .any ∙ ap (anyExpired clock) e,
       room-put ws t len i lt lt64 ∙ ap (λ (x : List Slot). withRooms (gatewayOf ws) (set (gatewayOf ws .rooms) i (record { slots = x }))) (s .left ∙ ap (expired clock) e),
     )
 
-pub length-bits : (m : ℕ) → length (bits m) ≡ 8
+pub length-bits : (m : ℕ) → length (bits m) ≡ circuits
 unfolding bitsOf
 length-bits m = refl
 

@@ -2,12 +2,14 @@
 -- come to makes the gateway of the definition.
 use Prim.Native.Nat.{ℕ, _+_, _-_, _<_, _≤_}
 use native.Mathlib.Omega.{arith}
-use mathlib.Core.Path.{_≡_, refl, ap, sym, subst, _∙_}
+use mathlib.Core.Path.{_≡_, refl, ap, sym, _∙_}
 use mathlib.Core.Bool.{true, false}
 use mathlib.Core.List.{List}
 use lib.ListN.{length, set}
 use borrow.Author.Tests.{lt-ltb, le-ltb}
 use borrow.Rule.Slice.PartMut.{putMid, put-same}
+use Rattle.gateway.specs.Frame.{commonAfter, GivesOrders}
+use Rattle.basics.specs.Mask.{circuits}
 use Rattle.hello.specs.Hello.{helloRead}
 use Rattle.hello.specs.declared.read.Hello.{Hello}
 use Rattle.hello.specs.declared.read.Read.the-variants.{Refused as Unread, Accepted as ReadAs}
@@ -23,27 +25,26 @@ use Rattle.adjacency.specs.declared.react.Reaction.the-variants.{Refused as Dec
 use Rattle.adjacency.specs.declared.record.Adjacency.{Adjacency}
 use Rattle.adjacency.specs.declared.record.Key.{Key}
 use Rattle.adjacency.specs.declared.step.Here.{Here}
-use Rattle.slots.specs.Slots.{tableOf}
+use Rattle.slots.specs.Slots.{tableOf, roomWords}
 use Rattle.adjacency.specs.declared.place.Slot.{Slot}
 use Rattle.basics.specs.declared.levels.Levels.{Levels}
 use Rattle.timer_parts.specs.declared.heard.Heard.{Heard}
 use Rattle.timer_parts.specs.declared.t1.Freed.{Freed}
-use Rattle.timers.specs.Timers.{settled, heardIn}
-use Rattle.timers.specs.Outcome.{ordered, heardFreed}
 use Rattle.timers.specs.declared.outcome.Outcome.{Outcome as Timed}
 use Rattle.settings.specs.declared.circuit.Circuit.{Circuit}
-use Rattle.control.specs.Common.{Common, commonOf, withTimers}
+use Rattle.control.specs.Common.{Common}
+use Rattle.control.specs.Words.{commonOf, controlWords}
 use Rattle.control.specs.Timing.{CommonHears}
 use Rattle.adjacency.specs.Keys.{keyIn}
-use Rattle.room.specs.Accept.{decided, kept, written, csnpsIn, Seats}
+use Rattle.room.specs.Accept.{decided, kept, csnpsIn, Accepts}
 use Rattle.model.specs.declared.answers.Orders.{Orders}
 use Rattle.model.specs.Answers.{Refused, Received}
 use Rattle.model.specs.Gateway.{Gateway, Room, withRooms, withCommon, renew, roomOf}
-use Rattle.model.specs.Receive.{refuse, hereOf, rankOf, saidOf, ordersOf, accepted, settle, seated, checked, readIn, receive}
+use Rattle.model.specs.Receive.{refuse, hereOf, rankOf, saidOf, ordersOf, accepted, reacted, decidedIn, checked, readIn, receive}
 use Rattle.model.specs.Step.{Receive, act, lift}
 use Rattle.gateway.specs.Words.{gatewayWords, roomPlace, gatewayOf, Meets}
 use Rattle.basics.specs.Lists.{part}
-use Rattle.gateway.proofs.WordLaws.{along, refuses, common-at, common-put, room-put, room-same, common-stays, length-room, room-of, renew-at}
+use Rattle.gateway.proofs.WordLaws.{along, refuses, common-at, common-put, room-put, room-same, room-of, renew-at}
 
 pub hears-said : {i : ℕ} {l : Levels} {d d′ : Heard} {ws u : List ℕ} {o : Timed} {r : Freed} → d ≡ d′ → CommonHears i l d ws u o r → CommonHears i l d′ ws u o r
 hears-said e h = rw (← e) h
@@ -68,19 +69,19 @@ module _ (g : Gateway) (n : ℕ) (s : Circuit) (mac : ℕ) (frame b : List ℕ) 
     unfolding receive readIn
     reads-good h e = rw (le-ltb (length b) 11 room, e) refl
 
-module _ (ws : List ℕ) (n : ℕ) (s : Circuit) (mac : ℕ) (h : Hello) (b : List ℕ) (own : ℕ) (o : own ≡ commonOf (part 0 128 ws) .system) where
+module _ (ws : List ℕ) (n : ℕ) (s : Circuit) (mac : ℕ) (h : Hello) (b : List ℕ) (own : ℕ) (o : own ≡ commonOf (part 0 controlWords ws) .system) where
   pub source-wrong : wrongSource (s .levels) own h ≡ true → lift (gatewayOf ws) n (refuse b WrongSource) ≡ lift (gatewayOf ws) n (checked n s mac b h)
   unfolding lift checked gatewayOf
   source-wrong e = rw (← o, e) refl
 
   pub source-right : (m : ℕ) → m ≡ mac → wrongSource (s .levels) own h ≡ false
-      → lift (gatewayOf ws) n (seated n s m b h) ≡ lift (gatewayOf ws) n (checked n s mac b h)
+      → lift (gatewayOf ws) n (decidedIn n s m b h) ≡ lift (gatewayOf ws) n (checked n s mac b h)
   unfolding lift checked gatewayOf
   source-right m q e = rw (q, ← o, e) refl
 
 -- ---- refusals 8 and 9, and the frame's effect
 
-module _ (ws : List ℕ) (n : ℕ) (s : Circuit) (mac : ℕ) (h : Hello) (b : List ℕ) (len : length ws ≡ gatewayWords) (lo : 0 < n) (hi : n ≤ 8) where
+module _ (ws : List ℕ) (n : ℕ) (s : Circuit) (mac : ℕ) (h : Hello) (b : List ℕ) (len : length ws ≡ gatewayWords) (lo : 0 < n) (hi : n ≤ circuits) where
   abbrev a : ℕ
   a = roomPlace (n - 1)
 
@@ -90,33 +91,33 @@ module _ (ws : List ℕ) (n : ℕ) (s : Circuit) (mac : ℕ) (h : Hello) (b : Li
   abbrev k : Key
   k = keyIn (s .kind) mac h
 
-  declined-is : (x : Refusal) → Declined x ≡ decided (hereOf (g .common) s) k h (roomOf g n .slots) → lift g n (refuse b x) ≡ lift g n (seated n s mac b h)
-  unfolding lift seated settle
+  declined-is : (x : Refusal) → Declined x ≡ decided (hereOf (g .common) s) k h (roomOf g n .slots) → lift g n (refuse b x) ≡ lift g n (decidedIn n s mac b h)
+  unfolding lift decidedIn reacted
   declined-is x e = rw (← e) refl
 
   accepted-is : (after : Adjacency) (reply : Acknowledgement) (line : Line)
       → Accepted after reply line ≡ decided (hereOf (g .common) s) k h (roomOf g n .slots)
-      → lift g n (accepted n s h k b after reply line) ≡ lift g n (seated n s mac b h)
-  unfolding lift seated settle
+      → lift g n (accepted n s h k b after reply line) ≡ lift g n (decidedIn n s mac b h)
+  unfolding lift decidedIn reacted
   accepted-is after reply line e = rw (← e) refl
 
-  module _ (here : Here) (key : Key) (he : here ≡ hereOf (commonOf (part 0 128 ws)) s) (ke : key ≡ k) where
+  module _ (here : Here) (key : Key) (he : here ≡ hereOf (commonOf (part 0 controlWords ws)) s) (ke : key ≡ k) where
     -- the room's decision is the gateway's
-    decided-at : (r : Reaction) → r ≡ decided here key h (tableOf (part a (a + 64 - a) ws)) → r ≡ decided (hereOf (g .common) s) k h (roomOf g n .slots)
+    decided-at : (r : Reaction) → r ≡ decided here key h (tableOf (part a (a + roomWords - a) ws)) → r ≡ decided (hereOf (g .common) s) k h (roomOf g n .slots)
     decided-at r e =
-        e ∙ ap (λ (x : Here). decided x key h (tableOf (part a (a + 64 - a) ws))) (he ∙ ap (λ (c : Common). hereOf c s) (common-at ws))
-        ∙ ap (λ (x : Key). decided (hereOf (g .common) s) x h (tableOf (part a (a + 64 - a) ws))) ke
+        e ∙ ap (λ (x : Here). decided x key h (tableOf (part a (a + roomWords - a) ws))) (he ∙ ap (λ (c : Common). hereOf c s) (common-at ws))
+        ∙ ap (λ (x : Key). decided (hereOf (g .common) s) x h (tableOf (part a (a + roomWords - a) ws))) ke
         ∙ ap (decided (hereOf (g .common) s) k h) (room-of ws n lo hi)
 
-    pub left : (x : Refusal) (t b′ : List ℕ) → Seats here key h (part a (a + 64 - a) ws) b t b′ (Declined x)
-        → Meets (Refused x) (lift g n (seated n s mac b h)) ws (putMid a (a + 64 - a) ws t) b′
+    pub left : (x : Refusal) (t b′ : List ℕ) → Accepts here key h (part a (a + roomWords - a) ws) b t b′ (Declined x)
+        → Meets (Refused x) (lift g n (decidedIn n s mac b h)) ws (putMid a (a + roomWords - a) ws t) b′
     left x t b′ l =
-        let w : putMid a (a + 64 - a) ws t ≡ ws = ap (putMid a (a + 64 - a) ws) (l .did .0) ∙ put-same a (a + 64 - a) ws in
+        let w : putMid a (a + roomWords - a) ws t ≡ ws = ap (putMid a (a + roomWords - a) ws) (l .did .0) ∙ put-same a (a + roomWords - a) ws in
         rw (w, l .did .1) (along (declined-is x (decided-at (Declined x) (l .is))) (refuses ws n b x))
 
-    module _ (t u b′ : List ℕ) (after : Adjacency) (reply : Acknowledgement) (line : Line) (lt : length t ≡ a + 64 - a) (lu : length u ≡ 128) where
+    module _ (t b′ : List ℕ) (after : Adjacency) (reply : Acknowledgement) (line : Line) (lt : length t ≡ a + roomWords - a) where
       abbrev ws1 : List ℕ
-      ws1 = putMid a (a + 64 - a) ws t
+      ws1 = putMid a (a + roomWords - a) ws t
 
       abbrev room : Room
       room = record { slots = kept k after (roomOf g n .slots) }
@@ -124,44 +125,44 @@ module _ (ws : List ℕ) (n : ℕ) (s : Circuit) (mac : ℕ) (h : Hello) (b : Li
       put1 : gatewayOf ws1 ≡ withRooms g (set (g .rooms) (n - 1) (record { slots = tableOf t }))
       put1 = room-put ws t len (n - 1) (omega arith) lt
 
-      common1 : commonOf (part 0 128 ws1) ≡ g .common
-      common1 = ap commonOf (common-stays ws t len (n - 1) (omega arith) lt) ∙ common-at ws
-
-      kept1 : tableOf t ≡ kept key after (tableOf (part a (a + 64 - a) ws)) → tableOf t ≡ kept k after (roomOf g n .slots)
+      kept1 : tableOf t ≡ kept key after (tableOf (part a (a + roomWords - a) ws)) → tableOf t ≡ kept k after (roomOf g n .slots)
       kept1 e =
-          e ∙ ap (λ (x : Key). kept x after (tableOf (part a (a + 64 - a) ws))) ke ∙ ap (kept k after) (room-of ws n lo hi)
+          e ∙ ap (λ (x : Key). kept x after (tableOf (part a (a + roomWords - a) ws))) ke ∙ ap (kept k after) (room-of ws n lo hi)
 
-      accepted-meets : (o : Orders) → tableOf t ≡ kept k after (roomOf g n .slots) → b′ ≡ written (h .system) reply b
-          → o ≡ ordersOf n s h reply line (g .common) room → commonOf u ≡ accepted n s h k b after reply line (g .common) (roomOf g n) .common
-          → Meets (Received o) (lift g n (accepted n s h k b after reply line)) ws (putMid 0 128 ws1 u) b′
+      pub taken : (ws2 : List ℕ) (o : Orders) → Accepts here key h (part a (a + roomWords - a) ws) b t b′ (Accepted after reply line)
+          → GivesOrders n s h reply line ws1 ws2 o → Meets (Received o) (lift g n (decidedIn n s mac b h)) ws ws2 b′
       unfolding lift accepted
-      accepted-meets o e w p q =
-          let rooms : set (g .rooms) (n - 1) (record { slots = tableOf t }) ≡ renew (g .rooms) n room =
-          ap (λ (x : List Slot). set (g .rooms) (n - 1) (record { slots = x })) e ∙ sym (renew-at (g .rooms) n room lo) in
-          record {
-            answer = ap Received p;
-            reply = w;
-            next =
-                common-put ws1 u (length-room ws t len (n - 1) (omega arith) lt) lu ∙ ap (λ (x : Gateway). withCommon x (commonOf u)) put1
-                ∙ ap (λ (l : List Room). withCommon (withRooms g l) (commonOf u)) rooms
-                ∙ ap (withCommon (withRooms g (renew (g .rooms) n room))) q;
-            kept = λ x z. absurd (let y : _≡_ {A = ℕ} 0 1 = cc in omega arith);
-          }
-
-      pub taken : (rank : Rank) (cs : Csnps) (timed : Timed) (freed : Freed) → Seats here key h (part a (a + 64 - a) ws) b t b′ (Accepted after reply line)
-          → rank ≡ rankOf s h → cs ≡ csnpsIn rank line (s .levels) (h .link) (tableOf (part a (a + 64 - a) ws1))
-          → CommonHears (n - 1) (s .levels) (saidOf (commonOf (part 0 128 ws1)) s h) (part 0 128 ws1) u timed freed
-          → Meets (Received (record { reply = reply; csnps = cs; outcome = timed; freed = freed })) (lift g n (seated n s mac b h)) ws (putMid 0 128 ws1 u) b′
-      unfolding accepted
-      taken rank cs timed freed l re ce hs =
+      taken ws2 o l y =
           let e = kept1 (l .did .0) in
-          let own : tableOf (part a (a + 64 - a) ws1) ≡ kept k after (roomOf g n .slots) =
-          ap tableOf (room-same ws t len (n - 1) (omega arith) lt) ∙ e in
-          let c : cs ≡ csnpsIn (rankOf s h) line (s .levels) (h .link) (kept k after (roomOf g n .slots)) =
-          ce ∙ ap (λ (x : Rank). csnpsIn x line (s .levels) (h .link) (tableOf (part a (a + 64 - a) ws1))) re
-          ∙ ap (csnpsIn (rankOf s h) line (s .levels) (h .link)) own in
-          let m = subst (λ (x : Common). commonOf u ≡ withTimers (settled (heardIn (x .clock) (n - 1) (s .levels) (saidOf x s h)) (x .timers)) x) common1 (hs .settles .common) in
-          let p = subst (λ (x : Common). timed ≡ ordered (heardIn (x .clock) (n - 1) (s .levels) (saidOf x s h)) (x .timers)) common1 (hs .settles .outcome) in
-          let f = subst (λ (x : Common). freed ≡ heardFreed (n - 1) (saidOf x s h) (x .timers)) common1 (hs .freed) in
+          let own : roomOf (gatewayOf ws1) n ≡ room =
+          ap (λ (x : List Slot). record { slots = x }) (sym (room-of ws1 n lo hi) ∙ ap tableOf (room-same ws t len (n - 1) (omega arith) lt) ∙ e) in
+          let same : gatewayOf ws1 ≡ withRooms g (renew (g .rooms) n room) =
+          put1 ∙ ap (λ (x : List Slot). withRooms g (set (g .rooms) (n - 1) (record { slots = x }))) e ∙ ap (withRooms g) (sym (renew-at (g .rooms) n room lo)) in
+          let common : gatewayOf ws1 .common ≡ g .common = ap (λ (x : Gateway). x .common) same in
           along (accepted-is after reply line (decided-at (Accepted after reply line) (l .is)))
-          (accepted-meets (record { reply = reply; csnps = cs; outcome = timed; freed = freed }) e (l .did .1) (λ i. record { reply = reply; csnps = c i; outcome = p i; freed = f i }) m)
+          (record {
+            answer = ap Received (y .orders ∙ (λ i. ordersOf n s h reply line (common i) (own i)));
+            reply = l .did .1;
+            next = y .next ∙ ap (λ (x : Gateway). withCommon x (commonAfter n s h (x .common))) same;
+            kept = λ x z. absurd (let y : _≡_ {A = ℕ} 0 1 = cc in omega arith);
+          })
+
+-- ---- the orders of an accepted frame
+
+module _ (ws : List ℕ) (n : ℕ) (s : Circuit) (h : Hello) (reply : Acknowledgement) (line : Line) (len : length ws ≡ gatewayWords) (lo : 0 < n) (hi : n ≤ circuits) where
+  abbrev at : ℕ
+  at = roomPlace (n - 1)
+
+  pub gives : (rank : Rank) (cs : Csnps) (timed : Timed) (freed : Freed) (u : List ℕ) → length u ≡ controlWords → rank ≡ rankOf s h
+      → cs ≡ csnpsIn rank line (s .levels) (h .link) (tableOf (part at (at + roomWords - at) ws))
+      → CommonHears (n - 1) (s .levels) (saidOf (commonOf (part 0 controlWords ws)) s h) (part 0 controlWords ws) u timed freed
+      → GivesOrders n s h reply line ws (putMid 0 controlWords ws u) (record { reply = reply; csnps = cs; outcome = timed; freed = freed })
+  unfolding gatewayOf
+  gives rank cs timed freed u lu re ce hs =
+      let c : cs ≡ csnpsIn (rankOf s h) line (s .levels) (h .link) (roomOf (gatewayOf ws) n .slots) =
+      ce ∙ ap (λ (x : Rank). csnpsIn x line (s .levels) (h .link) (tableOf (part at (at + roomWords - at) ws))) re
+      ∙ ap (csnpsIn (rankOf s h) line (s .levels) (h .link)) (room-of ws n lo hi) in
+      record {
+        orders = λ i. record { reply = reply; csnps = c i; outcome = hs .settles .outcome i; freed = hs .freed i };
+        next = common-put ws u len lu ∙ ap (withCommon (gatewayOf ws)) (hs .settles .common);
+      }

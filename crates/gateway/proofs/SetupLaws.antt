@@ -6,11 +6,12 @@ use mathlib.Core.Bool.{true, false}
 use mathlib.Core.List.{List, map}
 use lib.ListN.{length, set}
 use borrow.Rule.Slice.PartMut.{putMid}
+use Rattle.control.specs.Words.{controlWords}
 use Rattle.basics.specs.declared.refusal.Refusal.the-variants.{BadSetting}
-use Rattle.slots.specs.Slots.{tableOf}
+use Rattle.slots.specs.Slots.{tableOf, roomWords}
 use Rattle.adjacency.specs.declared.place.Slot.{Slot}
 use Rattle.room.specs.Table.{emptyRoom}
-use Rattle.basics.specs.Mask.{bits}
+use Rattle.basics.specs.Mask.{bits, circuits}
 use Rattle.settings.specs.Settings.{settingsOk}
 use Rattle.settings.specs.declared.circuit.Circuit.{Circuit}
 use Rattle.settings.specs.declared.setup.Settings.{Settings}
@@ -23,9 +24,9 @@ use Rattle.gateway.specs.Words.{gatewayWords, roomPlace, gatewayOf}
 use Rattle.gateway.specs.Setup.{Begun, SetsUp}
 use Rattle.gateway.proofs.WordLaws.{common-put, room-put}
 
-pub opened : (ws t : List ℕ) (i : ℕ) (s : Circuit) → length ws ≡ gatewayWords → i < 8 → length t ≡ roomPlace i + 64 - roomPlace i
+pub opened : (ws t : List ℕ) (i : ℕ) (s : Circuit) → length ws ≡ gatewayWords → i < circuits → length t ≡ roomPlace i + roomWords - roomPlace i
     → tableOf t ≡ emptyRoom (s .kind)
-    → gatewayOf (putMid (roomPlace i) (roomPlace i + 64 - roomPlace i) ws t) ≡ withRooms (gatewayOf ws) (set (gatewayOf ws .rooms) i (newRoom s))
+    → gatewayOf (putMid (roomPlace i) (roomPlace i + roomWords - roomPlace i) ws t) ≡ withRooms (gatewayOf ws) (set (gatewayOf ws .rooms) i (newRoom s))
 opened ws t i s len lt l e =
     room-put ws t len i lt l ∙ ap (λ (x : List Slot). withRooms (gatewayOf ws) (set (gatewayOf ws .rooms) i (record { slots = x }))) e
 
@@ -34,8 +35,8 @@ module _ (ws : List ℕ) (s : Settings) where
   unfolding setup
   set-up-refused e = rw e (record { answer = refl; next = refl; kept = λ x y. refl })
 
-  pub set-up-done : (u ws′ : List ℕ) (hellos : ℕ) → settingsOk s ≡ true → length ws ≡ gatewayWords → length u ≡ 128
-      → StoresAll s u (bits hellos) → gatewayOf ws′ ≡ withRooms (gatewayOf (putMid 0 128 ws u)) (map newRoom (s .circuits))
+  pub set-up-done : (u ws′ : List ℕ) (hellos : ℕ) → settingsOk s ≡ true → length ws ≡ gatewayWords → length u ≡ controlWords
+      → StoresAll s u (bits hellos) → gatewayOf ws′ ≡ withRooms (gatewayOf (putMid 0 controlWords ws u)) (map newRoom (s .circuits))
       → SetsUp (setup s) ws ws′ (Done hellos)
   unfolding setup newGateway
   set-up-done u ws′ hellos e len lu h r =

@@ -10,12 +10,15 @@ use lib.Seq.{ext-getD, getD-take, getD-drop, length-take-le, set-getD}
 use lib.Dec.{ltb}
 use borrow.Author.Tests.{ltb-true, ltb-false}
 use borrow.Rule.Slice.PartMut.{putMid}
+use Rattle.settings.specs.declared.mode.Mode.{Mode}
+use Rattle.basics.specs.Mask.{circuits}
 use Rattle.basics.proofs.BoolLaws.{by-test}
 use Rattle.basics.specs.declared.refusal.Refusal.{Refusal}
 use Rattle.basics.specs.declared.refusal.Refusal.the-variants.{NoCircuit}
-use Rattle.slots.specs.Slots.{tableOf}
+use Rattle.slots.specs.Slots.{tableOf, roomWords}
 use Rattle.basics.proofs.ListLaws.{tabulate-set, tabulate-same, getD-tabulate, length-tabulate}
-use Rattle.control.specs.Common.{Common, commonOf, circuitOf, Chooses}
+use Rattle.control.specs.Common.{Common, circuitOf, Chooses}
+use Rattle.control.specs.Words.{commonOf, controlWords}
 use Rattle.settings.specs.declared.circuit.Chosen.{Chosen}
 use Rattle.settings.specs.declared.circuit.Chosen.the-variants.{Known, Unknown}
 use Rattle.basics.proofs.PartLaws.{length-back, part-same, outside}
@@ -49,7 +52,7 @@ module _ (a e : ℕ) (ws t : List ℕ) (ae : a ≤ e) (el : e ≤ length ws) (lt
       long : (xs : List ℕ) → b + k ≤ length xs → length (part b k xs) ≡ k
       long xs g = length-take-le k (drop b xs) (simp length-drop (omega arith))
 
-side : (j i : ℕ) → (j ≡ i → ⊥) → (roomPlace j + 64 ≤ roomPlace i) ⊎ (roomPlace i + 64 ≤ roomPlace j)
+side : (j i : ℕ) → (j ≡ i → ⊥) → (roomPlace j + roomWords ≤ roomPlace i) ⊎ (roomPlace i + roomWords ≤ roomPlace j)
 side j i ne =
     by-test (ltb j i) (λ q. inl (omega (arith, ltb-true j i q)))
     (λ q. inr (let g : i ≤ j = ltb-false j i q in let n : j ≢ i = ne in omega arith))
@@ -57,65 +60,71 @@ side j i ne =
 -- ---- the common words put back, and a room's
 
 module _ (ws t : List ℕ) (len : length ws ≡ gatewayWords) where
-  pub length-common : length t ≡ 128 → length (putMid 0 128 ws t) ≡ gatewayWords
-  length-common l = length-back 0 128 ws t (omega arith) (omega arith) l ∙ len
+  pub length-common : length t ≡ controlWords → length (putMid 0 controlWords ws t) ≡ gatewayWords
+  length-common l = length-back 0 controlWords ws t (omega arith) (omega arith) l ∙ len
 
-  pub common-put : length t ≡ 128 → gatewayOf (putMid 0 128 ws t) ≡ withCommon (gatewayOf ws) (commonOf t)
+  pub common-put : length t ≡ controlWords → gatewayOf (putMid 0 controlWords ws t) ≡ withCommon (gatewayOf ws) (commonOf t)
   unfolding gatewayOf roomAt
   common-put l =
-      let own : part 0 128 (putMid 0 128 ws t) ≡ t = part-same 0 128 ws t (omega arith) (omega arith) l in
-      let r = tabulate-same (roomAt (putMid 0 128 ws t)) (roomAt ws) 8
-      (λ j lj. ap (λ (p : List ℕ). record { slots = tableOf p }) (part-other 0 128 ws t (omega arith) (omega arith) l (roomPlace j) 64 (omega arith) (inr (omega arith)))) in
+      let own : part 0 controlWords (putMid 0 controlWords ws t) ≡ t = part-same 0 controlWords ws t (omega arith) (omega arith) l in
+      let r = tabulate-same (roomAt (putMid 0 controlWords ws t)) (roomAt ws) circuits
+      (λ j lj. ap (λ (p : List ℕ). record { slots = tableOf p }) (part-other 0 controlWords ws t (omega arith) (omega arith) l (roomPlace j) roomWords (omega arith) (inr (omega arith)))) in
       cc (ap commonOf own, r)
 
-  module _ (i : ℕ) (lt : i < 8) (long : length t ≡ roomPlace i + 64 - roomPlace i) where
+  module _ (i : ℕ) (lt : i < circuits) (long : length t ≡ roomPlace i + roomWords - roomPlace i) where
     abbrev a : ℕ
     a = roomPlace i
 
-    pub length-room : length (putMid a (a + 64 - a) ws t) ≡ gatewayWords
-    length-room = length-back a (a + 64) ws t (omega arith) (omega arith) long ∙ len
+    pub length-room : length (putMid a (a + roomWords - a) ws t) ≡ gatewayWords
+    length-room = length-back a (a + roomWords) ws t (omega arith) (omega arith) long ∙ len
 
-    pub room-same : part a (a + 64 - a) (putMid a (a + 64 - a) ws t) ≡ t
-    room-same = part-same a (a + 64) ws t (omega arith) (omega arith) long
+    pub room-same : part a (a + roomWords - a) (putMid a (a + roomWords - a) ws t) ≡ t
+    room-same = part-same a (a + roomWords) ws t (omega arith) (omega arith) long
 
-    pub common-stays : part 0 128 (putMid a (a + 64 - a) ws t) ≡ part 0 128 ws
-    common-stays = part-other a (a + 64) ws t (omega arith) (omega arith) long 0 128 (omega arith) (inl (omega arith))
+    pub common-stays : part 0 controlWords (putMid a (a + roomWords - a) ws t) ≡ part 0 controlWords ws
+    common-stays = part-other a (a + roomWords) ws t (omega arith) (omega arith) long 0 controlWords (omega arith) (inl (omega arith))
 
-    pub room-put : gatewayOf (putMid a (a + 64 - a) ws t) ≡ withRooms (gatewayOf ws) (set (gatewayOf ws .rooms) i (record { slots = tableOf t }))
+    pub room-put : gatewayOf (putMid a (a + roomWords - a) ws t) ≡ withRooms (gatewayOf ws) (set (gatewayOf ws .rooms) i (record { slots = tableOf t }))
     unfolding gatewayOf roomAt
     room-put =
-        let b = putMid a (a + 64 - a) ws t in
-        let w : a + 64 - a ≡ 64 = omega arith in
-        let own : part a 64 b ≡ t = ap (λ (k : ℕ). take k (drop a b)) (sym w) ∙ room-same in
-        let r = tabulate-set (roomAt b) (roomAt ws) 8 i (record { slots = tableOf t }) lt (ap (λ (p : List ℕ). record { slots = tableOf p }) own)
-        (λ j lj ne. ap (λ (p : List ℕ). record { slots = tableOf p }) (part-other a (a + 64) ws t (omega arith) (omega arith) long (roomPlace j) 64 (omega arith) (side j i ne))) in
+        let b = putMid a (a + roomWords - a) ws t in
+        let w : a + roomWords - a ≡ roomWords = omega arith in
+        let own : part a roomWords b ≡ t = ap (λ (k : ℕ). take k (drop a b)) (sym w) ∙ room-same in
+        let r = tabulate-set (roomAt b) (roomAt ws) circuits i (record { slots = tableOf t }) lt (ap (λ (p : List ℕ). record { slots = tableOf p }) own)
+        (λ j lj ne. ap (λ (p : List ℕ). record { slots = tableOf p }) (part-other a (a + roomWords) ws t (omega arith) (omega arith) long (roomPlace j) roomWords (omega arith) (side j i ne))) in
         cc (ap commonOf common-stays, r)
+
+    -- the mode that was asked for before a room is put back is the mode still
+    pub mode-put : (m : Mode) → m ≡ commonOf (part 0 controlWords ws) .timers .mode
+        → m ≡ gatewayOf (putMid a (a + roomWords - a) ws t) .common .timers .mode
+    unfolding gatewayOf
+    mode-put m e = e ∙ ap (λ (l : List ℕ). commonOf l .timers .mode) (sym common-stays)
 
 -- ---- what is read
 
-pub common-at : (ws : List ℕ) → commonOf (part 0 128 ws) ≡ gatewayOf ws .common
+pub common-at : (ws : List ℕ) → commonOf (part 0 controlWords ws) ≡ gatewayOf ws .common
 unfolding gatewayOf
 common-at ws = refl
 
-pub length-rooms : (ws : List ℕ) → length (gatewayOf ws .rooms) ≡ 8
+pub length-rooms : (ws : List ℕ) → length (gatewayOf ws .rooms) ≡ circuits
 unfolding gatewayOf
-length-rooms ws = length-tabulate (roomAt ws) 8
+length-rooms ws = length-tabulate (roomAt ws) circuits
 
 -- the room of circuit i (from 0), as the code lends it
-pub room-at : (ws : List ℕ) (i : ℕ) → i < 8 → tableOf (part (roomPlace i) (roomPlace i + 64 - roomPlace i) ws) ≡ getD (gatewayOf ws .rooms) i noRoom .slots
+pub room-at : (ws : List ℕ) (i : ℕ) → i < circuits → tableOf (part (roomPlace i) (roomPlace i + roomWords - roomPlace i) ws) ≡ getD (gatewayOf ws .rooms) i noRoom .slots
 unfolding gatewayOf roomAt
 room-at ws i lt =
-    let w : roomPlace i + 64 - roomPlace i ≡ 64 = omega arith in
-    ap (λ (k : ℕ). tableOf (part (roomPlace i) k ws)) w ∙ ap (λ (r : Room). r .slots) (sym (getD-tabulate (roomAt ws) 8 i noRoom lt))
+    let w : roomPlace i + roomWords - roomPlace i ≡ roomWords = omega arith in
+    ap (λ (k : ℕ). tableOf (part (roomPlace i) k ws)) w ∙ ap (λ (r : Room). r .slots) (sym (getD-tabulate (roomAt ws) circuits i noRoom lt))
 
 -- the room of circuit n (from 1)
-pub room-of : (ws : List ℕ) (n : ℕ) → 0 < n → n ≤ 8
-    → tableOf (part (roomPlace (n - 1)) (roomPlace (n - 1) + 64 - roomPlace (n - 1)) ws) ≡ roomOf (gatewayOf ws) n .slots
+pub room-of : (ws : List ℕ) (n : ℕ) → 0 < n → n ≤ circuits
+    → tableOf (part (roomPlace (n - 1)) (roomPlace (n - 1) + roomWords - roomPlace (n - 1)) ws) ≡ roomOf (gatewayOf ws) n .slots
 unfolding numbered
 room-of ws zero p q = absurd (omega arith)
 room-of ws (suc i) p q =
     let z : suc i - 1 ≡ i = omega arith in
-    ap (λ (k : ℕ). tableOf (part (roomPlace k) (roomPlace k + 64 - roomPlace k) ws)) z ∙ room-at ws i (omega arith)
+    ap (λ (k : ℕ). tableOf (part (roomPlace k) (roomPlace k + roomWords - roomPlace k) ws)) z ∙ room-at ws i (omega arith)
 
 pub renew-at : (l : List Room) (n : ℕ) (r : Room) → 0 < n → renew l n r ≡ set l (n - 1) r
 unfolding renew
@@ -127,7 +136,7 @@ unfolding renew numbered
 same-room l zero = refl
 same-room l (suc i) = set-getD l i noRoom
 
-pub choice : (ws : List ℕ) (n : ℕ) (r r′ : Chosen) → Chooses (commonOf (part 0 128 ws)) n r → r ≡ r′ → circuitOf (gatewayOf ws .common) n ≡ r′
+pub choice : (ws : List ℕ) (n : ℕ) (r r′ : Chosen) → Chooses (commonOf (part 0 controlWords ws)) n r → r ≡ r′ → circuitOf (gatewayOf ws .common) n ≡ r′
 unfolding gatewayOf
 choice ws n r r′ c e = sym (c .is) ∙ e
 

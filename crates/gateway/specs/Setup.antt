@@ -6,7 +6,7 @@ use mathlib.Core.Bool.{Bool}
 use mathlib.Core.List.{List, map}
 use Rattle.basics.specs.Octets.{big}
 use Rattle.basics.specs.declared.refusal.Refusal.{Refusal}
-use Rattle.basics.specs.Mask.{bits}
+use Rattle.basics.specs.Mask.{bits, circuits}
 use Rattle.settings.specs.declared.circuit.Circuit.{Circuit}
 use Rattle.settings.specs.declared.setup.Settings.{Settings}
 use Rattle.model.specs.declared.answers.SetUp.{SetUp}

@@ -1,35 +1,31 @@
--- The gateway in lent words (house): the common words, then 64 words for each of eight circuits; and what a call is to do.
+-- The gateway in lent words (house): the control words, then a room for each circuit; and what a call is to do.
 use Prim.Native.Nat.{ℕ, _+_, _*_}
 use mathlib.Core.Path.{_≡_}
 use mathlib.Core.List.{List}
-use Rattle.basics.specs.Lists.{part}
+use Rattle.basics.specs.Mask.{circuits}
+use Rattle.basics.specs.Lists.{part, tabulate}
 use Rattle.basics.specs.declared.refusal.Refusal.{Refusal}
 use Rattle.basics.specs.Octets.{big}
 use Rattle.adjacency.specs.declared.record.Key.{Key}
-use Rattle.basics.specs.Lists.{tabulate}
-use Rattle.slots.specs.Slots.{tableOf}
-use Rattle.control.specs.Common.{commonOf}
+use Rattle.slots.specs.Slots.{tableOf, roomWords}
+use Rattle.control.specs.Words.{commonOf, controlWords}
 use Rattle.model.specs.Answers.{Answer, Refused}
 use Rattle.model.specs.Gateway.{Gateway, Room}
 use Rattle.model.specs.Step.{Outcome}
 
--- the words of a circuit's room, and of a gateway
-abbrev pub roomWords : ℕ
-roomWords = 64
-
 abbrev pub gatewayWords : ℕ
-gatewayWords = 640
+gatewayWords = controlWords + roomWords * circuits
 
 -- where the room of circuit i (from 0) stands
 abbrev pub roomPlace : ℕ → ℕ
-roomPlace i = 128 + 64 * i
+roomPlace i = controlWords + roomWords * i
 
 unfoldable pub roomAt : List ℕ → ℕ → Room
-roomAt ws i = record { slots = tableOf (part (roomPlace i) 64 ws) }
+roomAt ws i = record { slots = tableOf (part (roomPlace i) roomWords ws) }
 
 -- any words mean some gateway
 unfoldable pub gatewayOf : List ℕ → Gateway
-gatewayOf ws = record { common = commonOf (part 0 128 ws); rooms = tabulate (roomAt ws) 8 }
+gatewayOf ws = record { common = commonOf (part 0 controlWords ws); rooms = tabulate (roomAt ws) circuits }
 
 -- a key as a caller gives it, with a System ID and a MAC of six octets
 abbrev pub keyGiven : ℕ → List ℕ → List ℕ → Key

@@ -9,6 +9,7 @@ use basics::refusal::Refusal;
 use control::timing::count_waiting;
 use control::timing::lowest_waiting;
 use control::timing::next_flags;
+use control::words::CONTROL_WORDS;
 use control::words::circuit_of;
 use metric::link_metric;
 use model::answers::Looked;
@@ -19,10 +20,12 @@ use room::place::found;
 use room::search::first_state;
 use settings::circuit::Chosen;
 use settings::circuit::Circuit;
+use slots::slot::ROOM_WORDS;
 ghost use mathlib.Core.Path.{_≡_};
 ghost use mathlib.Core.List.{[]};
 ghost use Prim.Native.Nat.{_<_, _≤_};
 ghost use lib.ListN.{length};
+ghost use Rattle.basics.specs.Mask.{circuits};
 ghost use Rattle.model.specs.Answers.{Told, lookedOf, metricOf, flagsOf, waitingOf};
 ghost use Rattle.model.specs.Answers.{Looked as LookedFact};
 ghost use Rattle.model.specs.Step.{asksLevel, lookUp, lift, step, At, Over, LookUp, LinkMetric, NextHello};
@@ -48,7 +51,7 @@ fn looked_at(stood: Adjacency) -> Looked
 }
 
 fn look_on(gateway: &[u64], n: u8, s: Circuit, key: Key) -> Looked
-    requires { ⌜ (length (now gateway) ≡ gatewayWords) × (0 < n) × (n ≤ 8) ⌝ }
+    requires { ⌜ (length (now gateway) ≡ gatewayWords) × (0 < n) × (n ≤ circuits) ⌝ }
     ensures { λ r. ⌜ Meets (lookedOf r) (lift (gatewayOf (now (gateway .entry))) n (lookUp s key)) (now (gateway .entry)) (now (gateway .entry)) [] ⌝ }
 {
     let kind = s.kind;
@@ -56,8 +59,8 @@ fn look_on(gateway: &[u64], n: u8, s: Circuit, key: Key) -> Looked
     let level = key.level;
     if asks_level(kind, levels, level) {
         let own = key_on(kind, key);
-        let a = 128 + 64 * (n as usize - 1);
-        let stood = found(&gateway[a..a + 64], own);
+        let a = CONTROL_WORDS + ROOM_WORDS * (n as usize - 1);
+        let stood = found(&gateway[a..a + ROOM_WORDS], own);
         return looked_at(stood);
     }
     Looked::Refused(Refusal::NoCircuit)
@@ -68,7 +71,7 @@ pub(crate) fn look_in(gateway: &[u64], n: u8, key: Key) -> Looked
     requires { ⌜ length (now gateway) ≡ gatewayWords ⌝ }
     ensures { λ r. ⌜ Meets (lookedOf r) (step (gatewayOf (now (gateway .entry))) (At n (LookUp key))) (now (gateway .entry)) (now (gateway .entry)) [] ⌝ }
 {
-    let Chosen::Known(s) = circuit_of(&gateway[0..128], n) else {
+    let Chosen::Known(s) = circuit_of(&gateway[0..CONTROL_WORDS], n) else {
         return Looked::Refused(Refusal::NoCircuit);
     };
     look_on(gateway, n, s, key)
@@ -78,12 +81,12 @@ pub(crate) fn metric_in(gateway: &[u64], n: u8) -> Metric
     requires { ⌜ length (now gateway) ≡ gatewayWords ⌝ }
     ensures { λ r. ⌜ Meets (metricOf r) (step (gatewayOf (now (gateway .entry))) (At n LinkMetric)) (now (gateway .entry)) (now (gateway .entry)) [] ⌝ }
 {
-    let Chosen::Known(s) = circuit_of(&gateway[0..128], n) else {
+    let Chosen::Known(s) = circuit_of(&gateway[0..CONTROL_WORDS], n) else {
         return Metric::Refused(Refusal::NoCircuit);
     };
     let kind = s.kind;
-    let a = 128 + 64 * (n as usize - 1);
-    let stood = first_state(&gateway[a..a + 64]);
+    let a = CONTROL_WORDS + ROOM_WORDS * (n as usize - 1);
+    let stood = first_state(&gateway[a..a + ROOM_WORDS]);
     Metric::Link(link_metric(kind, s.metric, stood))
 }
 
@@ -91,11 +94,11 @@ pub(crate) fn flags_in(gateway: &[u64], n: u8) -> NextFlags
     requires { ⌜ length (now gateway) ≡ gatewayWords ⌝ }
     ensures { λ r. ⌜ Meets (flagsOf r) (step (gatewayOf (now (gateway .entry))) (At n NextHello)) (now (gateway .entry)) (now (gateway .entry)) [] ⌝ }
 {
-    let Chosen::Known(_) = circuit_of(&gateway[0..128], n) else {
+    let Chosen::Known(_) = circuit_of(&gateway[0..CONTROL_WORDS], n) else {
         return NextFlags::Refused(Refusal::NoCircuit);
     };
     let i = n as usize - 1;
-    let flags = next_flags(&gateway[0..128], i);
+    let flags = next_flags(&gateway[0..CONTROL_WORDS], i);
     NextFlags::Next(flags)
 }
 
@@ -103,7 +106,7 @@ pub(crate) fn waiting_in(gateway: &[u64]) -> Waiting
     requires { ⌜ length (now gateway) ≡ gatewayWords ⌝ }
     ensures { λ r. ⌜ Meets (waitingOf r) (step (gatewayOf (now (gateway .entry))) (Over Waits)) (now (gateway .entry)) (now (gateway .entry)) [] ⌝ }
 {
-    let count = count_waiting(&gateway[0..128]);
-    let lowest = lowest_waiting(&gateway[0..128]);
+    let count = count_waiting(&gateway[0..CONTROL_WORDS]);
+    let lowest = lowest_waiting(&gateway[0..CONTROL_WORDS]);
     Waiting { count, lowest }
 }

@@ -6,15 +6,17 @@ use crate::asks::look_in;
 use crate::asks::metric_in;
 use crate::asks::waiting_in;
 use crate::config::GatewaySettings;
-use crate::databases::database_in;
 use crate::frame::receive_in;
 use crate::notices::csnp_in;
+use crate::notices::database_in;
 use crate::setup::set_up_in;
 use crate::setup::settings_given;
 use crate::ticks::release_in;
 use crate::ticks::tick_in;
 use adjacency::record::Key;
+use basics::mask::CIRCUITS;
 use basics::octets::six;
+use control::words::CONTROL_WORDS;
 use model::answers::Looked;
 use model::answers::Metric;
 use model::answers::NextFlags;
@@ -24,6 +26,7 @@ use model::answers::Released;
 use model::answers::SetUp;
 use model::answers::Ticked;
 use model::answers::Waiting;
+use slots::slot::ROOM_WORDS;
 ghost use mathlib.Core.Path.{_≡_};
 ghost use mathlib.Core.List.{[]};
 ghost use lib.ListN.{length};
@@ -36,7 +39,7 @@ ghost use Rattle.gateway.specs.Words.{gatewayOf, keyGiven, Meets};
 ghost use Rattle.gateway.specs.Setup.{settingsGiven, SetsUp};
 
 // The words of a gateway.
-pub const GATEWAY_WORDS: usize = 640;
+pub const GATEWAY_WORDS: usize = CONTROL_WORDS + ROOM_WORDS * CIRCUITS;
 
 // A new gateway, whatever the memory was; the answer says on which circuits a hello with RR is ordered.
 pub fn set_up(gateway: &mut [u64; GATEWAY_WORDS], settings: GatewaySettings) -> SetUp

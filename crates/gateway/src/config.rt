@@ -1,6 +1,7 @@
 // The settings as a caller gives them to setup (document 01, "What the gateway holds"): MACs and the System ID are six octets.
 use basics::kind::CircuitKind;
 use basics::levels::Levels;
+use basics::mask::CIRCUITS;
 use settings::lengths::Lengths;
 use settings::mode::Mode;
 
@@ -22,5 +23,5 @@ pub struct GatewaySettings {
     pub clock: u32,
     pub mode: Mode,
     pub count: u8,
-    pub circuits: [CircuitSettings; 8],
+    pub circuits: [CircuitSettings; CIRCUITS],
 }

@@ -2,6 +2,8 @@
 use adjacency::duty::Rank;
 use adjacency::keys::key_in;
 use adjacency::keys::level_in;
+use adjacency::marks::Acknowledgement;
+use adjacency::marks::Line;
 use adjacency::react::Reaction;
 use adjacency::step::Here;
 use adjacency::step::is_wrong_source;
@@ -10,6 +12,7 @@ use basics::refusal::Refusal;
 use control::head::mode_of;
 use control::timing::Handled;
 use control::timing::hear;
+use control::words::CONTROL_WORDS;
 use control::words::circuit_of;
 use control::words::clock_of;
 use control::words::system_of;
@@ -18,42 +21,33 @@ use hello::read::Read;
 use hello::read::read_hello;
 use model::answers::Orders;
 use model::answers::Received;
-use room::accept::seat_in;
+use room::accept::accept_in;
 use room::duty::csnps_in;
 use settings::circuit::Chosen;
 use settings::circuit::Circuit;
 use settings::mode::Mode;
+use settings::mode::is_restarting;
+use slots::slot::ROOM_WORDS;
 use timer_parts::heard::heard_of;
 ghost use mathlib.Core.Path.{_≡_};
-ghost use mathlib.Core.Bool.{not};
 ghost use Prim.Native.Nat.{_-_, _<_, _≤_};
 ghost use lib.ListN.{length};
+ghost use Rattle.basics.specs.Mask.{circuits};
 ghost use Rattle.basics.specs.Octets.{big};
-ghost use Rattle.settings.specs.Mode.{isRunning};
-ghost use Rattle.control.specs.Words.{commonWords};
-ghost use Rattle.control.specs.Common.{commonOf};
+ghost use Rattle.control.specs.Words.{controlWords, commonOf};
 ghost use Rattle.control.specs.Timing.{CommonHears};
 ghost use Rattle.model.specs.Answers.{receivedOf};
-ghost use Rattle.model.specs.Receive.{hereOf, rankOf, saidOf, seated, checked};
+ghost use Rattle.model.specs.Receive.{hereOf, rankOf, saidOf, decidedIn, checked};
 ghost use Rattle.model.specs.Step.{lift, step, At, Receive};
 ghost use Rattle.gateway.specs.Words.{gatewayWords, gatewayOf, Meets};
-
-fn is_restarting(mode: Mode) -> bool
-    ensures { λ r. ⌜ r ≡ not (isRunning mode) ⌝ }
-{
-    match mode {
-        Mode::Running => false,
-        Mode::Restarting => true,
-    }
-}
+ghost use Rattle.gateway.specs.Frame.{GivesOrders};
 
 // What the state step and the marks know of the gateway.
-fn here_of(words: &[u64], s: Circuit) -> Here
-    requires { ⌜ length (now words) ≡ commonWords ⌝ }
+fn here_of(words: &[u64], mode: Mode, s: Circuit) -> Here
+    requires { ⌜ (length (now words) ≡ controlWords) × (mode ≡ commonOf (now words) .timers .mode) ⌝ }
     ensures { λ r. ⌜ r ≡ hereOf (commonOf (now (words .entry))) s ⌝ }
 {
     let clock = clock_of(words);
-    let mode = mode_of(words);
     let restarting = is_restarting(mode);
     let own = system_of(words);
     Here {
@@ -78,18 +72,48 @@ fn rank_of(s: Circuit, frame: Hello) -> Rank
 }
 
 // What an accepted frame on circuit i (from 0) says to the timers.
-fn hear_frame(words: &mut [u64], i: usize, s: Circuit, frame: Hello) -> Handled
-    requires { ⌜ (length (now words) ≡ commonWords) × (i < 8) ⌝ }
+fn hear_frame(words: &mut [u64], mode: Mode, i: usize, s: Circuit, frame: Hello) -> Handled
+    requires { ⌜ (length (now words) ≡ controlWords) × (i < circuits) × (mode ≡ commonOf (now words) .timers .mode) ⌝ }
     ensures { λ r. ⌜ CommonHears i (s .levels) (saidOf (commonOf (now (words .entry))) s frame) (now (words .entry)) (now (words .exit)) (r .outcome) (r .freed) ⌝ }
 {
     let levels = s.levels;
     let own = system_of(words);
     let said = heard_of(frame, own, s.id);
-    hear(words, i, levels, said)
+    hear(words, mode, i, levels, said)
 }
 
-// Refusals 8 and 9, or the frame's effect: the only function that cuts the words into parts.
-fn settle_in(
+// Line 1's order and the timers' of a frame that was accepted on circuit n; the reply stands in the buffer already.
+fn order_in(
+    gateway: &mut [u64],
+    mode: Mode,
+    n: u8,
+    s: Circuit,
+    frame: Hello,
+    reply: Acknowledgement,
+    line: Line,
+) -> Orders
+    requires { ⌜ (length (now gateway) ≡ gatewayWords) × (0 < n) × (n ≤ circuits) × (mode ≡ gatewayOf (now gateway) .common .timers .mode) ⌝ }
+    ensures { λ r. ⌜ GivesOrders n s frame reply line (now (gateway .entry)) (now (gateway .exit)) r ⌝ }
+{
+    let levels = s.levels;
+    let link = frame.link;
+    let i = n as usize - 1;
+    let a = CONTROL_WORDS + ROOM_WORDS * i;
+    let rank = rank_of(s, frame);
+    let csnps = csnps_in(&gateway[a..a + ROOM_WORDS], rank, line, levels, link);
+    let x = hear_frame(&mut gateway[0..CONTROL_WORDS], mode, i, s, frame);
+    let outcome = x.outcome;
+    let freed = x.freed;
+    Orders {
+        reply,
+        csnps,
+        outcome,
+        freed,
+    }
+}
+
+// Refusals 8 and 9, or the frame's effect.
+fn decide_in(
     gateway: &mut [u64],
     n: u8,
     s: Circuit,
@@ -97,31 +121,25 @@ fn settle_in(
     frame: Hello,
     reply: &mut [u8],
 ) -> Received
-    requires { ⌜ (length (now gateway) ≡ gatewayWords) × (0 < n) × (n ≤ 8) × (11 ≤ length (now reply)) ⌝ }
-    ensures { λ r. ⌜ Meets (receivedOf r) (lift (gatewayOf (now (gateway .entry))) n (seated n s mac (now (reply .entry)) frame)) (now (gateway .entry)) (now (gateway .exit)) (now (reply .exit)) ⌝ }
+    requires { ⌜ (length (now gateway) ≡ gatewayWords) × (0 < n) × (n ≤ circuits) × (11 ≤ length (now reply)) ⌝ }
+    ensures { λ r. ⌜ Meets (receivedOf r) (lift (gatewayOf (now (gateway .entry))) n (decidedIn n s mac (now (reply .entry)) frame)) (now (gateway .entry)) (now (gateway .exit)) (now (reply .exit)) ⌝ }
 {
     let kind = s.kind;
-    let levels = s.levels;
-    let link = frame.link;
-    let here = here_of(&gateway[0..128], s);
+    let mode = mode_of(&gateway[0..CONTROL_WORDS]);
+    let here = here_of(&gateway[0..CONTROL_WORDS], mode, s);
     let key = key_in(kind, mac, frame);
-    let i = n as usize - 1;
-    let a = 128 + 64 * i;
-    match seat_in(&mut gateway[a..a + 64], here, key, frame, reply) {
+    let a = CONTROL_WORDS + ROOM_WORDS * (n as usize - 1);
+    match accept_in(&mut gateway[a..a + ROOM_WORDS], here, key, frame, reply) {
         Reaction::Refused(x) => Received::Refused(x),
-        Reaction::Accepted(_, acknowledgement, line) => {
-            let rank = rank_of(s, frame);
-            let csnps = csnps_in(&gateway[a..a + 64], rank, line, levels, link);
-            let x = hear_frame(&mut gateway[0..128], i, s, frame);
-            let outcome = x.outcome;
-            let freed = x.freed;
-            Received::Done(Orders {
-                reply: acknowledgement,
-                csnps,
-                outcome,
-                freed,
-            })
-        }
+        Reaction::Accepted(_, acknowledgement, line) => Received::Done(order_in(
+            gateway,
+            mode,
+            n,
+            s,
+            frame,
+            acknowledgement,
+            line,
+        )),
     }
 }
 
@@ -134,16 +152,16 @@ fn check_in(
     frame: Hello,
     reply: &mut [u8],
 ) -> Received
-    requires { ⌜ (length (now gateway) ≡ gatewayWords) × (0 < n) × (n ≤ 8) × (11 ≤ length (now reply)) × (length (now source) ≡ 6) ⌝ }
+    requires { ⌜ (length (now gateway) ≡ gatewayWords) × (0 < n) × (n ≤ circuits) × (11 ≤ length (now reply)) × (length (now source) ≡ 6) ⌝ }
     ensures { λ r. ⌜ Meets (receivedOf r) (lift (gatewayOf (now (gateway .entry))) n (checked n s (big 6 (now (source .entry)) 0) (now (reply .entry)) frame)) (now (gateway .entry)) (now (gateway .exit)) (now (reply .exit)) ⌝ }
 {
     let levels = s.levels;
-    let own = system_of(&gateway[0..128]);
+    let own = system_of(&gateway[0..CONTROL_WORDS]);
     if is_wrong_source(levels, own, frame) {
         return Received::Refused(Refusal::WrongSource);
     }
     let mac = six(source, 0);
-    settle_in(gateway, n, s, mac, frame, reply)
+    decide_in(gateway, n, s, mac, frame, reply)
 }
 
 // Refusals 2 and 3 to 6.
@@ -155,7 +173,7 @@ fn read_in(
     frame: &[u8],
     reply: &mut [u8],
 ) -> Received
-    requires { ⌜ (length (now gateway) ≡ gatewayWords) × (0 < n) × (n ≤ 8) × (length (now source) ≡ 6) ⌝ }
+    requires { ⌜ (length (now gateway) ≡ gatewayWords) × (0 < n) × (n ≤ circuits) × (length (now source) ≡ 6) ⌝ }
     ensures { λ r. ⌜ Meets (receivedOf r) (lift (gatewayOf (now (gateway .entry))) n (Rattle.model.specs.Receive.receive n s (big 6 (now (source .entry)) 0) (now (frame .entry)) (now (reply .entry)))) (now (gateway .entry)) (now (gateway .exit)) (now (reply .exit)) ⌝ }
 {
     let kind = s.kind;
@@ -179,7 +197,7 @@ pub(crate) fn receive_in(
     requires { ⌜ (length (now gateway) ≡ gatewayWords) × (length (now source) ≡ 6) ⌝ }
     ensures { λ r. ⌜ Meets (receivedOf r) (step (gatewayOf (now (gateway .entry))) (At n (Receive (big 6 (now (source .entry)) 0) (now (frame .entry)) (now (reply .entry))))) (now (gateway .entry)) (now (gateway .exit)) (now (reply .exit)) ⌝ }
 {
-    let Chosen::Known(s) = circuit_of(&gateway[0..128], n) else {
+    let Chosen::Known(s) = circuit_of(&gateway[0..CONTROL_WORDS], n) else {
         return Received::Refused(Refusal::NoCircuit);
     };
     read_in(gateway, n, s, source, frame, reply)

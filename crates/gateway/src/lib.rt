@@ -1,11 +1,10 @@
-// The gateway's calls over memory that the caller lends (document 01, "What the gateway holds" and "Refusals by number"): the common words,
-// then 64 words for each of eight circuits. No call has a precondition; each promises the answer, the memory and the reply buffer of the
+// The gateway's calls over memory that the caller lends (document 01, "What the gateway holds" and "Refusals by number"): the control words,
+// then a room for each circuit. No call has a precondition; each promises the answer, the memory and the reply buffer of the
 // definition's step (crate model). Callers: isis_gr, programs.
 pub mod calls; // calls.rt: the ten calls
 pub mod config; // config.rt: the settings that setup takes
 mod frame; // frame.rt: receive
 mod ticks; // ticks.rt: tick and release
-mod notices; // notices.rt: CSNP set complete
-mod databases; // databases.rt: database complete
+mod notices; // notices.rt: CSNP set complete, database complete
 mod asks; // asks.rt: look up, link metric, flags of the next hello, circuits that wait for T1
 mod setup; // setup.rt: setup

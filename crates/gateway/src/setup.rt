@@ -1,18 +1,22 @@
 // Setup (document 01, "What the gateway holds"): every setting is checked before a word is written.
 use crate::config::CircuitSettings;
 use crate::config::GatewaySettings;
+use basics::mask::CIRCUITS;
 use basics::octets::six;
 use basics::refusal::Refusal;
 use control::setup::set_up;
+use control::words::CONTROL_WORDS;
 use model::answers::SetUp;
 use room::empty::open_room;
 use settings::circuit::Circuit;
 use settings::setup::Settings;
 use settings::setup::are_settings_ok;
+use slots::slot::ROOM_WORDS;
 ghost use mathlib.Core.Path.{_≡_};
 ghost use mathlib.Core.List.{map};
 ghost use Prim.Native.Nat.{_<_};
 ghost use lib.ListN.{length, set};
+ghost use Rattle.basics.specs.Mask.{circuits};
 ghost use Rattle.basics.specs.Octets.{big};
 ghost use Rattle.model.specs.Gateway.{withRooms, newRoom, setup};
 ghost use Rattle.gateway.specs.Words.{gatewayWords, gatewayOf};
@@ -43,13 +47,13 @@ fn circuit_given(s: CircuitSettings) -> Circuit
     }
 }
 
-fn circuits_given(all: [CircuitSettings; 8]) -> [Circuit; 8]
+fn circuits_given(all: [CircuitSettings; CIRCUITS]) -> [Circuit; CIRCUITS]
     ensures { λ r. ⌜ r ≡ map circuitGiven all ⌝ }
 {
     let first = circuit_given(all[0]);
-    let mut read = [first; 8];
+    let mut read = [first; CIRCUITS];
     let mut i = 0;
-    while i < 8 {
+    while i < CIRCUITS {
         let one = all[i];
         read[i] = circuit_given(one);
         i += 1;
@@ -78,20 +82,20 @@ pub(crate) fn settings_given(s: GatewaySettings) -> Settings
 
 // Circuit i (from 0): no record stands there.
 fn open_at(gateway: &mut [u64], i: usize, s: Circuit)
-    requires { ⌜ (length (now gateway) ≡ gatewayWords) × (i < 8) ⌝ }
+    requires { ⌜ (length (now gateway) ≡ gatewayWords) × (i < circuits) ⌝ }
     ensures { λ _. ⌜ gatewayOf (now (gateway .exit)) ≡ withRooms (gatewayOf (now (gateway .entry))) (set (gatewayOf (now (gateway .entry)) .rooms) i (newRoom s)) ⌝ }
 {
     let kind = s.kind;
-    let a = 128 + 64 * i;
-    open_room(&mut gateway[a..a + 64], kind);
+    let a = CONTROL_WORDS + ROOM_WORDS * i;
+    open_room(&mut gateway[a..a + ROOM_WORDS], kind);
 }
 
-fn open_rooms(gateway: &mut [u64], all: [Circuit; 8])
+fn open_rooms(gateway: &mut [u64], all: [Circuit; CIRCUITS])
     requires { ⌜ length (now gateway) ≡ gatewayWords ⌝ }
     ensures { λ _. ⌜ gatewayOf (now (gateway .exit)) ≡ withRooms (gatewayOf (now (gateway .entry))) (map newRoom all) ⌝ }
 {
     let mut i = 0;
-    while i < 8 {
+    while i < CIRCUITS {
         let one = all[i];
         open_at(gateway, i, one);
         i += 1;
@@ -105,7 +109,7 @@ pub(crate) fn set_up_in(gateway: &mut [u64], s: Settings) -> SetUp
 {
     let all = s.circuits;
     if are_settings_ok(s) {
-        let hellos = set_up(&mut gateway[0..128], s);
+        let hellos = set_up(&mut gateway[0..CONTROL_WORDS], s);
         open_rooms(gateway, all);
         return SetUp::Done(hellos);
     }

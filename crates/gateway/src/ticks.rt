@@ -1,6 +1,8 @@
 // Tick and release: records removed, and the timers moved (document 01, "Marks and holding time" and "Timers while Restarting").
+use basics::mask::CIRCUITS;
 use basics::mask::put_bit;
 use basics::refusal::Refusal;
+use control::words::CONTROL_WORDS;
 use control::words::circuit_of;
 use control::words::clock_of;
 use control::words::count_of;
@@ -9,12 +11,13 @@ use model::answers::Ticked;
 use room::sweep::expire;
 use room::sweep::release;
 use settings::circuit::Chosen;
+use slots::slot::ROOM_WORDS;
 use timers::outcome::Outcome;
 ghost use mathlib.Core.Path.{_≡_};
 ghost use mathlib.Core.List.{[], map};
 ghost use Prim.Native.Nat.{_<_};
 ghost use lib.ListN.{length, getD, set};
-ghost use Rattle.basics.specs.Mask.{bits};
+ghost use Rattle.basics.specs.Mask.{bits, circuits};
 ghost use Rattle.model.specs.Answers.{tickedOf, releasedOf};
 ghost use Rattle.model.specs.Gateway.{withRooms, noRoom};
 ghost use Rattle.model.specs.Step.{swept, lapsed, step, At, Over, Tick, Release};
@@ -22,11 +25,11 @@ ghost use Rattle.gateway.specs.Words.{gatewayWords, gatewayOf, Meets};
 
 // Circuit i (from 0): whether a record went.
 fn sweep_room(gateway: &mut [u64], i: usize, clock: u32) -> bool
-    requires { ⌜ (length (now gateway) ≡ gatewayWords) × (i < 8) ⌝ }
+    requires { ⌜ (length (now gateway) ≡ gatewayWords) × (i < circuits) ⌝ }
     ensures { λ r. ⌜ (r ≡ lapsed clock (getD (gatewayOf (now (gateway .entry)) .rooms) i noRoom)) × (gatewayOf (now (gateway .exit)) ≡ withRooms (gatewayOf (now (gateway .entry))) (set (gatewayOf (now (gateway .entry)) .rooms) i (swept clock (getD (gatewayOf (now (gateway .entry)) .rooms) i noRoom)))) ⌝ }
 {
-    let a = 128 + 64 * i;
-    expire(&mut gateway[a..a + 64], clock as u64)
+    let a = CONTROL_WORDS + ROOM_WORDS * i;
+    expire(&mut gateway[a..a + ROOM_WORDS], clock as u64)
 }
 
 // Every circuit: the mask of those that lost a record.
@@ -36,7 +39,7 @@ fn sweep_rooms(gateway: &mut [u64], clock: u32) -> u8
 {
     let mut marks = 0u8;
     let mut i = 0;
-    while i < 8 {
+    while i < CIRCUITS {
         let m = sweep_room(gateway, i, clock);
         marks = put_bit(marks, i, m);
         i += 1;
@@ -49,18 +52,18 @@ pub(crate) fn tick_in(gateway: &mut [u64], clock: u32) -> Ticked
     requires { ⌜ length (now gateway) ≡ gatewayWords ⌝ }
     ensures { λ r. ⌜ Meets (tickedOf r) (step (gatewayOf (now (gateway .entry))) (Over (Tick clock))) (now (gateway .entry)) (now (gateway .exit)) [] ⌝ }
 {
-    if count_of(&gateway[0..128]) == 0 {
+    if count_of(&gateway[0..CONTROL_WORDS]) == 0 {
         return Ticked::Done {
             marks: 0,
             hellos: 0,
             outcome: Outcome::Idle,
         };
     }
-    if clock < clock_of(&gateway[0..128]) {
+    if clock < clock_of(&gateway[0..CONTROL_WORDS]) {
         return Ticked::Refused(Refusal::ClockBack);
     }
     let marks = sweep_rooms(gateway, clock);
-    let x = control::timing::tick(&mut gateway[0..128], clock);
+    let x = control::timing::tick(&mut gateway[0..CONTROL_WORDS], clock);
     let hellos = x.hellos;
     let outcome = x.outcome;
     Ticked::Done {
@@ -75,10 +78,10 @@ pub(crate) fn release_in(gateway: &mut [u64], n: u8) -> Released
     requires { ⌜ length (now gateway) ≡ gatewayWords ⌝ }
     ensures { λ r. ⌜ Meets (releasedOf r) (step (gatewayOf (now (gateway .entry))) (At n Release)) (now (gateway .entry)) (now (gateway .exit)) [] ⌝ }
 {
-    let Chosen::Known(_) = circuit_of(&gateway[0..128], n) else {
+    let Chosen::Known(_) = circuit_of(&gateway[0..CONTROL_WORDS], n) else {
         return Released::Refused(Refusal::NoCircuit);
     };
-    let a = 128 + 64 * (n as usize - 1);
-    release(&mut gateway[a..a + 64]);
+    let a = CONTROL_WORDS + ROOM_WORDS * (n as usize - 1);
+    release(&mut gateway[a..a + ROOM_WORDS]);
     Released::Done
 }

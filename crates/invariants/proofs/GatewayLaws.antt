@@ -8,6 +8,7 @@ use lib.ListN.{length, getD, set, length-take}
 use lib.Seq.{getD-take}
 use lib.Dec.{ltb}
 use borrow.Author.Tests.{ltb-true}
+use Rattle.basics.specs.Mask.{circuits}
 use Rattle.basics.proofs.BoolLaws.{by-test, both}
 use Rattle.adjacency.specs.Record.{expiryOf}
 use Rattle.adjacency.specs.declared.record.Key.{Key}
@@ -21,8 +22,7 @@ use Rattle.basics.specs.Levels.{someOn}
 use Rattle.settings.specs.declared.circuit.Circuit.{Circuit}
 use Rattle.settings.specs.declared.setup.Settings.{Settings}
 use Rattle.settings.proofs.SettingsLaws.{between-true}
-use Rattle.control.specs.Common.{circuitOf, setupCommon, startOf}
-use Rattle.control.specs.Words.{circuitIn}
+use Rattle.control.specs.Common.{noCircuit, circuitOf, setupCommon, startOf}
 use Rattle.settings.specs.declared.circuit.Chosen.{Chosen}
 use Rattle.settings.specs.declared.circuit.Chosen.the-variants.{Known, Unknown}
 use Rattle.model.specs.Gateway.{Room, Gateway, numbered, renew, noRoom, roomOf, newRoom, newGateway, Started, setup}
@@ -158,7 +158,7 @@ module _ (s : Settings) (ok : settingsOk s ≡ true) where
   circuits-ok : every circuitOk (circuitsOf s) ≡ true
   unfolding settingsOk
   circuits-ok =
-      let a = both (between 1 (s .count) 8) _ ok .1 in
+      let a = both (between 1 (s .count) circuits) _ ok .1 in
       both (every circuitOk (circuitsOf s)) _ a .0
 
   new-hold : (n : ℕ) (c : Circuit) → circuitOf (setupCommon s) n ≡ Known c → c .hold ≤ 65535
@@ -167,16 +167,16 @@ module _ (s : Settings) (ok : settingsOk s ≡ true) where
   new-hold (suc i) c e =
       by-test (ltb i (length (circuitsOf s)))
       (λ a.
-      let z : getD (circuitsOf s) i (circuitIn 0 0 0) ≡ c = cc in
-      rw (← z) (circuit-hold (getD (circuitsOf s) i (circuitIn 0 0 0)) (every-at circuitOk (circuitsOf s) i (circuitIn 0 0 0) circuits-ok (ltb-true _ _ a))))
+      let z : getD (circuitsOf s) i (noCircuit) ≡ c = cc in
+      rw (← z) (circuit-hold (getD (circuitsOf s) i (noCircuit)) (every-at circuitOk (circuitsOf s) i (noCircuit) circuits-ok (ltb-true _ _ a))))
       (λ a. absurd (let z : _≡_ {A = ℕ} 0 1 = cc in omega arith))
 
   new-places : (i : ℕ) → i < length (circuitsOf s)
-      → places (getD (map newRoom (s .circuits)) i noRoom .slots) ≡ roomFor (getD (circuitsOf s) i (circuitIn 0 0 0) .kind)
+      → places (getD (map newRoom (s .circuits)) i noRoom .slots) ≡ roomFor (getD (circuitsOf s) i (noCircuit) .kind)
   new-places i lt =
       let below : (i < s .count) × (i < length (s .circuits)) = (omega (arith, length-take (s .count) (s .circuits)), omega (arith, length-take (s .count) (s .circuits))) in
-      rw (new-at (s .circuits) i (circuitIn 0 0 0) (below .1), getD-take (s .count) (s .circuits) i (circuitIn 0 0 0) (below .0))
-      (empty-places (getD (s .circuits) i (circuitIn 0 0 0) .kind))
+      rw (new-at (s .circuits) i (noCircuit) (below .1), getD-take (s .count) (s .circuits) i (noCircuit) (below .0))
+      (empty-places (getD (s .circuits) i (noCircuit) .kind))
 
   new-room : (n : ℕ) → RoomOk (circuitOf (setupCommon s) n) (s .clock) (numbered (map newRoom (s .circuits)) n noRoom .slots)
   unfolding circuitOf setupCommon numbered
@@ -184,7 +184,7 @@ module _ (s : Settings) (ok : settingsOk s ≡ true) where
   new-room (suc i) =
       let b = new-bare (s .circuits) i in
       by-test (ltb i (length (circuitsOf s)))
-      (λ a. rw a (bare-ok _ b (Known (getD (circuitsOf s) i (circuitIn 0 0 0))) (s .clock) (places-of (new-places i (ltb-true _ _ a)))))
+      (λ a. rw a (bare-ok _ b (Known (getD (circuitsOf s) i (noCircuit))) (s .clock) (places-of (new-places i (ltb-true _ _ a)))))
       (λ a. rw a (bare-ok _ b Unknown (s .clock) (none-of b)))
 
   pub new-holds : Holds (newGateway s)

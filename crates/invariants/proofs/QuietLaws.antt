@@ -1,8 +1,9 @@
 -- In the mode Running no T1 runs: setup starts none there, and no call's step on the timers starts one.
 use Prim.Native.Nat.{ℕ}
-use mathlib.Core.Path.{_≡_, refl, _∙_}
+use mathlib.Core.Path.{_≡_, refl, ap, _∙_}
 use mathlib.Core.Bool.{false}
 use mathlib.Core.List.{List, [], _∷_, map}
+use Rattle.settings.specs.Mode.{isRunning}
 use Rattle.basics.proofs.BoolLaws.{by-test}
 use Rattle.basics.specs.declared.levels.Levels.{Levels}
 use Rattle.basics.specs.Mask.{bitsOf}
@@ -17,7 +18,7 @@ use Rattle.timers.specs.Events.{startHead, startT1, startHellos, started}
 use Rattle.timers.specs.declared.events.Start.{Start}
 use Rattle.settings.specs.declared.mode.Mode.{Mode}
 use Rattle.settings.specs.declared.mode.Mode.the-variants.{Running, Restarting}
-use Rattle.timers.proofs.TimersLaws.{settled-running, in-restarting}
+use Rattle.timers.proofs.TimersLaws.{settled-running, settled-on}
 use Rattle.invariants.specs.Invariants.{Quiet}
 
 stopped : (l : List T1) → anyRuns (map stopT1 l) ≡ false
@@ -53,7 +54,7 @@ module _ (f : Timers → Timers) (t : Timers) (keeps : f t .mode ≡ t .mode) wh
   by-mode : (m : Mode) → t .mode ≡ m → Quiet t → Quiet (settled f t)
   unfolding settled
   by-mode Running e q = rw (settled-running t e f .0) q
-  by-mode Restarting e q = rw (← in-restarting t (closed f t) e) (closed-quiet e)
+  by-mode Restarting e q = rw (← settled-on t (ap isRunning e) f) (closed-quiet e)
 
   pub settled-quiet : Quiet t → Quiet (settled f t)
   settled-quiet q = by-mode (t .mode) refl q

@@ -39,7 +39,7 @@ use Rattle.room.specs.Accept.{ifRoom, decided, kept, written}
 use Rattle.model.specs.declared.answers.Orders.{Orders}
 use Rattle.model.specs.Answers.{Received}
 use Rattle.model.specs.Gateway.{Room}
-use Rattle.model.specs.Receive.{Acted, refuse, hereOf, saidOf, accepted, settle, seated, checked, readIn, receive}
+use Rattle.model.specs.Receive.{Acted, refuse, hereOf, saidOf, accepted, reacted, decidedIn, checked, readIn, receive}
 use Rattle.invariants.specs.Invariants.{Quiet, Tells, Octets}
 use Rattle.invariants.proofs.QuietLaws.{settled-quiet, heardIn-mode}
 use Rattle.invariants.proofs.RoomLaws.{each-find}
@@ -129,14 +129,14 @@ module _ (c : Common) (s : Circuit) (r : Room) (hold : s .hold ≤ 65535) (ok : 
           room = kept-ok k after free span;
         }
 
-    settle-ok : (a : Reaction) → Sound (c .clock) k (r .slots) a → ActOk c s (settle n s h k b a c r)
-    unfolding settle
+    settle-ok : (a : Reaction) → Sound (c .clock) k (r .slots) a → ActOk c s (reacted n s h k b a c r)
+    unfolding reacted
     settle-ok (DeclinedBy x) refused = refuse-ok b x
     settle-ok (Accepted after reply line) (sound free span told gone) = accepted-ok after reply line free span
 
   module _ (n mac : ℕ) (b : List ℕ) where
     checked-ok : (h : Hello) → h .hold ≤ 65535 → timeIn (h .restart) ≤ 65535 → ActOk c s (checked n s mac b h c r)
-    unfolding checked seated
+    unfolding checked decidedIn
     checked-ok h p q =
         let k = keyIn (s .kind) mac h in
         by-test (wrongSource (s .levels) (c .system) h) (λ e. rw e (refuse-ok b _))
@@ -178,15 +178,15 @@ module _ (c : Common) (s : Circuit) (r : Room) (hold : s .hold ≤ 65535) (ok : 
               record { octets = rw w (written-time (h .system) ack time b (z .0)); fits = z .0; tells = rw found (z .1) };
         }
 
-    settle-reply : (a : Reaction) → Sound (c .clock) k (r .slots) a → ReplyOk (c .clock) k (settle n s h k b a c r)
-    unfolding settle
+    settle-reply : (a : Reaction) → Sound (c .clock) k (r .slots) a → ReplyOk (c .clock) k (reacted n s h k b a c r)
+    unfolding reacted
     settle-reply (DeclinedBy x) refused = refuse-reply k b x
     settle-reply (Accepted after reply line) (sound free span told gone) =
         accepted-reply after reply line told (kept-found k after free gone)
 
   module _ (n mac : ℕ) (b : List ℕ) where
     checked-reply : (h : Hello) → h .hold ≤ 65535 → timeIn (h .restart) ≤ 65535 → ReplyOk (c .clock) (keyIn (s .kind) mac h) (checked n s mac b h c r)
-    unfolding checked seated
+    unfolding checked decidedIn
     checked-reply h p q =
         let k = keyIn (s .kind) mac h in
         by-test (wrongSource (s .levels) (c .system) h) (λ e. rw e (refuse-reply k b _))

@@ -3,7 +3,7 @@
 use Prim.Native.Nat.{ℕ, zero, suc, _-_, _≤_}
 use native.Mathlib.Omega.{arith}
 use mathlib.Core.Path.{_≡_, refl, sym, ap, _∙_}
-use mathlib.Core.Bool.{Bool, false}
+use mathlib.Core.Bool.{Bool, true, false, cond}
 use mathlib.Core.List.{List, []}
 use lib.Dec.{ltb}
 use borrow.Author.Tests.{ltb-false, leb-false}
@@ -14,10 +14,8 @@ use Rattle.adjacency.specs.Record.{expiryOf}
 use Rattle.adjacency.specs.declared.record.Key.{Key}
 use Rattle.adjacency.specs.declared.record.State.{State}
 use Rattle.adjacency.specs.Place.{plannedState, expiredBy}
-use Rattle.settings.specs.Mode.{inMode}
+use Rattle.settings.specs.Mode.{isRestarting}
 use Rattle.timers.specs.Timers.{toT3, csnpIn, noticeT2s}
-use Rattle.settings.specs.declared.mode.Mode.{Mode}
-use Rattle.settings.specs.declared.mode.Mode.the-variants.{Running, Restarting}
 use Rattle.timers.specs.declared.outcome.Outcome.{Outcome as Timed}
 use Rattle.settings.specs.Settings.{enabledLevels}
 use Rattle.settings.specs.declared.circuit.Circuit.{Circuit}
@@ -37,9 +35,9 @@ use Rattle.invariants.proofs.ReceiveLaws.{Keeps, keeps-same, keeps-sett
 -- ---- a call on a circuit
 
 module _ (n : ℕ) (c : Common) (s : Circuit) (r : Room) (hold : s .hold ≤ 65535) (ok : RoomOk (Known s) (c .clock) (r .slots)) where
-  csnp-mode : (m : Mode) (x y : Acted) → ActOk c s x → ActOk c s y → ActOk c s (inMode m x y)
-  csnp-mode Running x y p q = p
-  csnp-mode Restarting x y p q = q
+  csnp-mode : (b : Bool) (x y : Acted) → ActOk c s x → ActOk c s y → ActOk c s (cond b x y)
+  csnp-mode true x y p q = p
+  csnp-mode false x y p q = q
 
   csnp-ok : (level : ℕ) → ActOk c s (csnpComplete n s level c r)
   unfolding csnpComplete
@@ -47,8 +45,9 @@ module _ (n : ℕ) (c : Common) (s : Circuit) (r : Room) (hold : s .hold ≤ 655
       let f = csnpIn (n - 1) (s .levels) (onlyLevel level) in
       by-test (hasLevel (s .levels) level)
       (λ e. rw e
-      (csnp-mode (c .timers .mode) _ _ (refuse-ok c s r hold ok [] _)
-      (record { common = keeps-settled c f (csnpIn-mode (n - 1) (s .levels) (onlyLevel level) (c .timers)); room = ok })))
+      (csnp-mode (isRestarting (c .timers .mode)) _ _
+      (record { common = keeps-settled c f (csnpIn-mode (n - 1) (s .levels) (onlyLevel level) (c .timers)); room = ok })
+      (refuse-ok c s r hold ok [] _)))
       (λ e. rw e (refuse-ok c s r hold ok [] _))
 
   look-ok : (k : Key) → ActOk c s (lookUp s k c r)
@@ -114,16 +113,16 @@ module _ (c : Common) where
       (λ e. by-test (ltb clock (c .clock)) (λ b. rw (e, b) decline)
       (λ b. rw (e, b) (sweep (ltb-false _ _ b) (keeps-settled (withClock clock c) (toT3 (c .lengths) clock) (toT3-mode (c .lengths) clock (c .timers))))))
 
-  judged-mode : (m : Mode) (x y : Judged) → JudgedOk c x → JudgedOk c y → JudgedOk c (inMode m x y)
-  judged-mode Running x y p q = p
-  judged-mode Restarting x y p q = q
+  judged-mode : (b : Bool) (x y : Judged) → JudgedOk c x → JudgedOk c y → JudgedOk c (cond b x y)
+  judged-mode true x y p q = p
+  judged-mode false x y p q = q
 
   database-ok : (level : ℕ) → JudgedOk c (databaseOf level c)
   unfolding databaseOf
   database-ok level =
       by-test (hasLevel (enabledLevels (c .circuits)) level)
-      (λ e. rw e (judged-mode (c .timers .mode) _ _ decline
-      (tell (keeps-settled c (noticeT2s (onlyLevel level)) (noticeT2s-mode (onlyLevel level) (c .timers))))))
+      (λ e. rw e (judged-mode (isRestarting (c .timers .mode)) _ _
+      (tell (keeps-settled c (noticeT2s (onlyLevel level)) (noticeT2s-mode (onlyLevel level) (c .timers)))) decline))
       (λ e. rw e decline)
 
   judge-ok : (w : Global) → JudgedOk c (judge c w)

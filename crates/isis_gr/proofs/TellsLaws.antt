@@ -10,7 +10,7 @@ use Rattle.basics.specs.Mask.{bits}
 use Rattle.timers.specs.Timers.{countRuns}
 use Rattle.timers.specs.Memory.{timersOf}
 use Rattle.timers.proofs.T1sLaws.{length-joined}
-use Rattle.control.specs.Common.{commonOf}
+use Rattle.control.specs.Words.{commonOf}
 use Rattle.model.specs.Answers.{Answer, waitingOf}
 use Rattle.model.specs.declared.answers.Waiting.{Waiting}
 use Rattle.model.specs.Step.{Outcome, step, judge, carry, Over}

@@ -42,7 +42,7 @@ use Rattle.settings.specs.declared.circuit.Circuit.{Circuit}
 use Rattle.control.specs.Common.{Common, withTimers}
 use Rattle.room.specs.Accept.{ifRoom, decided, kept}
 use Rattle.model.specs.Gateway.{Room}
-use Rattle.model.specs.Receive.{Acted, refuse, hereOf, saidOf, accepted, settle, seated, checked, readIn, receive}
+use Rattle.model.specs.Receive.{Acted, refuse, hereOf, saidOf, accepted, reacted, decidedIn, checked, readIn, receive}
 use Rattle.model.specs.Step.{Local, Receive, Release, CsnpComplete, LookUp, LinkMetric, NextHello, csnpComplete, asksLevel, lookUp, linkMetricOf, nextHello, act}
 use Rattle.model.specs.Claim.{Neighbour, isSent, isNine, unordered, comparedThere}
 
@@ -99,13 +99,13 @@ key-mac s mac h lan = rw (lan, keyOn)
 -- ---- the bad neighbour's frame, in one run
 
 module _ (n : ℕ) (s : Circuit) (mac : ℕ) (lan : s .kind ≡ Lan) (buf : List ℕ) (c : Common) (r : Room) where
-  settle-its : (h : Hello) (k : Key) (a : Reaction) → k .mac ≡ mac → Beside mac (settle n s h k buf a c r .room .slots) (r .slots)
-  unfolding settle refuse accepted
+  settle-its : (h : Hello) (k : Key) (a : Reaction) → k .mac ≡ mac → Beside mac (reacted n s h k buf a c r .room .slots) (r .slots)
+  unfolding reacted refuse accepted
   settle-its h k (Declined x) e = beside-refl mac (r .slots)
   settle-its h k (Accepted after reply line) e = kept-beside k after (r .slots) e
 
   checked-its : (h : Hello) → Beside mac (checked n s mac buf h c r .room .slots) (r .slots)
-  unfolding checked seated refuse
+  unfolding checked decidedIn refuse
   checked-its h =
       by-test (wrongSource (s .levels) (c .system) h) (λ e. rw e (beside-refl mac (r .slots)))
       (λ e. rw e (settle-its h _ _ (key-mac s mac h lan)))
@@ -154,8 +154,8 @@ module _ (b : Neighbour) (n : ℕ) (s : Circuit) (mac : ℕ) (frame buf : List �
   both-accepted h k after reply line e₁ e₂ h₁ h₂ = record { room = beside-kept k after e₁ e₂ near; answer = refl; reply = refl }
 
   settle-both : (h : Hello) (k : Key) (a : Reaction)
-      → Both (settle n s h k buf (ifRoom (crowded k (r₁ .slots)) a) c r₁) (settle n s h k buf (ifRoom (crowded k (r₂ .slots)) a) c r₂)
-  unfolding settle ifRoom
+      → Both (reacted n s h k buf (ifRoom (crowded k (r₁ .slots)) a) c r₁) (reacted n s h k buf (ifRoom (crowded k (r₂ .slots)) a) c r₂)
+  unfolding reacted ifRoom
   settle-both h k (Declined x) = both-refuse x
   settle-both h k (Accepted after reply line) =
       by-test (crowded k (r₁ .slots)) (λ e₁. rw e₁ (λ h₁ h₂. absurd (not-nine buf c r₁ h₁)))
@@ -163,9 +163,9 @@ module _ (b : Neighbour) (n : ℕ) (s : Circuit) (mac : ℕ) (frame buf : List �
       by-test (crowded k (r₂ .slots)) (λ e₂. rw e₂ (λ h₁ h₂. absurd (not-nine buf c r₂ h₂)))
       (λ e₂. rw (e₁, e₂) (both-accepted h k after reply line e₁ e₂)))
 
-  seated-both : s .kind ≡ Lan → mac ≢ b .mac → (h : Hello) → Both (seated n s mac buf h c r₁) (seated n s mac buf h c r₂)
-  unfolding seated decided
-  seated-both lan other h =
+  decided-both : s .kind ≡ Lan → mac ≢ b .mac → (h : Hello) → Both (decidedIn n s mac buf h c r₁) (decidedIn n s mac buf h c r₂)
+  unfolding decidedIn decided
+  decided-both lan other h =
       let k : Key = keyIn (s .kind) mac h in
       rw (beside-find near k (λ e. other (sym (key-mac s mac h lan) ∙ e))) (settle-both h k (reactOf (hereOf c s) h (find k (r₂ .slots))))
 
@@ -173,7 +173,7 @@ module _ (b : Neighbour) (n : ℕ) (s : Circuit) (mac : ℕ) (frame buf : List �
   unfolding readIn checked
   read-both lan other (Unread x) = both-refuse x
   read-both lan other (ReadAs h) =
-      by-test (wrongSource (s .levels) (c .system) h) (λ e. rw e (both-refuse WrongSource)) (λ e. rw e (seated-both lan other h))
+      by-test (wrongSource (s .levels) (c .system) h) (λ e. rw e (both-refuse WrongSource)) (λ e. rw e (decided-both lan other h))
 
   receive-both : s .kind ≡ Lan → mac ≢ b .mac → Both (receive n s mac frame buf c r₁) (receive n s mac frame buf c r₂)
   unfolding receive
@@ -217,14 +217,14 @@ act-both b n s NextHello c r₁ r₂ run lan e near h₁ h₂ = record { room = 
 -- ---- the common part, in the mode Running
 
 module _ (n : ℕ) (s : Circuit) (c : Common) (r : Room) (run : c .timers .mode ≡ Running) where
-  settle-common : (h : Hello) (k : Key) (buf : List ℕ) (a : Reaction) → settle n s h k buf a c r .common ≡ c
-  unfolding settle refuse accepted
+  settle-common : (h : Hello) (k : Key) (buf : List ℕ) (a : Reaction) → reacted n s h k buf a c r .common ≡ c
+  unfolding reacted refuse accepted
   settle-common h k buf (Declined x) = refl
   settle-common h k buf (Accepted after reply line) =
       ap (λ (t : Timers). withTimers t c) (heard-running (c .timers) run (c .clock) (n - 1) (s .levels) (saidOf c s h) .0)
 
   read-common : (mac : ℕ) (buf : List ℕ) (d : Read) → readIn n s mac buf d c r .common ≡ c
-  unfolding readIn checked seated refuse
+  unfolding readIn checked decidedIn refuse
   read-common mac buf (Unread x) = refl
   read-common mac buf (ReadAs h) =
       by-test (wrongSource (s .levels) (c .system) h) (λ e. rw e) (λ e. rw e (settle-common h _ buf _))

@@ -18,10 +18,8 @@ use Rattle.basics.specs.Levels.{hasLevel}
 use Rattle.adjacency.specs.declared.react.Reaction.{Reaction}
 use Rattle.adjacency.specs.declared.react.Reaction.the-variants.{Refused as Declined, Accepted}
 use Rattle.adjacency.specs.declared.record.Key.{Key}
-use Rattle.settings.specs.Mode.{inMode}
+use Rattle.settings.specs.Mode.{isRestarting}
 use Rattle.timers.specs.declared.outcome.Outcome.{Outcome as Timed}
-use Rattle.settings.specs.declared.mode.Mode.{Mode}
-use Rattle.settings.specs.declared.mode.Mode.the-variants.{Running, Restarting}
 use Rattle.settings.specs.Settings.{enabledLevels}
 use Rattle.settings.specs.declared.circuit.Circuit.{Circuit}
 use Rattle.control.specs.Common.{Common, circuitOf}
@@ -31,7 +29,7 @@ use Rattle.adjacency.specs.Keys.{keyIn}
 use Rattle.room.specs.Accept.{decided}
 use Rattle.model.specs.Answers.{Refused, Told, Fact}
 use Rattle.model.specs.Gateway.{Gateway, Room, withRooms, renew, noRoom, roomOf}
-use Rattle.model.specs.Receive.{Acted, refuse, hereOf, accepted, settle, seated, checked, readIn, receive}
+use Rattle.model.specs.Receive.{Acted, refuse, hereOf, accepted, reacted, decidedIn, checked, readIn, receive}
 use Rattle.model.specs.Step.{Outcome, Local, Receive, Release, CsnpComplete, LookUp, LinkMetric, NextHello, Global, Tick, DatabaseComplete, Waiting, At, Over, told, asksLevel, csnpComplete, lookUp, linkMetricOf, nextHello, act, lent, lift, on, Judged, Decline, Sweep, Tell, noneOf, quiet, tickOf, databaseOf, judge, carry, step}
 use Rattle.model.specs.Refusals.{RefusalsKeep}
 use Rattle.model.proofs.Lists.{renew-numbered}
@@ -56,20 +54,16 @@ module _ (b : List ℕ) (c : Common) (r : Room) where
   cond-keeps true p q f g = f
   cond-keeps false p q f g = g
 
-  mode-keeps : (m : Mode) (p q : Acted) → Keeps p → Keeps q → Keeps (inMode m p q)
-  mode-keeps Running p q f g = f
-  mode-keeps Restarting p q f g = g
-
-  settle-keeps : (n : ℕ) (s : Circuit) (h : Hello) (k : Key) (d : Reaction) → Keeps (settle n s h k b d c r)
-  unfolding settle accepted
+  settle-keeps : (n : ℕ) (s : Circuit) (h : Hello) (k : Key) (d : Reaction) → Keeps (reacted n s h k b d c r)
+  unfolding reacted accepted
   settle-keeps n s h k (Declined x) = refuse-keeps x
   settle-keeps n s h k (Accepted after reply line) = λ x e. absurd (let z : _≡_ {A = ℕ} 0 1 = cc in omega arith)
 
   read-keeps : (n : ℕ) (s : Circuit) (mac : ℕ) (d : Read) → Keeps (readIn n s mac b d c r)
-  unfolding readIn checked seated
+  unfolding readIn checked decidedIn
   read-keeps n s mac (Unread x) = refuse-keeps x
   read-keeps n s mac (ReadAs h) =
-      cond-keeps (wrongSource (s .levels) (c .system) h) (refuse b WrongSource c r) (seated n s mac b h c r) (refuse-keeps WrongSource)
+      cond-keeps (wrongSource (s .levels) (c .system) h) (refuse b WrongSource c r) (decidedIn n s mac b h c r) (refuse-keeps WrongSource)
       (settle-keeps n s h (keyIn (s .kind) mac h) (decided (hereOf c s) (keyIn (s .kind) mac h) h (r .slots)))
 
   receive-keeps : (n : ℕ) (s : Circuit) (mac : ℕ) (frame : List ℕ) → Keeps (receive n s mac frame b c r)
@@ -85,7 +79,7 @@ unfolding act csnpComplete lookUp linkMetricOf nextHello
 act-keeps n s (Receive mac frame b) c r = receive-keeps b c r n s mac frame
 act-keeps n s Release c r = told-keeps [] c _ r _ _
 act-keeps n s (CsnpComplete level) c r =
-    cond-keeps [] c r (hasLevel (s .levels) level) _ _ (mode-keeps [] c r (c .timers .mode) _ _ (refuse-keeps [] c r NotRestarting) (told-keeps [] c _ r _ _))
+    cond-keeps [] c r (hasLevel (s .levels) level) _ _ (cond-keeps [] c r (isRestarting (c .timers .mode)) _ _ (told-keeps [] c _ r _ _) (refuse-keeps [] c r NotRestarting))
     (refuse-keeps [] c r NoCircuit)
 act-keeps n s (LookUp k) c r =
     cond-keeps [] c r (asksLevel (s .kind) (s .levels) (k .level)) _ _ (told-keeps [] c _ r _ _) (refuse-keeps [] c r NoCircuit)
@@ -113,10 +107,6 @@ module _ (g : Gateway) where
   cond-carried true p q f h = f
   cond-carried false p q f h = h
 
-  mode-carried : (m : Mode) (p q : Judged) → Carried p → Carried q → Carried (inMode m p q)
-  mode-carried Running p q f h = f
-  mode-carried Restarting p q f h = h
-
   declined : (x : Refusal) → Carried (Decline x)
   unfolding carry
   declined x = λ y e. (refl, refl)
@@ -139,7 +129,7 @@ module _ (g : Gateway) where
       cond-carried (noneOf (c .circuits)) _ _ (quiet-carried c)
       (cond-carried (ltb clock (c .clock)) _ _ (declined ClockBack) (swept-carried clock _ _ _))
   judged c (DatabaseComplete level) =
-      cond-carried (hasLevel (enabledLevels (c .circuits)) level) _ _ (mode-carried (c .timers .mode) _ _ (declined NotRestarting) (told-carried _ _)) (declined NoCircuit)
+      cond-carried (hasLevel (enabledLevels (c .circuits)) level) _ _ (cond-carried (isRestarting (c .timers .mode)) _ _ (told-carried _ _) (declined NotRestarting)) (declined NoCircuit)
   judged c Waiting = told-carried c _
 
 pub refusals-keep : RefusalsKeep

@@ -1,7 +1,7 @@
 -- Receive on a circuit, by stages in the order of the refusals (document 01, "Refusals by number"). A stage is a function of the common
 -- part and of the circuit's own; n is the circuit's number, s its settings, b the lent reply buffer.
 use Prim.Native.Nat.{ℕ, _-_}
-use mathlib.Core.Bool.{cond, not}
+use mathlib.Core.Bool.{cond}
 use mathlib.Core.List.{List}
 use lib.ListN.{length}
 use lib.Dec.{ltb}
@@ -23,7 +23,7 @@ use Rattle.adjacency.specs.declared.step.Here.{Here}
 use Rattle.timer_parts.specs.Heard.{heardOf}
 use Rattle.timer_parts.specs.declared.heard.Heard.{Heard}
 use Rattle.timers.specs.Timers.{heardIn, heard}
-use Rattle.settings.specs.Mode.{isRunning}
+use Rattle.settings.specs.Mode.{isRestarting}
 use Rattle.timers.specs.Outcome.{ordered, heardFreed}
 use Rattle.settings.specs.declared.circuit.Circuit.{Circuit}
 use Rattle.control.specs.Common.{Common, withTimers}
@@ -48,7 +48,7 @@ refuse b x c r = record { answer = Refused x; reply = b; common = c; room = r }
 
 -- what the state step and the marks know of the gateway
 abbrev pub hereOf : Common → Circuit → Here
-hereOf c s = record { clock = c .clock; restarting = not (isRunning (c .timers .mode)); own = c .system; circuit = s .id; hold = s .hold }
+hereOf c s = record { clock = c .clock; restarting = isRestarting (c .timers .mode); own = c .system; circuit = s .id; hold = s .hold }
 
 -- our own pair (priority, MAC), at the frame's level
 abbrev pub rankOf : Circuit → Hello → Rank
@@ -78,18 +78,18 @@ accepted n s h k b after reply line c r =
     }
 
 -- refusals 8 and 9, or the frame's effect
-unfoldable pub settle : ℕ → Circuit → Hello → Key → List ℕ → Reaction → Common → Room → Acted
-settle n s h k b (Declined x) c r = refuse b x c r
-settle n s h k b (Accepted after reply line) c r = accepted n s h k b after reply line c r
+unfoldable pub reacted : ℕ → Circuit → Hello → Key → List ℕ → Reaction → Common → Room → Acted
+reacted n s h k b (Declined x) c r = refuse b x c r
+reacted n s h k b (Accepted after reply line) c r = accepted n s h k b after reply line c r
 
-unfoldable pub seated : ℕ → Circuit → ℕ → List ℕ → Hello → Common → Room → Acted
-seated n s mac b h c r =
-    settle n s h (keyIn (s .kind) mac h) b (decided (hereOf c s) (keyIn (s .kind) mac h) h (r .slots)) c r
+unfoldable pub decidedIn : ℕ → Circuit → ℕ → List ℕ → Hello → Common → Room → Acted
+decidedIn n s mac b h c r =
+    reacted n s h (keyIn (s .kind) mac h) b (decided (hereOf c s) (keyIn (s .kind) mac h) h (r .slots)) c r
 
 -- refusal 7
 unfoldable pub checked : ℕ → Circuit → ℕ → List ℕ → Hello → Common → Room → Acted
 checked n s mac b h c r =
-    cond (wrongSource (s .levels) (c .system) h) (refuse b WrongSource c r) (seated n s mac b h c r)
+    cond (wrongSource (s .levels) (c .system) h) (refuse b WrongSource c r) (decidedIn n s mac b h c r)
 
 -- refusals 3 to 6
 unfoldable pub readIn : ℕ → Circuit → ℕ → List ℕ → Read → Common → Room → Acted

@@ -17,7 +17,7 @@ use Rattle.metric.specs.Metric.{linkMetric}
 use Rattle.basics.specs.Mask.{circuits}
 use Rattle.timer_parts.specs.T1.{helloFlags}
 use Rattle.timers.specs.Timers.{Timers, settled, ticked, toT3, csnpIn, noticeT2s, noT1, countRuns, firstRuns}
-use Rattle.settings.specs.Mode.{inMode}
+use Rattle.settings.specs.Mode.{isRestarting}
 use Rattle.timers.specs.Outcome.{ordered, tickHellos}
 use Rattle.timers.specs.declared.outcome.Outcome.{Outcome as Timed}
 use Rattle.timers.specs.declared.outcome.Outcome.the-variants.{Idle}
@@ -73,8 +73,9 @@ settledBy f c = withTimers (settled f (c .timers)) c
 unfoldable pub csnpComplete : ℕ → Circuit → ℕ → Common → Room → Acted
 csnpComplete n s level c r =
     cond (hasLevel (s .levels) level)
-    (inMode (c .timers .mode) (refuse [] NotRestarting c r)
-    (told (noticeOf (csnpIn (n - 1) (s .levels) (onlyLevel level)) c) (settledBy (csnpIn (n - 1) (s .levels) (onlyLevel level)) c) r))
+    (cond (isRestarting (c .timers .mode))
+    (told (noticeOf (csnpIn (n - 1) (s .levels) (onlyLevel level)) c) (settledBy (csnpIn (n - 1) (s .levels) (onlyLevel level)) c) r)
+    (refuse [] NotRestarting c r))
     (refuse [] NoCircuit c r)
 
 -- the level of a key counts on a LAN alone
@@ -153,8 +154,9 @@ tickOf clock c =
 unfoldable pub databaseOf : ℕ → Common → Judged
 databaseOf level c =
     cond (hasLevel (enabledLevels (c .circuits)) level)
-    (inMode (c .timers .mode) (Decline NotRestarting)
-    (Tell (settledBy (noticeT2s (onlyLevel level)) c) (Told (noticeOf (noticeT2s (onlyLevel level)) c))))
+    (cond (isRestarting (c .timers .mode))
+    (Tell (settledBy (noticeT2s (onlyLevel level)) c) (Told (noticeOf (noticeT2s (onlyLevel level)) c)))
+    (Decline NotRestarting))
     (Decline NoCircuit)
 
 -- "how many circuits still wait for T1, and the lowest such circuit (or none)"

@@ -1,4 +1,4 @@
--- The laws of a seat, for its code: keys, refusals 8 and 9, what is kept and written, and line 1's order.
+-- The laws of an accepted hello, for its code: keys, refusals 8 and 9, what is kept and written, and line 1's order.
 use mathlib.Core.Path.{_≡_, refl}
 use mathlib.Core.Bool.{Bool, true, false}
 use mathlib.Core.List.{List, _++_}

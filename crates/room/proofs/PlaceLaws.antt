@@ -5,6 +5,7 @@ use mathlib.Core.Bool.{true, false, true≢false}
 use mathlib.Core.List.{List, [], _∷_}
 use native.Mathlib.Omega.{arith}
 use lib.ListN.{getD, set}
+use Rattle.slots.specs.Slots.{places}
 use Rattle.basics.proofs.BoolLaws.{by-test}
 use Rattle.adjacency.specs.declared.record.State.{State}
 use Rattle.adjacency.specs.declared.record.Key.{Key}
@@ -49,7 +50,7 @@ unfolding has replace
 replaces k v (here q) = (cc, cc)
 replaces k v (past q h) = let g = replaces k v h in (cc, cc)
 
-module _ (k : Key) (t : List Slot) (i : ℕ) (lt : i < 16) where
+module _ (k : Key) (t : List Slot) (i : ℕ) (lt : i < places) where
   -- the key's record stands at i
   pub stands : (r : Record) → firstOf (hasKey k) t 0 ≡ At i → getD t i Free ≡ Held r
       → Placed k t (record { before = Present (r .state); spot = SpotAt i })

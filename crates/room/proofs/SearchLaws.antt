@@ -11,7 +11,7 @@ use Rattle.basics.proofs.BoolLaws.{by-test}
 use Rattle.adjacency.specs.declared.record.Key.{Key}
 use Rattle.adjacency.specs.declared.record.Record.{Record}
 use Rattle.adjacency.specs.declared.record.Adjacency.the-variants.{Absent, Present}
-use Rattle.slots.specs.Slots.{tableOf}
+use Rattle.slots.specs.Slots.{tableOf, places}
 use Rattle.adjacency.specs.Place.{isHeld, hasKey}
 use Rattle.adjacency.specs.Keys.{sameKey}
 use Rattle.adjacency.specs.declared.place.Slot.{Slot}
@@ -78,7 +78,7 @@ pub hit-true : (p : Slot → Bool) (t : List Slot) (i : ℕ) → Hits p t i → 
 hit-true p (s ∷ t) zero (here q) = q
 hit-true p (s ∷ t) (suc n) (past q h) = hit-true p t n h
 
-pub found-below : (p : Slot → Bool) (ws : List ℕ) (i : ℕ) → firstOf p (tableOf ws) 0 ≡ At i → i < 16
+pub found-below : (p : Slot → Bool) (ws : List ℕ) (i : ℕ) → firstOf p (tableOf ws) 0 ≡ At i → i < places
 found-below p ws i e = omega (arith, hit-below p (tableOf ws) i (hits p (tableOf ws) i e), length-table ws)
 
 -- the record with a key

@@ -10,7 +10,7 @@ use lib.Seq.{drop-cons, take-suc-set, drop-set-lt, append-snoc, take-all}
 use Rattle.basics.proofs.BoolLaws.{neither}
 use Rattle.basics.specs.declared.kind.CircuitKind.{CircuitKind}
 use Rattle.adjacency.specs.declared.record.State.{State}
-use Rattle.slots.specs.Slots.{tableOf}
+use Rattle.slots.specs.Slots.{tableOf, places}
 use Rattle.adjacency.specs.Place.{meets}
 use Rattle.adjacency.specs.declared.place.Slot.{Slot}
 use Rattle.adjacency.specs.declared.place.Slot.the-variants.{Free}
@@ -65,15 +65,15 @@ sweep-none p (s ∷ t) e = let n = neither (meets p s) (some (meets p) t) e in c
 
 -- a room emptied
 
-pub length-empty : (kind : CircuitKind) → length (emptyRoom kind) ≡ 16
+pub length-empty : (kind : CircuitKind) → length (emptyRoom kind) ≡ places
 unfolding emptyRoom
-length-empty kind = length-tabulate (emptyPlace kind) 16
+length-empty kind = length-tabulate (emptyPlace kind) places
 
-empty-at : (kind : CircuitKind) (i : ℕ) → i < 16 → getD (emptyRoom kind) i Free ≡ emptyPlace kind i
+empty-at : (kind : CircuitKind) (i : ℕ) → i < places → getD (emptyRoom kind) i Free ≡ emptyPlace kind i
 unfolding emptyRoom
-empty-at kind i lt = getD-tabulate (emptyPlace kind) 16 i Free lt
+empty-at kind i lt = getD-tabulate (emptyPlace kind) places i Free lt
 
-module _ (kind : CircuitKind) (ws : List ℕ) (i : ℕ) (lt : i < 16) where
+module _ (kind : CircuitKind) (ws : List ℕ) (i : ℕ) (lt : i < places) where
   pub empty-step : take (i + 1) (set (tableOf ws) i (emptyPlace kind i)) ++ drop (i + 1) (emptyRoom kind)
       ≡ take i (tableOf ws) ++ drop i (emptyRoom kind)
   empty-step =
@@ -85,7 +85,7 @@ module _ (kind : CircuitKind) (ws : List ℕ) (i : ℕ) (lt : i < 16) where
       )
       (append-snoc (take i (tableOf ws)) (emptyPlace kind i) (drop (suc i) (emptyRoom kind)))
 
-pub empty-end : (kind : CircuitKind) (ws : List ℕ) (i : ℕ) → 16 ≤ i → tableOf ws ≡ take i (tableOf ws) ++ drop i (emptyRoom kind)
+pub empty-end : (kind : CircuitKind) (ws : List ℕ) (i : ℕ) → places ≤ i → tableOf ws ≡ take i (tableOf ws) ++ drop i (emptyRoom kind)
 empty-end kind ws i le =
     let h : length (emptyRoom kind) ≤ i = rw length-empty (omega arith) in
     rw (take-all i (tableOf ws) (rw length-table (omega arith)), drop-of-length-le (emptyRoom kind) h)

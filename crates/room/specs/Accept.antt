@@ -61,10 +61,10 @@ abbrev pub Did : Key → ℕ → List ℕ → List ℕ → List ℕ → List ℕ
 Did k system ws b ws′ b′ (Refused x) = (ws′ ≡ ws) × (b′ ≡ b)
 Did k system ws b ws′ b′ (Accepted after reply line) = (tableOf ws′ ≡ kept k after (tableOf ws)) × (b′ ≡ written system reply b)
 
-pub record Sits (k : Key) (a : Reaction) (system : ℕ) (ws b ws′ b′ : List ℕ) (r : Reaction) : Type 0 where
+pub record AcceptsAt (k : Key) (a : Reaction) (system : ℕ) (ws b ws′ b′ : List ℕ) (r : Reaction) : Type 0 where
   pub is : r ≡ ifRoom (crowded k (tableOf ws)) a
   pub did : Did k system ws b ws′ b′ r
 
-pub record Seats (here : Here) (k : Key) (h : Hello) (ws b ws′ b′ : List ℕ) (r : Reaction) : Type 0 where
+pub record Accepts (here : Here) (k : Key) (h : Hello) (ws b ws′ b′ : List ℕ) (r : Reaction) : Type 0 where
   pub is : r ≡ decided here k h (tableOf ws)
   pub did : Did k (h .system) ws b ws′ b′ r

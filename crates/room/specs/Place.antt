@@ -4,6 +4,7 @@ use mathlib.Core.Path.{_≡_}
 use mathlib.Core.Bool.{Bool, true, false, cond}
 use mathlib.Core.List.{List, [], _∷_}
 use lib.ListN.{set}
+use Rattle.slots.specs.Slots.{places}
 use Rattle.adjacency.specs.declared.record.State.{State}
 use Rattle.adjacency.specs.declared.record.Key.{Key}
 use Rattle.adjacency.specs.Place.{hasKey}
@@ -27,7 +28,7 @@ Missing k t = firstOf (hasKey k) t 0 ≡ Nothing
 
 -- the key's record is, or would be, at i
 pub record Takes (k : Key) (t : List Slot) (i : ℕ) : Type 0 where
-  pub below : i < 16
+  pub below : i < places
   pub room : crowded k t ≡ false
   pub puts : (v : State) → put k v t ≡ set t i (Held (recordWith k v))
 

@@ -4,7 +4,8 @@ use Prim.Native.Nat.{ℕ}
 use mathlib.Core.Bool.{Bool, true, false, not, cond, _&&_, _||_}
 use mathlib.Core.List.{List, [], _∷_, map}
 use lib.Dec.{eqb}
-use Rattle.basics.specs.Lists.{some}
+use Rattle.slots.specs.Slots.{places}
+use Rattle.basics.specs.Lists.{some, tabulate}
 use Rattle.basics.specs.declared.kind.CircuitKind.{CircuitKind}
 use Rattle.basics.specs.declared.kind.CircuitKind.the-variants.{Lan, P2p}
 use Rattle.adjacency.specs.declared.duty.Rank.{Rank}
@@ -13,7 +14,6 @@ use Rattle.adjacency.specs.declared.record.Key.{Key}
 use Rattle.adjacency.specs.declared.record.Record.{Record}
 use Rattle.adjacency.specs.declared.record.Adjacency.{Adjacency}
 use Rattle.adjacency.specs.declared.record.Adjacency.the-variants.{Absent, Present}
-use Rattle.basics.specs.Lists.{tabulate}
 use Rattle.adjacency.specs.Place.{isFree, hasKey, meets, expiredBy, plannedState, outrankedAt}
 use Rattle.adjacency.specs.Keys.{sameKey}
 use Rattle.adjacency.specs.declared.place.Slot.{Slot}
@@ -94,4 +94,4 @@ emptyPlace Lan i = Free
 emptyPlace P2p i = cond (eqb i 0) Free Closed
 
 unfoldable pub emptyRoom : CircuitKind → List Slot
-emptyRoom kind = tabulate (emptyPlace kind) 16
+emptyRoom kind = tabulate (emptyPlace kind) places

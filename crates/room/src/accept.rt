@@ -14,9 +14,9 @@ use restart_tlv::writer::write_restart;
 ghost use mathlib.Core.Path.{_≡_};
 ghost use Prim.Native.Nat.{_≤_};
 ghost use lib.ListN.{length};
-ghost use Rattle.slots.specs.Slots.{tableOf};
+ghost use Rattle.slots.specs.Slots.{tableOf, roomWords};
 ghost use Rattle.room.specs.Place.{Spots, Takes};
-ghost use Rattle.room.specs.Accept.{kept, written, Seats, Sits};
+ghost use Rattle.room.specs.Accept.{kept, written, Accepts, AcceptsAt};
 
 // The reply, if one is due.
 fn answer(reply: &mut [u8], what: Acknowledgement, system: u64)
@@ -31,7 +31,7 @@ fn answer(reply: &mut [u8], what: Acknowledgement, system: u64)
 
 // The record of a key at its place; where the step gives none, none stood, and none is kept.
 fn keep(words: &mut [u64], i: usize, key: Key, after: Adjacency)
-    requires { ⌜ (length (now words) ≡ 64) × Takes key (tableOf (now words)) i ⌝ }
+    requires { ⌜ (length (now words) ≡ roomWords) × Takes key (tableOf (now words)) i ⌝ }
     ensures { λ _. ⌜ tableOf (now (words .exit)) ≡ kept key after (tableOf (now (words .entry))) ⌝ }
 {
     let Adjacency::Present(state) = after else {
@@ -41,7 +41,7 @@ fn keep(words: &mut [u64], i: usize, key: Key, after: Adjacency)
 }
 
 // Refusal 9, or the record and the reply.
-fn seat_at(
+fn accept_at(
     words: &mut [u64],
     spot: Spot,
     key: Key,
@@ -49,8 +49,8 @@ fn seat_at(
     system: u64,
     reply: &mut [u8],
 ) -> Reaction
-    requires { ⌜ (length (now words) ≡ 64) × Spots key (tableOf (now words)) spot × (11 ≤ length (now reply)) ⌝ }
-    ensures { λ r. ⌜ Sits key what system (now (words .entry)) (now (reply .entry)) (now (words .exit)) (now (reply .exit)) r ⌝ }
+    requires { ⌜ (length (now words) ≡ roomWords) × Spots key (tableOf (now words)) spot × (11 ≤ length (now reply)) ⌝ }
+    ensures { λ r. ⌜ AcceptsAt key what system (now (words .entry)) (now (reply .entry)) (now (words .exit)) (now (reply .exit)) r ⌝ }
 {
     let Reaction::Accepted(after, acknowledgement, line) = what else {
         return what;
@@ -64,14 +64,20 @@ fn seat_at(
 }
 
 // A frame with a key, over its circuit's words.
-pub fn seat_in(words: &mut [u64], here: Here, key: Key, frame: Hello, reply: &mut [u8]) -> Reaction
-    requires { ⌜ (length (now words) ≡ 64) × (11 ≤ length (now reply)) ⌝ }
-    ensures { λ r. ⌜ Seats here key frame (now (words .entry)) (now (reply .entry)) (now (words .exit)) (now (reply .exit)) r ⌝ }
+pub fn accept_in(
+    words: &mut [u64],
+    here: Here,
+    key: Key,
+    frame: Hello,
+    reply: &mut [u8],
+) -> Reaction
+    requires { ⌜ (length (now words) ≡ roomWords) × (11 ≤ length (now reply)) ⌝ }
+    ensures { λ r. ⌜ Accepts here key frame (now (words .entry)) (now (reply .entry)) (now (words .exit)) (now (reply .exit)) r ⌝ }
 {
     let system = frame.system;
     let place = place_of(words, key);
     let stood = place.before;
     let spot = place.spot;
     let what = react_to(here, frame, stood);
-    seat_at(words, spot, key, what, system, reply)
+    accept_at(words, spot, key, what, system, reply)
 }

@@ -8,12 +8,12 @@ use basics::levels::Levels;
 use hello::read::Link;
 ghost use mathlib.Core.Path.{_≡_};
 ghost use lib.ListN.{length};
-ghost use Rattle.slots.specs.Slots.{tableOf};
+ghost use Rattle.slots.specs.Slots.{tableOf, roomWords};
 ghost use Rattle.room.specs.Accept.{csnpsIn};
 
 // Line 1's order. On P2P it is given always, so only on a LAN is the room looked through.
 fn line_one_csnps(words: &[u64], rank: Rank, levels: Levels, link: Link) -> Csnps
-    requires { ⌜ length (now words) ≡ 64 ⌝ }
+    requires { ⌜ length (now words) ≡ roomWords ⌝ }
     ensures { λ r. ⌜ r ≡ csnpsIn rank Line.One levels link (tableOf (now (words .entry))) ⌝ }
 {
     let Link::Lan {
@@ -30,7 +30,7 @@ fn line_one_csnps(words: &[u64], rank: Rank, levels: Levels, link: Link) -> Csnp
 
 // Of the lines only line 1 orders.
 pub fn csnps_in(words: &[u64], rank: Rank, line: Line, levels: Levels, link: Link) -> Csnps
-    requires { ⌜ length (now words) ≡ 64 ⌝ }
+    requires { ⌜ length (now words) ≡ roomWords ⌝ }
     ensures { λ r. ⌜ r ≡ csnpsIn rank line levels link (tableOf (now (words .entry))) ⌝ }
 {
     match line {

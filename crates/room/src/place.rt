@@ -12,7 +12,7 @@ use slots::slot::store;
 ghost use mathlib.Core.Path.{_≡_};
 ghost use Prim.Native.Nat.{_<_};
 ghost use lib.ListN.{length, set};
-ghost use Rattle.slots.specs.Slots.{tableOf};
+ghost use Rattle.slots.specs.Slots.{tableOf, roomWords, places};
 ghost use Rattle.adjacency.specs.declared.place.Slot.the-variants.{Held};
 ghost use Rattle.room.specs.Table.{recordWith, find};
 ghost use Rattle.room.specs.Place.{Placed, Missing};
@@ -30,7 +30,7 @@ pub struct Place {
 
 // The record with a key.
 pub fn found(words: &[u64], key: Key) -> Adjacency
-    requires { ⌜ length (now words) ≡ 64 ⌝ }
+    requires { ⌜ length (now words) ≡ roomWords ⌝ }
     ensures { λ r. ⌜ r ≡ find key (tableOf (now (words .entry))) ⌝ }
 {
     let Found::At(i) = find_key(words, key) else {
@@ -44,7 +44,7 @@ pub fn found(words: &[u64], key: Key) -> Adjacency
 }
 
 fn place_free(words: &[u64], key: Key) -> Place
-    requires { ⌜ (length (now words) ≡ 64) × Missing key (tableOf (now words)) ⌝ }
+    requires { ⌜ (length (now words) ≡ roomWords) × Missing key (tableOf (now words)) ⌝ }
     ensures { λ r. ⌜ Placed key (tableOf (now (words .entry))) r ⌝ }
 {
     let before = Adjacency::Absent;
@@ -57,7 +57,7 @@ fn place_free(words: &[u64], key: Key) -> Place
 }
 
 pub fn place_of(words: &[u64], key: Key) -> Place
-    requires { ⌜ length (now words) ≡ 64 ⌝ }
+    requires { ⌜ length (now words) ≡ roomWords ⌝ }
     ensures { λ r. ⌜ Placed key (tableOf (now (words .entry))) r ⌝ }
 {
     let Found::At(i) = find_key(words, key) else {
@@ -76,7 +76,7 @@ pub fn place_of(words: &[u64], key: Key) -> Place
 
 // The record of a key, at its place.
 pub fn store_state(words: &mut [u64], i: usize, key: Key, state: State)
-    requires { ⌜ (length (now words) ≡ 64) × (i < 16) ⌝ }
+    requires { ⌜ (length (now words) ≡ roomWords) × (i < places) ⌝ }
     ensures { λ _. ⌜ tableOf (now (words .exit)) ≡ set (tableOf (now (words .entry))) i (Held (recordWith key state)) ⌝ }
 {
     store(words, i, Record { key, state });

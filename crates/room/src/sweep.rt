@@ -2,12 +2,13 @@
 use slots::probe::is_due_at;
 use slots::probe::is_expired_at;
 use slots::probe::is_planned_at;
+use slots::slot::PLACES;
 use slots::slot::clear;
 ghost use mathlib.Core.Path.{_≡_};
 ghost use Prim.Native.Nat.{_<_};
 ghost use mathlib.Core.Bool.{false, _||_};
 ghost use lib.ListN.{length, getD, set};
-ghost use Rattle.slots.specs.Slots.{tableOf};
+ghost use Rattle.slots.specs.Slots.{tableOf, roomWords, places};
 ghost use Rattle.adjacency.specs.Place.{meets, expiredBy};
 ghost use Rattle.adjacency.specs.declared.place.Slot.the-variants.{Free};
 ghost use Rattle.room.specs.Table.{swept, anyExpired, released};
@@ -20,7 +21,7 @@ enum Sweep {
 }
 
 fn is_swept_at(words: &[u64], i: usize, which: Sweep) -> bool
-    requires { ⌜ (length (now words) ≡ 64) × (i < 16) ⌝ }
+    requires { ⌜ (length (now words) ≡ roomWords) × (i < places) ⌝ }
     ensures { λ r. ⌜ r ≡ meets (testOf which) (getD (tableOf (now (words .entry))) i Free) ⌝ }
 {
     match which {
@@ -30,7 +31,7 @@ fn is_swept_at(words: &[u64], i: usize, which: Sweep) -> bool
 }
 
 fn sweep_at(words: &mut [u64], i: usize, which: Sweep) -> bool
-    requires { ⌜ (length (now words) ≡ 64) × (i < 16) ⌝ }
+    requires { ⌜ (length (now words) ≡ roomWords) × (i < places) ⌝ }
     ensures { λ r. ⌜ r ≡ meets (testOf which) (getD (tableOf (now (words .entry))) i Free) ⌝ }
     ensures { λ _. ⌜ tableOf (now (words .exit)) ≡ set (tableOf (now (words .entry))) i (swept (testOf which) (getD (tableOf (now (words .entry))) i Free)) ⌝ }
 {
@@ -48,12 +49,12 @@ fn either(a: bool, b: bool) -> bool
 }
 
 fn sweep_in(words: &mut [u64], which: Sweep) -> bool
-    requires { ⌜ length (now words) ≡ 64 ⌝ }
+    requires { ⌜ length (now words) ≡ roomWords ⌝ }
     ensures { λ r. ⌜ Swept (testOf which) (tableOf (now (words .entry))) (tableOf (now (words .exit))) r ⌝ }
 {
     let mut any = false;
     let mut i = 0;
-    while i < 16 {
+    while i < PLACES {
         any = either(any, sweep_at(words, i, which));
         i += 1;
     }
@@ -62,11 +63,11 @@ fn sweep_in(words: &mut [u64], which: Sweep) -> bool
 
 // Where this is false no record of the room has expired: nearly always, and then a tick reads one word of each place and writes none.
 fn is_due(words: &[u64], clock: u64) -> bool
-    requires { ⌜ length (now words) ≡ 64 ⌝ }
+    requires { ⌜ length (now words) ≡ roomWords ⌝ }
     ensures { λ r. ⌜ (r ≡ false → anyExpired clock (tableOf (now (words .entry))) ≡ false) ⌝ }
 {
     let mut i = 0;
-    while i < 16 {
+    while i < PLACES {
         if is_due_at(words, i, clock) {
             return true;
         }
@@ -77,7 +78,7 @@ fn is_due(words: &[u64], clock: u64) -> bool
 
 // A tick: whether any record went.
 pub fn expire(words: &mut [u64], clock: u64) -> bool
-    requires { ⌜ length (now words) ≡ 64 ⌝ }
+    requires { ⌜ length (now words) ≡ roomWords ⌝ }
     ensures { λ r. ⌜ Swept (expiredBy clock) (tableOf (now (words .entry))) (tableOf (now (words .exit))) r ⌝ }
 {
     if !is_due(words, clock) {
@@ -88,7 +89,7 @@ pub fn expire(words: &mut [u64], clock: u64) -> bool
 
 // A release.
 pub fn release(words: &mut [u64])
-    requires { ⌜ length (now words) ≡ 64 ⌝ }
+    requires { ⌜ length (now words) ≡ roomWords ⌝ }
     ensures { λ _. ⌜ tableOf (now (words .exit)) ≡ released (tableOf (now (words .entry))) ⌝ }
 {
     sweep_in(words, Sweep::Planned);

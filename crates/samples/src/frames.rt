@@ -1,6 +1,7 @@
 // The hello frames of the sample runs, and a gateway to take them: one circuit, own System ID 1921.6800.1001, neighbour 1921.6800.1002.
 use basics::kind::CircuitKind;
 use basics::levels::Levels;
+use gateway::calls::GATEWAY_WORDS;
 use gateway::calls::set_up;
 use gateway::config::CircuitSettings;
 use gateway::config::GatewaySettings;
@@ -30,7 +31,13 @@ fn circuit(kind: CircuitKind, metric: u32) -> CircuitSettings {
 }
 
 // Configured time 30; T1 and T2 60.
-pub fn start(gateway: &mut [u64; 640], kind: CircuitKind, mode: Mode, clock: u32, metric: u32) {
+pub fn start(
+    gateway: &mut [u64; GATEWAY_WORDS],
+    kind: CircuitKind,
+    mode: Mode,
+    clock: u32,
+    metric: u32,
+) {
     let one = circuit(kind, metric);
     set_up(
         gateway,

@@ -7,12 +7,13 @@ use crate::show::cell;
 use crate::show::metric;
 use crate::show::text;
 use basics::kind::CircuitKind;
+use gateway::calls::GATEWAY_WORDS;
 use gateway::calls::link_metric;
 use gateway::calls::receive;
 use settings::mode::Mode;
 
 fn row(name: &[u8], what: &[u8], configured: u32, frame: &[u8]) {
-    let mut gateway = [0u64; 640];
+    let mut gateway = [0u64; GATEWAY_WORDS];
     let mut reply = [0u8; 11];
     start(&mut gateway, CircuitKind::P2p, Mode::Running, 0, configured);
     receive(&mut gateway, 1, &SOURCE, frame, &mut reply);

@@ -9,6 +9,7 @@ use crate::show::number_cell;
 use crate::show::received;
 use crate::show::text;
 use basics::kind::CircuitKind;
+use gateway::calls::GATEWAY_WORDS;
 use gateway::calls::look_up;
 use gateway::calls::receive;
 use gateway::calls::tick;
@@ -16,7 +17,7 @@ use settings::mode::Mode;
 
 // A tick to the clock, then the frame; the record afterwards, and the answer.
 fn row(
-    gateway: &mut [u64; 640],
+    gateway: &mut [u64; GATEWAY_WORDS],
     name: &[u8],
     what: &[u8],
     clock: u32,
@@ -38,7 +39,7 @@ fn row(
 }
 
 pub fn c1_to_c6() {
-    let mut gateway = [0u64; 640];
+    let mut gateway = [0u64; GATEWAY_WORDS];
     start(&mut gateway, CircuitKind::P2p, Mode::Running, 80, 10);
     text(b"row  clock  frame                               state expiry  mark     CSNPs reply\n");
     row(
@@ -83,7 +84,7 @@ pub fn c1_to_c6() {
 }
 
 pub fn c7() {
-    let mut gateway = [0u64; 640];
+    let mut gateway = [0u64; GATEWAY_WORDS];
     start(&mut gateway, CircuitKind::P2p, Mode::Running, 100, 10);
     row(
         &mut gateway,

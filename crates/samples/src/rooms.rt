@@ -5,12 +5,13 @@ use crate::show::cell;
 use crate::show::text;
 use crate::show::verdict;
 use basics::kind::CircuitKind;
+use gateway::calls::GATEWAY_WORDS;
 use gateway::calls::receive;
 use gateway::calls::tick;
 use model::answers::Received;
 use settings::mode::Mode;
 
-fn send(gateway: &mut [u64; 640], router: u8, hold: u8) -> Received {
+fn send(gateway: &mut [u64; GATEWAY_WORDS], router: u8, hold: u8) -> Received {
     let mut reply = [0u8; 11];
     let frame = lan(router, hold);
     receive(gateway, 1, &[2, 0, 0, 0, 0, router], &frame, &mut reply)
@@ -25,7 +26,7 @@ fn row(what: &[u8], r: Received) {
 
 // Router 1 has a Holding Time of 10, the others of 30.
 pub fn c12() {
-    let mut gateway = [0u64; 640];
+    let mut gateway = [0u64; GATEWAY_WORDS];
     start(&mut gateway, CircuitKind::Lan, Mode::Running, 0, 10);
     send(&mut gateway, 1, 10);
     let mut i = 2u8;

@@ -8,10 +8,11 @@ use crate::show::cell;
 use crate::show::text;
 use crate::show::verdict;
 use basics::kind::CircuitKind;
+use gateway::calls::GATEWAY_WORDS;
 use gateway::calls::receive;
 use settings::mode::Mode;
 
-fn row(gateway: &mut [u64; 640], name: &[u8], what: &[u8], frame: &[u8]) {
+fn row(gateway: &mut [u64; GATEWAY_WORDS], name: &[u8], what: &[u8], frame: &[u8]) {
     let mut reply = [0u8; 11];
     cell(name, 5);
     cell(what, 43);
@@ -21,7 +22,7 @@ fn row(gateway: &mut [u64; 640], name: &[u8], what: &[u8], frame: &[u8]) {
 }
 
 pub fn c8() {
-    let mut gateway = [0u64; 640];
+    let mut gateway = [0u64; GATEWAY_WORDS];
     start(&mut gateway, CircuitKind::P2p, Mode::Running, 0, 10);
     row(
         &mut gateway,
@@ -56,7 +57,7 @@ pub fn c8() {
 }
 
 pub fn c13() {
-    let mut gateway = [0u64; 640];
+    let mut gateway = [0u64; GATEWAY_WORDS];
     start(&mut gateway, CircuitKind::P2p, Mode::Running, 0, 10);
     row(&mut gateway, b"C13", b"PDU Length = lent octets", &bare(23));
     row(

@@ -7,6 +7,7 @@ use crate::show::cell;
 use crate::show::number;
 use crate::show::text;
 use basics::kind::CircuitKind;
+use gateway::calls::GATEWAY_WORDS;
 use gateway::calls::receive;
 use gateway::calls::tick;
 use model::answers::Ticked;
@@ -43,7 +44,7 @@ fn is_overload(t: Ticked) -> bool {
 }
 
 // Ticks from a clock on, until one orders overload: its clock, or 60, where T2 ends.
-fn deadline(gateway: &mut [u64; 640], from: u32) -> u32 {
+fn deadline(gateway: &mut [u64; GATEWAY_WORDS], from: u32) -> u32 {
     let mut clock = from;
     while clock < 60 {
         let t = tick(gateway, clock);
@@ -56,7 +57,7 @@ fn deadline(gateway: &mut [u64; 640], from: u32) -> u32 {
 }
 
 // An acknowledgement at a clock: RA, a Remaining Time, and a three-way state.
-fn acknowledge(gateway: &mut [u64; 640], clock: u32, state: u8, time: u16) {
+fn acknowledge(gateway: &mut [u64; GATEWAY_WORDS], clock: u32, state: u8, time: u16) {
     let mut reply = [0u8; 11];
     let frame = restart(state, 9, 2, time);
     tick(gateway, clock);
@@ -65,7 +66,7 @@ fn acknowledge(gateway: &mut [u64; 640], clock: u32, state: u8, time: u16) {
 
 // The first acknowledgements of the three.
 fn row(what: &[u8], count: u8) {
-    let mut gateway = [0u64; 640];
+    let mut gateway = [0u64; GATEWAY_WORDS];
     start(&mut gateway, CircuitKind::P2p, Mode::Restarting, 0, 10);
     acknowledge(&mut gateway, 5, 0, 40);
     if 1 < count {

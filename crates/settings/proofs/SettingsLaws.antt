@@ -8,6 +8,7 @@ use lib.ListN.{length, getD, drop, drop-of-length-le}
 use lib.Seq.{drop-cons}
 use lib.Dec.{leb}
 use borrow.Author.Tests.{leb-true}
+use Rattle.basics.specs.Mask.{circuits}
 use Rattle.basics.proofs.BoolLaws.{and-left, and-right}
 use Rattle.basics.specs.declared.levels.Levels.{Levels}
 use Rattle.basics.specs.Levels.{union}
@@ -36,16 +37,16 @@ unfolding enabledLevels some
 enabled-end l t i le = rw (drop-of-length-le t le) (rw (or-false (l .one), or-false (l .two)) refl)
 
 -- of settings in range there are 1 to 8 circuits
-pub count-in-range : (s : Settings) → settingsOk s ≡ true → (1 ≤ s .count) × (s .count ≤ 8)
+pub count-in-range : (s : Settings) → settingsOk s ≡ true → (1 ≤ s .count) × (s .count ≤ circuits)
 unfolding settingsOk
-count-in-range s h = between-true 1 (s .count) 8 (and-left (between 1 (s .count) 8) _ h)
+count-in-range s h = between-true 1 (s .count) circuits (and-left (between 1 (s .count) circuits) _ h)
 
 -- the count decides first
 module _ (s : Settings) where
-  pub ok-counted : between 1 (s .count) 8 ≡ true → settingsOk s ≡ (every circuitOk (circuitsOf s) && lengthsOk (s .lengths))
+  pub ok-counted : between 1 (s .count) circuits ≡ true → settingsOk s ≡ (every circuitOk (circuitsOf s) && lengthsOk (s .lengths))
   unfolding settingsOk
   ok-counted e = rw e refl
 
-  pub ok-miscounted : between 1 (s .count) 8 ≡ false → settingsOk s ≡ false
+  pub ok-miscounted : between 1 (s .count) circuits ≡ false → settingsOk s ≡ false
   unfolding settingsOk
   ok-miscounted e = rw e refl

@@ -7,7 +7,6 @@ abbrev pub isRunning : Mode → Bool
 isRunning Running = true
 isRunning Restarting = false
 
--- by the mode: the first while it is Running
-abbrev pub inMode : {A : Type 0} → Mode → A → A → A
-inMode Running x y = x
-inMode Restarting x y = y
+abbrev pub isRestarting : Mode → Bool
+isRestarting Running = false
+isRestarting Restarting = true

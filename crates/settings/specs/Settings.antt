@@ -5,6 +5,7 @@ use mathlib.Core.Bool.{Bool, _&&_}
 use mathlib.Core.List.{List}
 use lib.Dec.{leb}
 use lib.ListN.{take}
+use Rattle.basics.specs.Mask.{circuits}
 use Rattle.basics.specs.Lists.{every, some}
 use Rattle.basics.specs.declared.levels.Levels.{Levels}
 use Rattle.basics.specs.Levels.{isOn, levelsWith, someOn}
@@ -28,7 +29,7 @@ abbrev pub circuitsOf : Settings → List Circuit
 circuitsOf s = take (s .count) (s .circuits)
 
 unfoldable pub settingsOk : Settings → Bool
-settingsOk s = between 1 (s .count) 8 && (every circuitOk (circuitsOf s) && lengthsOk (s .lengths))
+settingsOk s = between 1 (s .count) circuits && (every circuitOk (circuitsOf s) && lengthsOk (s .lengths))
 
 -- "An enabled level means one enabled on some circuit."
 unfoldable pub enabledLevels : List Circuit → Levels

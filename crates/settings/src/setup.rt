@@ -5,13 +5,13 @@ use crate::circuit::is_between;
 use crate::circuit::is_circuit_ok;
 use crate::lengths::Lengths;
 use crate::mode::Mode;
+use basics::mask::CIRCUITS;
 ghost use mathlib.Core.Path.{_≡_};
 ghost use Prim.Native.Nat.{_≤_};
 ghost use lib.ListN.{take};
+ghost use Rattle.basics.specs.Mask.{circuits};
 ghost use Rattle.basics.specs.Lists.{every};
 ghost use Rattle.settings.specs.Settings.{circuitOk, lengthsOk, settingsOk};
-
-pub const MAX_CIRCUITS: u32 = 8;
 
 pub const MAX_LENGTH: u32 = 65535;
 
@@ -24,7 +24,7 @@ pub struct Settings {
     pub clock: u32,
     pub mode: Mode,
     pub count: u8,
-    pub circuits: [Circuit; 8],
+    pub circuits: [Circuit; CIRCUITS],
 }
 
 pub fn are_lengths_ok(s: Lengths) -> bool
@@ -36,8 +36,8 @@ pub fn are_lengths_ok(s: Lengths) -> bool
     both(one, both(two, tries))
 }
 
-fn are_circuits_ok(all: [Circuit; 8], count: usize) -> bool
-    requires { ⌜ count ≤ 8 ⌝ }
+fn are_circuits_ok(all: [Circuit; CIRCUITS], count: usize) -> bool
+    requires { ⌜ count ≤ circuits ⌝ }
     ensures { λ r. ⌜ r ≡ every circuitOk (take count all) ⌝ }
 {
     let mut i = 0;
@@ -59,7 +59,7 @@ pub fn are_settings_ok(s: Settings) -> bool
     let count = s.count;
     let lengths = s.lengths;
     let all = s.circuits;
-    if is_between(1, count as u32, MAX_CIRCUITS) {
+    if is_between(1, count as u32, CIRCUITS as u32) {
         return both(
             are_circuits_ok(all, count as usize),
             are_lengths_ok(lengths),

@@ -17,7 +17,7 @@ use Rattle.adjacency.specs.declared.record.State.the-variants.{Init, Up}
 use Rattle.adjacency.specs.declared.record.Key.{Key}
 use Rattle.adjacency.specs.declared.record.Record.{Record}
 use Rattle.slots.specs.Word.{stateAt, dataAt, markAt}
-use Rattle.slots.specs.Slots.{tableOf, heldWord, dueAt}
+use Rattle.slots.specs.Slots.{tableOf, heldWord, dueAt, places}
 use Rattle.adjacency.specs.Place.{isFree, isHeld, meets, expiredBy, marksPlanned, plannedState, outrankedAt}
 use Rattle.adjacency.specs.Keys.{sameKey}
 use Rattle.adjacency.specs.declared.place.Slot.{Slot}
@@ -94,7 +94,7 @@ recordAt ws i =
       state = stateAt (getD ws (4 * i + 2) 0) (getD ws (4 * i + 3) 0);
     }
 
-module _ (ws : List ℕ) (i : ℕ) (lt : i < 16) where
+module _ (ws : List ℕ) (i : ℕ) (lt : i < places) where
   pub free-told : eqb (getD ws (4 * i + 3) 0 % 4) 0 ≡ isFree (getD (tableOf ws) i Free)
   free-told =
       free-by (eqb (getD ws (4 * i + 3) 0 % 4) 0) (eqb (getD ws (4 * i + 3) 0 % 4) 3) (recordAt ws i)
@@ -133,7 +133,7 @@ module _ (ws : List ℕ) (i : ℕ) (lt : i < 16) where
         (λ q. told-none (tag-none (getD ws (4 * i + 3) 0) ne (eqb-false (getD ws (4 * i + 3) 0 % 4) 1 q)))
 
 -- whether a record's expiry is reached is told by its expiry word
-module _ (clock : ℕ) (ws : List ℕ) (i : ℕ) (lt : i < 16) where
+module _ (clock : ℕ) (ws : List ℕ) (i : ℕ) (lt : i < places) where
   pub due : dueAt clock ws i ≡ true → heldWord (getD ws (4 * i + 3) 0) ≡ meets (expiredBy clock) (getD (tableOf ws) i Free)
   due e =
       told-true ws i lt (meets (expiredBy clock)) refl refl (expired-state clock (getD ws (4 * i + 2) 0) (getD ws (4 * i + 3) 0) ∙ e)

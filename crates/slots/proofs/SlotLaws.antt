@@ -17,7 +17,7 @@ use Rattle.adjacency.specs.declared.record.State.{State}
 use Rattle.adjacency.specs.declared.record.State.the-variants.{Init, Up}
 use Rattle.adjacency.specs.declared.record.Record.{Record}
 use Rattle.slots.specs.Word.{stateWord, markWord, dataWord, FitState}
-use Rattle.slots.specs.Slots.{slotOf, slotAt, tableOf, recordWord, FitRecord}
+use Rattle.slots.specs.Slots.{slotOf, slotAt, tableOf, recordWord, FitRecord, roomWords, places}
 use Rattle.adjacency.specs.Place.{isHeld}
 use Rattle.adjacency.specs.declared.place.Slot.{Slot}
 use Rattle.adjacency.specs.declared.place.Slot.the-variants.{Free, Held, Closed}
@@ -51,20 +51,20 @@ reads-back system mac l (Up d m) hl f =
       h .level,
     )
 
-pub length-table : (ws : List ℕ) → length (tableOf ws) ≡ 16
+pub length-table : (ws : List ℕ) → length (tableOf ws) ≡ places
 unfolding tableOf
-length-table ws = length-tabulate (slotAt ws) 16
+length-table ws = length-tabulate (slotAt ws) places
 
-pub table-at : (ws : List ℕ) (i : ℕ) → i < 16 → getD (tableOf ws) i Free ≡ slotAt ws i
+pub table-at : (ws : List ℕ) (i : ℕ) → i < places → getD (tableOf ws) i Free ≡ slotAt ws i
 unfolding tableOf
-table-at ws i lt = getD-tabulate (slotAt ws) 16 i Free lt
+table-at ws i lt = getD-tabulate (slotAt ws) places i Free lt
 
 -- a table whose words changed only at place i, which now means s
-pub stored : (ws ws′ : List ℕ) (i : ℕ) (s : Slot) → i < 16 → slotAt ws′ i ≡ s
+pub stored : (ws ws′ : List ℕ) (i : ℕ) (s : Slot) → i < places → slotAt ws′ i ≡ s
     → ((q : ℕ) → (q / 4 ≡ i → ⊥) → getD ws′ q 0 ≡ getD ws q 0) → tableOf ws′ ≡ set (tableOf ws) i s
 unfolding tableOf
 stored ws ws′ i s lt e h =
-    tabulate-set (slotAt ws′) (slotAt ws) 16 i s lt e
+    tabulate-set (slotAt ws′) (slotAt ws) places i s lt e
     (λ j lj ne.
     cc (
       h (4 * j) (λ (z : 4 * j / 4 ≡ i). ne (omega arith)),
@@ -77,7 +77,7 @@ stored ws ws′ i s lt e h =
 other : (ws : List ℕ) (i p q v : ℕ) → p / 4 ≡ i → (q / 4 ≡ i → ⊥) → getD (set ws p v) q 0 ≡ getD ws q 0
 other ws i p q v e ne = getD-set-other ws p q v 0 (λ (z : q ≡ p). ne (ap (λ (n : ℕ). n / 4) z ∙ e))
 
-module _ (ws : List ℕ) (i : ℕ) (len : length ws ≡ 64) (lt : i < 16) where
+module _ (ws : List ℕ) (i : ℕ) (len : length ws ≡ roomWords) (lt : i < places) where
   -- the expiry and the tag change, and the tag alone decides
   emptied : (e v : ℕ) (s : Slot) → ((system mac expiry : ℕ) → slotOf system mac expiry v ≡ s)
       → tableOf (set (set ws (4 * i + 2) e) (4 * i + 3) v) ≡ set (tableOf ws) i s
@@ -103,7 +103,7 @@ far : (ws : List ℕ) (p q v : ℕ) → (q < p) ⊎ (p < q) → getD (set ws p v
 far ws p q v (inl h) = getD-set-other ws p q v 0 (λ (z : q ≡ p). omega arith)
 far ws p q v (inr h) = getD-set-other ws p q v 0 (λ (z : q ≡ p). omega arith)
 
-module _ (ws : List ℕ) (i a b c d : ℕ) (len : length ws ≡ 64) (lt : i < 16) where
+module _ (ws : List ℕ) (i a b c d : ℕ) (len : length ws ≡ roomWords) (lt : i < places) where
   set4-means : slotAt (set4 ws i a b c d) i ≡ slotOf a b c d
   set4-means =
       cc (
@@ -129,7 +129,7 @@ module _ (ws : List ℕ) (i a b c d : ℕ) (len : length ws ≡ 64) (lt : i < 16
       )
 
 -- a record is stored
-pub held : (ws : List ℕ) (i : ℕ) (r : Record) → length ws ≡ 64 → i < 16 → FitRecord r
+pub held : (ws : List ℕ) (i : ℕ) (r : Record) → length ws ≡ roomWords → i < places → FitRecord r
     → tableOf (set4 ws i (r .key .system) (r .key .mac) (expiryOf (r .state)) (recordWord r)) ≡ set (tableOf ws) i (Held r)
 held ws i r len lt f =
     stored ws (set4 ws i (r .key .system) (r .key .mac) (expiryOf (r .state)) (recordWord r)) i (Held r) lt

@@ -1,4 +1,4 @@
--- One circuit's table of 16 places in 64 words (house): what any words mean.
+-- One circuit's table in words (house): its sizes, and what any words mean.
 use Prim.Native.Nat.{ℕ, _+_, _*_, _/_, _%_, _<_}
 use mathlib.Core.Bool.{Bool, not, cond, _&&_}
 use mathlib.Core.List.{List}
@@ -10,6 +10,20 @@ use Rattle.slots.specs.Word.{stateAt, stateWord, FitState}
 use Rattle.adjacency.specs.declared.place.Slot.{Slot}
 use Rattle.adjacency.specs.declared.place.Slot.the-variants.{Free, Held, Closed}
 
+-- ---- sizes
+
+-- the words of a place, the places of a room, and the words of a room
+abbrev pub placeWords : ℕ
+placeWords = 4
+
+abbrev pub places : ℕ
+places = 16
+
+abbrev pub roomWords : ℕ
+roomWords = places * placeWords
+
+-- ---- meaning
+
 -- what four words mean: any four do
 abbrev pub slotOf : ℕ → ℕ → ℕ → ℕ → Slot
 slotOf system mac expiry w =
@@ -18,11 +32,11 @@ slotOf system mac expiry w =
     (Held (record { key = record { level = w / 256 % 256; system = system; mac = mac }; state = stateAt expiry w })))
 
 abbrev pub slotAt : List ℕ → ℕ → Slot
-slotAt ws i = slotOf (getD ws (4 * i) 0) (getD ws (4 * i + 1) 0) (getD ws (4 * i + 2) 0) (getD ws (4 * i + 3) 0)
+slotAt ws i = slotOf (getD ws (placeWords * i) 0) (getD ws (placeWords * i + 1) 0) (getD ws (placeWords * i + 2) 0) (getD ws (placeWords * i + 3) 0)
 
 -- a circuit's table
 unfoldable pub tableOf : List ℕ → List Slot
-tableOf ws = tabulate (slotAt ws) 16
+tableOf ws = tabulate (slotAt ws) places
 
 -- the word of a record's small fields
 abbrev pub recordWord : Record → ℕ
@@ -38,4 +52,4 @@ heldWord w = not (eqb (w % 4) 0) && not (eqb (w % 4) 3)
 
 -- the expiry word of place i is at or below the clock, whatever stands there
 abbrev pub dueAt : ℕ → List ℕ → ℕ → Bool
-dueAt clock ws i = leb (getD ws (4 * i + 2) 0) clock
+dueAt clock ws i = leb (getD ws (placeWords * i + 2) 0) clock

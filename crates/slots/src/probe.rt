@@ -1,4 +1,5 @@
 // Questions about a place of the table, answered from the words they concern: no record is decoded but where its rank is compared.
+use crate::slot::PLACE_WORDS;
 use crate::slot::load;
 use adjacency::duty::Rank;
 use adjacency::duty::is_outranked_by;
@@ -7,7 +8,7 @@ use adjacency::record::Key;
 ghost use mathlib.Core.Path.{_≡_};
 ghost use Prim.Native.Nat.{_+_, _*_, _<_};
 ghost use lib.ListN.{length, getD};
-ghost use Rattle.slots.specs.Slots.{tableOf, heldWord, dueAt};
+ghost use Rattle.slots.specs.Slots.{tableOf, heldWord, dueAt, roomWords, places};
 ghost use Rattle.adjacency.specs.Place.{isHeld, isFree, hasKey, meets, expiredBy, plannedState, outrankedAt};
 ghost use Rattle.adjacency.specs.declared.place.Slot.the-variants.{Free};
 
@@ -23,30 +24,30 @@ fn is_held_word(w: u64) -> bool
 }
 
 pub fn is_free_at(words: &[u64], i: usize) -> bool
-    requires { ⌜ (length (now words) ≡ 64) × (i < 16) ⌝ }
+    requires { ⌜ (length (now words) ≡ roomWords) × (i < places) ⌝ }
     ensures { λ r. ⌜ r ≡ isFree (getD (tableOf (now (words .entry))) i Free) ⌝ }
 {
-    words[4 * i + 3] % 4 == 0
+    words[PLACE_WORDS * i + 3] % 4 == 0
 }
 
 pub fn is_held_at(words: &[u64], i: usize) -> bool
-    requires { ⌜ (length (now words) ≡ 64) × (i < 16) ⌝ }
+    requires { ⌜ (length (now words) ≡ roomWords) × (i < places) ⌝ }
     ensures { λ r. ⌜ r ≡ isHeld (getD (tableOf (now (words .entry))) i Free) ⌝ }
 {
-    is_held_word(words[4 * i + 3])
+    is_held_word(words[PLACE_WORDS * i + 3])
 }
 
 pub fn is_key_at(words: &[u64], i: usize, key: Key) -> bool
-    requires { ⌜ (length (now words) ≡ 64) × (i < 16) ⌝ }
+    requires { ⌜ (length (now words) ≡ roomWords) × (i < places) ⌝ }
     ensures { λ r. ⌜ r ≡ hasKey key (getD (tableOf (now (words .entry))) i Free) ⌝ }
 {
-    if words[4 * i] != key.system {
+    if words[PLACE_WORDS * i] != key.system {
         return false;
     }
-    if words[4 * i + 1] != key.mac {
+    if words[PLACE_WORDS * i + 1] != key.mac {
         return false;
     }
-    let w = words[4 * i + 3];
+    let w = words[PLACE_WORDS * i + 3];
     if w / 256 % 256 != key.level as u64 {
         return false;
     }
@@ -55,27 +56,27 @@ pub fn is_key_at(words: &[u64], i: usize, key: Key) -> bool
 
 // Where this is false no record at the place has expired.
 pub fn is_due_at(words: &[u64], i: usize, clock: u64) -> bool
-    requires { ⌜ (length (now words) ≡ 64) × (i < 16) ⌝ }
+    requires { ⌜ (length (now words) ≡ roomWords) × (i < places) ⌝ }
     ensures { λ r. ⌜ r ≡ dueAt clock (now (words .entry)) i ⌝ }
 {
-    words[4 * i + 2] <= clock
+    words[PLACE_WORDS * i + 2] <= clock
 }
 
 pub fn is_expired_at(words: &[u64], i: usize, clock: u64) -> bool
-    requires { ⌜ (length (now words) ≡ 64) × (i < 16) ⌝ }
+    requires { ⌜ (length (now words) ≡ roomWords) × (i < places) ⌝ }
     ensures { λ r. ⌜ r ≡ meets (expiredBy clock) (getD (tableOf (now (words .entry))) i Free) ⌝ }
 {
     if is_due_at(words, i, clock) {
-        return is_held_word(words[4 * i + 3]);
+        return is_held_word(words[PLACE_WORDS * i + 3]);
     }
     false
 }
 
 pub fn is_planned_at(words: &[u64], i: usize) -> bool
-    requires { ⌜ (length (now words) ≡ 64) × (i < 16) ⌝ }
+    requires { ⌜ (length (now words) ≡ roomWords) × (i < places) ⌝ }
     ensures { λ r. ⌜ r ≡ meets plannedState (getD (tableOf (now (words .entry))) i Free) ⌝ }
 {
-    let w = words[4 * i + 3];
+    let w = words[PLACE_WORDS * i + 3];
     if w % 4 != 2 {
         return false;
     }
@@ -83,10 +84,10 @@ pub fn is_planned_at(words: &[u64], i: usize) -> bool
 }
 
 pub fn is_outranked_at(words: &[u64], i: usize, rank: Rank) -> bool
-    requires { ⌜ (length (now words) ≡ 64) × (i < 16) ⌝ }
+    requires { ⌜ (length (now words) ≡ roomWords) × (i < places) ⌝ }
     ensures { λ r. ⌜ r ≡ outrankedAt rank (getD (tableOf (now (words .entry))) i Free) ⌝ }
 {
-    let w = words[4 * i + 3];
+    let w = words[PLACE_WORDS * i + 3];
     if w % 4 != 2 {
         return false;
     }

@@ -10,7 +10,14 @@ use adjacency::record::state_expiry;
 ghost use mathlib.Core.Path.{_≡_};
 ghost use Prim.Native.Nat.{_+_, _*_, _<_};
 ghost use lib.ListN.{length, getD, set};
-ghost use Rattle.slots.specs.Slots.{slotOf, tableOf, recordWord, FitRecord};
+ghost use Rattle.slots.specs.Slots.{slotOf, tableOf, recordWord, FitRecord, roomWords, places};
+
+// The words of a place, the places of a room, and the words of a room.
+pub const PLACE_WORDS: usize = 4;
+
+pub const PLACES: usize = 16;
+
+pub const ROOM_WORDS: usize = PLACES * PLACE_WORDS;
 
 fn slot_of(system: u64, mac: u64, expiry: u64, w: u64) -> Slot
     ensures { λ r. ⌜ r ≡ slotOf system mac expiry w ⌝ }
@@ -37,14 +44,14 @@ fn slot_of(system: u64, mac: u64, expiry: u64, w: u64) -> Slot
 }
 
 pub fn load(words: &[u64], i: usize) -> Slot
-    requires { ⌜ (length (now words) ≡ 64) × (i < 16) ⌝ }
+    requires { ⌜ (length (now words) ≡ roomWords) × (i < places) ⌝ }
     ensures { λ r. ⌜ r ≡ getD (tableOf (now (words .entry))) i Slot.Free ⌝ }
 {
     slot_of(
-        words[4 * i],
-        words[4 * i + 1],
-        words[4 * i + 2],
-        words[4 * i + 3],
+        words[PLACE_WORDS * i],
+        words[PLACE_WORDS * i + 1],
+        words[PLACE_WORDS * i + 2],
+        words[PLACE_WORDS * i + 3],
     )
 }
 
@@ -58,17 +65,17 @@ fn record_word(entry: Record) -> u64
 }
 
 pub fn store(words: &mut [u64], i: usize, entry: Record)
-    requires { ⌜ (length (now words) ≡ 64) × (i < 16) ⌝ }
+    requires { ⌜ (length (now words) ≡ roomWords) × (i < places) ⌝ }
     ensures { λ _. ⌜ tableOf (now (words .exit)) ≡ set (tableOf (now (words .entry))) i (Slot.Held entry) ⌝ }
 {
     let w = record_word(entry);
     let key = entry.key;
     let state = entry.state;
     let e = state_expiry(state);
-    words[4 * i] = key.system;
-    words[4 * i + 1] = key.mac;
-    words[4 * i + 2] = e;
-    words[4 * i + 3] = w;
+    words[PLACE_WORDS * i] = key.system;
+    words[PLACE_WORDS * i + 1] = key.mac;
+    words[PLACE_WORDS * i + 2] = e;
+    words[PLACE_WORDS * i + 3] = w;
 }
 
 // The expiry word of a place without a record: past every clock, so that a tick passes the place by this word alone. It means nothing.
@@ -76,18 +83,18 @@ const NEVER: u64 = 18446744073709551615;
 
 // No record stands at a place any more.
 pub fn clear(words: &mut [u64], i: usize)
-    requires { ⌜ (length (now words) ≡ 64) × (i < 16) ⌝ }
+    requires { ⌜ (length (now words) ≡ roomWords) × (i < places) ⌝ }
     ensures { λ _. ⌜ tableOf (now (words .exit)) ≡ set (tableOf (now (words .entry))) i Slot.Free ⌝ }
 {
-    words[4 * i + 2] = NEVER;
-    words[4 * i + 3] = 0;
+    words[PLACE_WORDS * i + 2] = NEVER;
+    words[PLACE_WORDS * i + 3] = 0;
 }
 
 // The circuit does not have this place.
 pub fn close(words: &mut [u64], i: usize)
-    requires { ⌜ (length (now words) ≡ 64) × (i < 16) ⌝ }
+    requires { ⌜ (length (now words) ≡ roomWords) × (i < places) ⌝ }
     ensures { λ _. ⌜ tableOf (now (words .exit)) ≡ set (tableOf (now (words .entry))) i Slot.Closed ⌝ }
 {
-    words[4 * i + 2] = NEVER;
-    words[4 * i + 3] = 3;
+    words[PLACE_WORDS * i + 2] = NEVER;
+    words[PLACE_WORDS * i + 3] = 3;
 }

@@ -2,7 +2,7 @@
 -- orders anything. The rest joins the steps of the code to the definitions.
 use Prim.Native.Nat.{ℕ, _+_, _<_}
 use mathlib.Core.Path.{_≡_, refl, sym, ap, _∙_}
-use mathlib.Core.Bool.{Bool, true, false, true≢false}
+use mathlib.Core.Bool.{Bool, true, false, cond, true≢false}
 use mathlib.Core.List.{List, map}
 use lib.ListN.{set, getD}
 use Rattle.basics.specs.declared.levels.Levels.{Levels}
@@ -24,40 +24,65 @@ use Rattle.timers.specs.declared.outcome.Outcome.{Outcome}
 use Rattle.timers.specs.declared.outcome.Outcome.the-variants.{Idle, Goes, Ended}
 use Rattle.timers.specs.declared.outcome.Overload.{Overload}
 use Rattle.timers.specs.Timers.{Timers, withT1s, withT3, countRuns, firstRuns, noT1, atT1, tickT1s, expireT2s, cancelT2s, tickT3, finish, closed, settled, toT3, ticked, heardIn, heard, csnpIn, csnpNoticed, noticeT2s, databaseNoticed}
-use Rattle.settings.specs.Mode.{inMode}
+use Rattle.settings.specs.Mode.{isRunning}
 use Rattle.timers.specs.Memory.{joined, timersOf}
 use Rattle.timers.specs.Outcome.{outcomeWith, outcomeOf, ordered, tickHellos, heardFreed}
-use Rattle.timers.specs.Events.{startHead, startHellos, started, Starts, Closes, Settles, Ticks, Hears}
-use Rattle.timers.proofs.T1sLaws.{countRuns-joined, firstRuns-joined, bits-none, joined-started}
+use Rattle.timers.specs.Events.{startHead, startHellos, started, Starts, Closes, Ticks, Hears}
+use Rattle.timers.proofs.T1sLaws.{countRuns-joined, firstRuns-joined, joined-started}
 
 -- ---- for the gateway
 
-module _ {A : Type 0} {m : Mode} (x y : A) where
-  pub in-running : m ≡ Running → x ≡ inMode m x y
-  in-running e = rw e
+-- by the mode
+module _ (t : Timers) (on : isRunning (t .mode) ≡ false) where
+  pub settled-on : (f : Timers → Timers) → closed f t ≡ settled f t
+  unfolding settled
+  settled-on f = rw on
 
-  pub in-restarting : m ≡ Restarting → y ≡ inMode m x y
-  in-restarting e = rw e
+  pub ordered-on : (f : Timers → Timers) → outcomeOf t (f t) (closed f t) ≡ ordered f t
+  unfolding ordered
+  ordered-on f = rw on
+
+  pub hellos-on : (s : Lengths) (clock : ℕ) → map (helloDue s clock) (t .t1s) ≡ tickHellos s clock t
+  unfolding tickHellos
+  hellos-on s clock = rw on
+
+  pub freed-on : (i : ℕ) (d : Heard) → freedBy d (getD (t .t1s) i noT1) ≡ heardFreed i d t
+  unfolding heardFreed
+  freed-on i d = rw on
+
+module _ (t : Timers) (off : isRunning (t .mode) ≡ true) where
+  pub settled-off : (f : Timers → Timers) → t ≡ settled f t
+  unfolding settled
+  settled-off f = rw off
+
+  pub ordered-off : (f : Timers → Timers) → Idle ≡ ordered f t
+  unfolding ordered
+  ordered-off f = rw off
+
+  pub hellos-off : (s : Lengths) (clock : ℕ) → map (λ x. false) (t .t1s) ≡ tickHellos s clock t
+  unfolding tickHellos
+  hellos-off s clock = rw off
+
+  pub freed-off : (i : ℕ) (d : Heard) → Kept ≡ heardFreed i d t
+  unfolding heardFreed
+  freed-off i d = rw off
 
 module _ (t : Timers) (run : t .mode ≡ Running) where
   -- any call, by its own step
   pub settled-running : (f : Timers → Timers) → (settled f t ≡ t) × (ordered f t ≡ Idle)
-  unfolding settled ordered
-  settled-running f = (sym (in-running t _ run), sym (in-running Idle _ run))
+  settled-running f = (sym (settled-off t (ap isRunning run) f), sym (ordered-off t (ap isRunning run) f))
 
   pub ticked-running : (s : Lengths) (clock : ℕ)
       → (ticked s clock t ≡ t) × (ordered (toT3 s clock) t ≡ Idle) × (tickHellos s clock t ≡ map (λ x. false) (t .t1s))
-  unfolding tickHellos
   ticked-running s clock =
       let k = settled-running (toT3 s clock) in
-      (k .0, k .1, sym (in-running (map (λ x. false) (t .t1s)) _ run))
+      (k .0, k .1, sym (hellos-off t (ap isRunning run) s clock))
 
   pub heard-running : (clock i : ℕ) (l : Levels) (d : Heard)
       → (heard clock i l d t ≡ t) × (ordered (heardIn clock i l d) t ≡ Idle) × (heardFreed i d t ≡ Kept)
-  unfolding heardFreed
   heard-running clock i l d =
       let k = settled-running (heardIn clock i l d) in
-      (k .0, k .1, sym (in-running Kept _ run))
+      (k .0, k .1, sym (freed-off t (ap isRunning run) i d))
 
   pub csnp-running : (i : ℕ) (l n : Levels) → (csnpNoticed i l n t ≡ t) × (ordered (csnpIn i l n) t ≡ Idle)
   csnp-running i l n = settled-running (csnpIn i l n)
@@ -80,7 +105,7 @@ unfolding outcomeWith isIdle
 not-idle true spf overload = refl
 not-idle false spf overload = refl
 
-by-mode : (m : Mode) (o : Outcome) → isIdle o ≡ false → inMode m Idle o ≡ Idle → m ≡ Running
+by-mode : (m : Mode) (o : Outcome) → isIdle o ≡ false → cond (isRunning m) Idle o ≡ Idle → m ≡ Running
 unfolding isIdle
 by-mode Running o h e = refl
 by-mode Restarting o h e = absurd (true≢false (sym (ap isIdle e) ∙ h))
@@ -88,43 +113,6 @@ by-mode Restarting o h e = absurd (true≢false (sym (ap isIdle e) ∙ h))
 pub idle-running : (f : Timers → Timers) (t : Timers) → ordered f t ≡ Idle → t .mode ≡ Running
 unfolding ordered outcomeOf
 idle-running f t h = by-mode (t .mode) (outcomeOf t (f t) (closed f t)) (not-idle _ _ _) h
-
--- ---- the mode that a call tests
-
-module _ (h : Head) (e : ℕ → Entry) where
-  pub settles-running : (f : Timers → Timers) → h .mode ≡ Running → Settles f (timersOf h e) (timersOf h e) Idle
-  unfolding settled ordered timersOf
-  settles-running f k = record { timers = in-running _ _ k; outcome = in-running _ _ k }
-
-  pub settles-restarting : (f : Timers → Timers) (after : Timers) (o : Outcome) → h .mode ≡ Restarting → Closes f (timersOf h e) after o
-      → Settles f (timersOf h e) after o
-  unfolding settled ordered timersOf
-  settles-restarting f after o k c = record { timers = c .timers ∙ in-restarting _ _ k; outcome = c .outcome ∙ in-restarting _ _ k }
-
-  pub ticks-running : (s : Lengths) (clock : ℕ) → h .mode ≡ Running → Ticks s clock (timersOf h e) (timersOf h e) Idle (bits 0)
-  unfolding tickHellos timersOf
-  ticks-running s clock k =
-      record { settles = settles-running (toT3 s clock) k; hellos = bits-none (h .mask) e ∙ in-running _ _ k }
-
-  pub ticks-restarting : (s : Lengths) (clock : ℕ) (after : Timers) (o : Outcome) (hs : List Bool) → h .mode ≡ Restarting
-      → Closes (toT3 s clock) (timersOf h e) after o × (hs ≡ map (helloDue s clock) (joined (bits (h .mask)) e))
-      → Ticks s clock (timersOf h e) after o hs
-  unfolding tickHellos timersOf
-  ticks-restarting s clock after o hs k c =
-      record { settles = settles-restarting (toT3 s clock) after o k (c .0); hellos = c .1 ∙ in-restarting _ _ k }
-
-  pub hears-running : (clock i : ℕ) (l : Levels) (d : Heard) → h .mode ≡ Running
-      → Hears clock i l d (timersOf h e) (timersOf h e) Idle Kept
-  unfolding heardFreed timersOf
-  hears-running clock i l d k =
-      record { settles = settles-running (heardIn clock i l d) k; freed = in-running _ _ k }
-
-  pub hears-restarting : (clock i : ℕ) (l : Levels) (d : Heard) (after : Timers) (o : Outcome) (r : Freed) → h .mode ≡ Restarting
-      → Closes (heardIn clock i l d) (timersOf h e) after o × (r ≡ freedBy d (getD (joined (bits (h .mask)) e) i noT1))
-      → Hears clock i l d (timersOf h e) after o r
-  unfolding heardFreed timersOf
-  hears-restarting clock i l d after o r k c =
-      record { settles = settles-restarting (heardIn clock i l d) after o k (c .0); freed = c .1 ∙ in-restarting _ _ k }
 
 -- ---- the steps of a call
 
@@ -136,6 +124,18 @@ closes f t mid after o p q =
       timers = q .0 ∙ ap (λ (x : Timers). finish (cancelT2s x)) p;
       outcome = q .1 ∙ ap (λ (x : Timers). outcomeOf t x (finish (cancelT2s x))) p;
     }
+
+pub ticks : (s : Lengths) (clock : ℕ) (h : Head) (e : ℕ → Entry) (after : Timers) (o : Outcome) (hs : List Bool)
+    → Closes (toT3 s clock) (timersOf h e) after o → hs ≡ map (helloDue s clock) (joined (bits (h .mask)) e)
+    → Ticks s clock (timersOf h e) after o hs
+unfolding timersOf
+ticks s clock h e after o hs c d = record { closes = c; hellos = d }
+
+pub hears : (clock i : ℕ) (l : Levels) (d : Heard) (h : Head) (e : ℕ → Entry) (after : Timers) (o : Outcome) (r : Freed)
+    → Closes (heardIn clock i l d) (timersOf h e) after o → r ≡ freedBy d (getD (joined (bits (h .mask)) e) i noT1)
+    → Hears clock i l d (timersOf h e) after o r
+unfolding timersOf
+hears clock i l d h e after o r c f = record { closes = c; freed = f }
 
 pub count-of : (h : Head) (e : ℕ → Entry) → countTrue (bits (h .mask)) ≡ countRuns (timersOf h e .t1s)
 unfolding timersOf

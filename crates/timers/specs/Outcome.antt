@@ -4,7 +4,6 @@ use Prim.Native.Nat.{ℕ}
 use mathlib.Core.Bool.{Bool, true, false, cond, not, _&&_}
 use mathlib.Core.List.{List, map}
 use lib.ListN.{getD}
-use Rattle.settings.specs.Mode.{isRunning}
 use Rattle.basics.specs.declared.levels.Levels.{Levels}
 use Rattle.timer_parts.specs.T1.{helloDue, freedBy}
 use Rattle.timer_parts.specs.T2.{spfDue}
@@ -17,8 +16,8 @@ use Rattle.timers.specs.declared.outcome.Overload.{Overload}
 use Rattle.timers.specs.declared.outcome.Overload.the-variants.{Quiet, Set, Clear, Both}
 use Rattle.timers.specs.declared.outcome.Outcome.{Outcome}
 use Rattle.timers.specs.declared.outcome.Outcome.the-variants.{Idle, Goes, Ended}
+use Rattle.settings.specs.Mode.{isRunning}
 use Rattle.timers.specs.Timers.{Timers, closed, noT1}
-use Rattle.settings.specs.Mode.{inMode}
 
 unfoldable pub overloadOf : Bool → Bool → Overload
 overloadOf false false = Quiet
@@ -38,12 +37,12 @@ outcomeOf before mid after = outcomeWith (isRunning (after .mode)) (spfDue (befo
 
 -- of a call whose own step is f
 unfoldable pub ordered : (Timers → Timers) → Timers → Outcome
-ordered f t = inMode (t .mode) Idle (outcomeOf t (f t) (closed f t))
+ordered f t = cond (isRunning (t .mode)) Idle (outcomeOf t (f t) (closed f t))
 
 -- the hellos that a tick orders, circuit by circuit
 unfoldable pub tickHellos : Lengths → ℕ → Timers → List Bool
-tickHellos s clock t = inMode (t .mode) (map (λ x. false) (t .t1s)) (map (helloDue s clock) (t .t1s))
+tickHellos s clock t = cond (isRunning (t .mode)) (map (λ x. false) (t .t1s)) (map (helloDue s clock) (t .t1s))
 
 -- whether a hello on circuit i stopped its T1 for want of a Restart TLV
 unfoldable pub heardFreed : ℕ → Heard → Timers → Freed
-heardFreed i d t = inMode (t .mode) Kept (freedBy d (getD (t .t1s) i noT1))
+heardFreed i d t = cond (isRunning (t .mode)) Kept (freedBy d (getD (t .t1s) i noT1))

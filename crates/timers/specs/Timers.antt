@@ -4,7 +4,7 @@ use Prim.Native.Nat.{ℕ, suc, _+_}
 use mathlib.Core.Bool.{Bool, false, cond, _||_}
 use mathlib.Core.List.{List, [], _∷_, map}
 use lib.ListN.{getD, set}
-use Rattle.settings.specs.Mode.{inMode}
+use Rattle.settings.specs.Mode.{isRunning}
 use Rattle.basics.specs.declared.levels.Levels.{Levels}
 use Rattle.basics.specs.Levels.{Level, levelsWith}
 use Rattle.timer_parts.specs.T1.{startEntry, stopT1, tickT1, satisfied, noted, heardT1}
@@ -96,7 +96,7 @@ unfoldable pub closed : (Timers → Timers) → Timers → Timers
 closed f t = finish (cancelT2s (f t))
 
 unfoldable pub settled : (Timers → Timers) → Timers → Timers
-settled f t = inMode (t .mode) t (closed f t)
+settled f t = cond (isRunning (t .mode)) t (closed f t)
 
 -- A tick: "A tick works in this order: records, T1, T2 expiry, T2 cancelling, T3, T2 cancelling again." The last is that of every
 -- call; the records are the caller's.

@@ -1,5 +1,5 @@
 // Each call's share of the timers: start, tick, an accepted hello, the two notices, and the flags of the next hello. Circuits
-// count from 0 here. In the mode Running nothing changes and the outcome is Idle; refusals are the caller's.
+// count from 0 here. The mode is not Running; refusals are the caller's.
 use crate::entries::fill_entries;
 use crate::entries::load_t1;
 use crate::entries::store_t1;
@@ -26,15 +26,14 @@ use timer_parts::t2::start_t2s;
 use timer_parts::t3::T3;
 use timer_parts::t3::hear_t3;
 ghost use mathlib.Core.Path.{_≡_};
-ghost use mathlib.Core.List.{map};
 ghost use Prim.Native.Nat.{ℕ, _<_};
 ghost use lib.ListN.{length, getD};
 ghost use Rattle.basics.specs.Mask.{circuits, bits};
-ghost use Rattle.timer_parts.specs.T1.{helloDue, freedBy, helloFlags};
+ghost use Rattle.timer_parts.specs.T1.{helloFlags};
 ghost use Rattle.timer_parts.specs.declared.t1.Entry.{Entry};
-ghost use Rattle.timers.specs.Timers.{noT1, toT3, heardIn, csnpIn, noticeT2s};
-ghost use Rattle.timers.specs.Memory.{wordCount, timersOf, timersAt, t1sAt};
-ghost use Rattle.timers.specs.Events.{startHead, Starts, Closes, Settles, Ticks, Hears};
+ghost use Rattle.timers.specs.Timers.{noT1, csnpIn, noticeT2s};
+ghost use Rattle.timers.specs.Memory.{wordCount, timersOf, timersAt};
+ghost use Rattle.timers.specs.Events.{startHead, Starts, Closes, Ticks, Hears};
 
 // What setup gives to the timers: the mode, the lengths, the clock, the mask of the circuits that are there, and the levels that
 // are enabled on some circuit.
@@ -116,10 +115,10 @@ pub fn start_timers(words: &mut [u64], s: Start) -> Started
     }
 }
 
-fn tick_in(words: &mut [u64], h: Head, s: Lengths, clock: u32) -> Ticked
+// A tick, after its records.
+pub fn tick_timers(words: &mut [u64], h: Head, s: Lengths, clock: u32) -> Ticked
     requires { ⌜ length (now words) ≡ wordCount ⌝ }
-    ensures { λ r. ⌜ Closes (toT3 s clock) (timersAt h (now (words .entry))) (timersAt (r .head) (now (words .exit))) (r .outcome)
-        × (bits (r .hellos) ≡ map (helloDue s clock) (t1sAt (h .mask) (now (words .entry)))) ⌝ }
+    ensures { λ r. ⌜ Ticks s clock (timersAt h (now (words .entry))) (timersAt (r .head) (now (words .exit))) (r .outcome) (bits (r .hellos)) ⌝ }
 {
     let m = tick_t1s(words, h.mask, s, clock);
     let mask = m.mask;
@@ -135,26 +134,10 @@ fn tick_in(words: &mut [u64], h: Head, s: Lengths, clock: u32) -> Ticked
     }
 }
 
-// A tick, after its records.
-pub fn tick_timers(words: &mut [u64], h: Head, s: Lengths, clock: u32) -> Ticked
-    requires { ⌜ length (now words) ≡ wordCount ⌝ }
-    ensures { λ r. ⌜ Ticks s clock (timersAt h (now (words .entry))) (timersAt (r .head) (now (words .exit))) (r .outcome) (bits (r .hellos)) ⌝ }
-{
-    let mode = h.mode;
-    match mode {
-        Mode::Running => Ticked {
-            head: h,
-            hellos: 0,
-            outcome: Outcome::Idle,
-        },
-        Mode::Restarting => tick_in(words, h, s, clock),
-    }
-}
-
-fn hear_in(words: &mut [u64], h: Head, clock: u32, i: usize, l: Levels, d: Heard) -> Handled
+// An accepted hello on circuit i, which has the levels `l`.
+pub fn hear_hello(words: &mut [u64], h: Head, clock: u32, i: usize, l: Levels, d: Heard) -> Handled
     requires { ⌜ (length (now words) ≡ wordCount) × (i < circuits) ⌝ }
-    ensures { λ r. ⌜ Closes (heardIn clock i l d) (timersAt h (now (words .entry))) (timersAt (r .head) (now (words .exit))) (r .outcome)
-        × (r .freed ≡ freedBy d (getD (t1sAt (h .mask) (now (words .entry))) i noT1)) ⌝ }
+    ensures { λ r. ⌜ Hears clock i l d (timersAt h (now (words .entry))) (timersAt (r .head) (now (words .exit))) (r .outcome) (r .freed) ⌝ }
 {
     let m = h.mask;
     let x = h.t3;
@@ -173,23 +156,8 @@ fn hear_in(words: &mut [u64], h: Head, clock: u32, i: usize, l: Levels, d: Heard
     }
 }
 
-// An accepted hello on circuit i, which has the levels `l`.
-pub fn hear_hello(words: &mut [u64], h: Head, clock: u32, i: usize, l: Levels, d: Heard) -> Handled
-    requires { ⌜ (length (now words) ≡ wordCount) × (i < circuits) ⌝ }
-    ensures { λ r. ⌜ Hears clock i l d (timersAt h (now (words .entry))) (timersAt (r .head) (now (words .exit))) (r .outcome) (r .freed) ⌝ }
-{
-    let mode = h.mode;
-    match mode {
-        Mode::Running => Handled {
-            head: h,
-            outcome: Outcome::Idle,
-            freed: Freed::Kept,
-        },
-        Mode::Restarting => hear_in(words, h, clock, i, l, d),
-    }
-}
-
-fn csnp_in(words: &mut [u64], h: Head, i: usize, l: Levels, n: Levels) -> Noticed
+// The CSNP sets of the levels `n` are complete on circuit i, which has the levels `l`.
+pub fn notice_csnp(words: &mut [u64], h: Head, i: usize, l: Levels, n: Levels) -> Noticed
     requires { ⌜ (length (now words) ≡ wordCount) × (i < circuits) ⌝ }
     ensures { λ r. ⌜ Closes (csnpIn i l n) (timersAt h (now (words .entry))) (timersAt (r .head) (now (words .exit))) (r .outcome) ⌝ }
 {
@@ -203,42 +171,14 @@ fn csnp_in(words: &mut [u64], h: Head, i: usize, l: Levels, n: Levels) -> Notice
     Noticed { head, outcome }
 }
 
-// The CSNP sets of the levels `n` are complete on circuit i, which has the levels `l`.
-pub fn notice_csnp(words: &mut [u64], h: Head, i: usize, l: Levels, n: Levels) -> Noticed
-    requires { ⌜ (length (now words) ≡ wordCount) × (i < circuits) ⌝ }
-    ensures { λ r. ⌜ Settles (csnpIn i l n) (timersAt h (now (words .entry))) (timersAt (r .head) (now (words .exit))) (r .outcome) ⌝ }
-{
-    let mode = h.mode;
-    match mode {
-        Mode::Running => Noticed {
-            head: h,
-            outcome: Outcome::Idle,
-        },
-        Mode::Restarting => csnp_in(words, h, i, l, n),
-    }
-}
-
-fn database_in(h: Head, n: Levels) -> Noticed
+// The databases of the levels `n` are complete. No entry changes.
+pub fn notice_database(h: Head, n: Levels) -> Noticed
     ensures { λ r. ⌜ ((e : ℕ → Entry) → Closes (noticeT2s n) (timersOf h e) (timersOf (r .head) e) (r .outcome)) ⌝ }
 {
     let end = settle(h, notice_t2s(n, h));
     let head = end.head;
     let outcome = end.outcome;
     Noticed { head, outcome }
-}
-
-// The databases of the levels `n` are complete. No entry changes.
-pub fn notice_database(h: Head, n: Levels) -> Noticed
-    ensures { λ r. ⌜ ((e : ℕ → Entry) → Settles (noticeT2s n) (timersOf h e) (timersOf (r .head) e) (r .outcome)) ⌝ }
-{
-    let mode = h.mode;
-    match mode {
-        Mode::Running => Noticed {
-            head: h,
-            outcome: Outcome::Idle,
-        },
-        Mode::Restarting => database_in(h, n),
-    }
 }
 
 // The flags of the next hello on circuit i.

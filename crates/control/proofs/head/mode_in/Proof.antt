@@ -1,4 +1,4 @@
--- The digit is 0 or not.
+-- The digit is 1 or not.
 use borrow.Author.Tests.{eq-eqb, ne-eqb}
 use Rattle.control.proofs.head.mode_in.Statement.{statement}
 use Rattle.control.proofs.head.mode_in.Tie as tie

@@ -14,7 +14,7 @@ mode-in-requires : tie.Need-mode-in-requires
 mode-in-requires c κs = search needs
 
 returns : tie.Need-returns
-returns c = c .mode-in .ensures ∙ ap (λ (w : ℕ). modeIn (w % 2)) (c .before .marked-at .ensures) ∙ mode-at _
+returns c = c .mode-in .ensures ∙ ap (λ (w : ℕ). modeIn (w % 4)) (c .before .marked-at .ensures) ∙ mode-at _
 
 pub mode-of-spec : {M : Type 1} → statement M
 mode-of-spec = tie.close (tie.spec marked-at-requires mode-in-requires returns)

@@ -4,6 +4,7 @@ use native.Mathlib.Omega.{arith}
 use borrow.Rule.Slice.PartMut.{mid-len}
 use Rattle.control.proofs.TimingLaws.{length-put, mark-put, put-stored}
 use Rattle.control.proofs.SetupLaws.{all-set, sets-up}
+use Rattle.control.specs.Words.{entriesPlace, entriesEnd}
 use borrow.Author.Needs.{needs}
 use Rattle.control.proofs.setup.set_up.Statement.{statement}
 use Rattle.control.proofs.setup.set_up.Tie as tie
@@ -33,13 +34,13 @@ start-timers-requires : tie.Need-start-timers-requires
 start-timers-requires c κs = search needs
 
 store-head-requires : tie.Need-store-head-requires
-store-head-requires c κs = let m = c .before .before .before .before .before .before .before .before .before .before .before .store-settings in let len = m .kept .0 ∙ c .before .before .before .before .before .before .before .before .before .before .before .before .before .before .before .store-circuits .kept .0 ∙ c .before .before .before .before .before .before .before .before .before .before .before .before .before .before .before .before .before .before .before .before .pre .0 in let x = c .before .before .before .before .start-timers in let t = x .kept .0 ∙ mid-len 16 32 (m .last .0) (omega (arith, len)) in (length-put (m .last .0) (x .last .0) len t, mark-put (m .last .0) (x .last .0) len t (m .ensures .marked))
+store-head-requires c κs = let m = c .before .before .before .before .before .before .before .before .before .before .before .store-settings in let len = m .kept .0 ∙ c .before .before .before .before .before .before .before .before .before .before .before .before .before .before .before .store-circuits .kept .0 ∙ c .before .before .before .before .before .before .before .before .before .before .before .before .before .before .before .before .before .before .before .before .pre .0 in let x = c .before .before .before .before .start-timers in let t = x .kept .0 ∙ mid-len entriesPlace entriesEnd (m .last .0) (omega (arith, len)) in (length-put (m .last .0) (x .last .0) len t, mark-put (m .last .0) (x .last .0) len t (m .ensures .marked))
 
 same-length : tie.Need-same-length
 same-length c = search needs
 
 returns : tie.Need-returns
-returns c = let s = c .before .before .before .before .before .before .before .before .before .before .before .before .before .before .before .before .before .before .before .before .before .before .before in let m = c .before .before .before .before .before .before .before .before .before .before .before .before .before .before .store-settings in let n = c .before .before .before .before .before .before .before .before .before .before .before .before .before .before .before .before .before .before .store-circuits in let len = m .kept .0 ∙ n .kept .0 ∙ s .pre .0 in let x = c .before .before .before .before .before .before .before .start-timers in let t = x .kept .0 ∙ mid-len 16 32 (m .last .0) (omega (arith, len)) in let y = c .before .before .store-head in sets-up (s .args .s) (s .pre .1) (n .last .0) (m .last .0) _ (y .last .0) _ _ (all-set (s .args .s) (s .pre .1) (n .last .0) (m .last .0) _ (n .ensures) (m .ensures) refl refl refl (c .before .before .before .before .before .before .before .before .before .present-of .ensures) (c .before .before .before .before .before .before .before .before .before .before .levels-of .ensures)) (put-stored (m .last .0) (x .last .0) len t (y .last .0) _ (y .ensures)) (x .ensures)
+returns c = let s = c .before .before .before .before .before .before .before .before .before .before .before .before .before .before .before .before .before .before .before .before .before .before .before in let m = c .before .before .before .before .before .before .before .before .before .before .before .before .before .before .store-settings in let n = c .before .before .before .before .before .before .before .before .before .before .before .before .before .before .before .before .before .before .store-circuits in let len = m .kept .0 ∙ n .kept .0 ∙ s .pre .0 in let x = c .before .before .before .before .before .before .before .start-timers in let t = x .kept .0 ∙ mid-len entriesPlace entriesEnd (m .last .0) (omega (arith, len)) in let y = c .before .before .store-head in sets-up (s .args .s) (s .pre .1) (n .last .0) (m .last .0) _ (y .last .0) _ _ (all-set (s .args .s) (s .pre .1) (n .last .0) (m .last .0) _ (n .ensures) (m .ensures) refl refl refl (c .before .before .before .before .before .before .before .before .before .present-of .ensures) (c .before .before .before .before .before .before .before .before .before .before .levels-of .ensures)) (put-stored (m .last .0) (x .last .0) len t (y .last .0) _ (y .ensures)) (x .ensures)
 
 pub set-up-spec : {M : Type 1} → statement M
 set-up-spec =

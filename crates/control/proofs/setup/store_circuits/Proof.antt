@@ -1,19 +1,20 @@
 -- The invariant: the circuits before i are stored.
 use native.Mathlib.Omega.{arith}
+use Rattle.basics.specs.Mask.{circuits}
 use borrow.Author.Needs.{needs}
 use mathlib.Core.Path.{_≡_, _∙_}
 use Prim.Native.Nat.{_-_, _≤_}
 use lib.ListN.{length}
-use Rattle.control.specs.Words.{commonWords}
+use Rattle.control.specs.Words.{controlWords}
 use Rattle.control.proofs.SetupLaws.{Stored, stored-step, stored-all}
 use Rattle.control.proofs.setup.store_circuits.Statement.{statement}
 use Rattle.control.proofs.setup.store_circuits.Tie as tie
 
 abbrev Inv-loop : tie.InvT-loop
-Inv-loop words₀ all i₀ words i = (i ≤ 8) × (length words ≡ commonWords) × Stored words all i
+Inv-loop words₀ all i₀ words i = (i ≤ circuits) × (length words ≡ controlWords) × Stored words all i
 
 abbrev μ-loop : tie.MeasureT-loop
-μ-loop words₀ all i₀ words i = 8 - i
+μ-loop words₀ all i₀ words i = circuits - i
 
 loop-holds : tie.Need-loop-holds Inv-loop μ-loop
 loop-holds c = (omega arith, c .before .pre, λ j lt. absurd (omega arith))

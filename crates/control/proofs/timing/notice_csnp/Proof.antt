@@ -1,43 +1,46 @@
--- The mode decides; while it is Running nothing is written.
-use mathlib.Core.Path.{sym, _∙_}
-use Rattle.control.proofs.TimingLaws.{settles-still}
+-- As for a hello.
+use mathlib.Core.Path.{_∙_}
+use native.Mathlib.Omega.{arith}
+use borrow.Rule.Slice.PartMut.{mid-len}
+use Rattle.control.proofs.TimingLaws.{on-marked, length-put, mark-put, put-stored, settles-here}
+use Rattle.control.specs.Words.{entriesPlace, entriesEnd}
 use borrow.Author.Needs.{needs}
 use Rattle.control.proofs.timing.notice_csnp.Statement.{statement}
 use Rattle.control.proofs.timing.notice_csnp.Tie as tie
 
-mode-of-requires : tie.Need-mode-of-requires
-mode-of-requires c κs = search needs
+load-head-requires : tie.Need-load-head-requires
+load-head-requires c κs = search needs
 
-enum-told : tie.Need-enum-told
-enum-told c = search needs
+sub-notice-csnp : tie.Need-sub-notice-csnp
+sub-notice-csnp c = search needs
 
-enum-told-2 : tie.Need-enum-told-2
-enum-told-2 c = search needs
+part-notice-csnp-start : tie.Need-part-notice-csnp-start
+part-notice-csnp-start c = search needs
 
-csnp-in-requires : tie.Need-csnp-in-requires
-csnp-in-requires c κs = let s = c .before .before .before .before .before .before in (s .pre .0, s .pre .1, sym (c .before .before .before .mode-of .ensures) ∙ c .before .enum-told2 .given .1)
+part-notice-csnp-end : tie.Need-part-notice-csnp-end
+part-notice-csnp-end c = search needs
+
+notice-csnp-requires : tie.Need-notice-csnp-requires
+notice-csnp-requires c κs = search needs
+
+store-head-requires : tie.Need-store-head-requires
+store-head-requires c κs = let s = c .before .before .before .before .before .before .before .before .before in let ws = s .args .words .now in let x = c .before .before .before .before .notice-csnp in let t = x .kept .0 ∙ mid-len entriesPlace entriesEnd ws (omega (arith, s .pre .0)) in (length-put ws (x .last .0) (s .pre .0) t, mark-put ws (x .last .0) (s .pre .0) t (on-marked ws (s .pre .2)))
 
 same-length : tie.Need-same-length
 same-length c = search needs
 
 returns : tie.Need-returns
-returns c = settles-still (c .before .before .before .before .before .args .words .now) (sym (c .before .before .mode-of .ensures) ∙ c .enum-told .given .1) _
-
-same-length-2 : tie.Need-same-length-2
-same-length-2 c = search needs
-
-returns-2 : tie.Need-returns-2
-returns-2 c = search needs
+returns c = let s = c .before .before .before .before .before .before .before .before .before .before .before .before in let ws = s .args .words .now in let x = c .before .before .before .before .before .before .before .notice-csnp in let t = x .kept .0 ∙ mid-len entriesPlace entriesEnd ws (omega (arith, s .pre .0)) in let y = c .before .before .store-head in settles-here ws (y .last .0) _ (put-stored ws (x .last .0) (s .pre .0) t (y .last .0) _ (y .ensures)) (s .pre .2) (c .before .before .before .before .before .before .before .before .before .load-head .result) (c .before .before .before .before .before .before .before .before .before .load-head .ensures) _ _ (x .ensures)
 
 pub notice-csnp-spec : {M : Type 1} → statement M
 notice-csnp-spec =
     tie.close
     (tie.spec
-    mode-of-requires
-    enum-told
-    enum-told-2
-    csnp-in-requires
+    load-head-requires
+    sub-notice-csnp
+    part-notice-csnp-start
+    part-notice-csnp-end
+    notice-csnp-requires
+    store-head-requires
     same-length
-    returns
-    same-length-2
-    returns-2)
+    returns)

@@ -1,43 +1,27 @@
--- The mode decides; while it is Running nothing is written.
-use mathlib.Core.Path.{sym, _∙_}
-use Rattle.control.proofs.TimingLaws.{settles-still}
+-- The head alone is stored.
+use Rattle.control.specs.Words.{entriesOf}
+use Rattle.timers.specs.Memory.{entryAt}
+use Rattle.control.proofs.TimingLaws.{on-marked, settles-here}
 use borrow.Author.Needs.{needs}
 use Rattle.control.proofs.timing.notice_database.Statement.{statement}
 use Rattle.control.proofs.timing.notice_database.Tie as tie
 
-mode-of-requires : tie.Need-mode-of-requires
-mode-of-requires c κs = search needs
+load-head-requires : tie.Need-load-head-requires
+load-head-requires c κs = search needs
 
-enum-told : tie.Need-enum-told
-enum-told c = search needs
+notice-database-requires : tie.Need-notice-database-requires
+notice-database-requires c κs = search needs
 
-enum-told-2 : tie.Need-enum-told-2
-enum-told-2 c = search needs
-
-database-in-requires : tie.Need-database-in-requires
-database-in-requires c κs = let s = c .before .before .before .before .before .before in (s .pre, sym (c .before .before .before .mode-of .ensures) ∙ c .before .enum-told2 .given .1)
+store-head-requires : tie.Need-store-head-requires
+store-head-requires c κs = let s = c .before .before .before .before .before .before in (s .pre .0, on-marked (s .args .words .now) (s .pre .1))
 
 same-length : tie.Need-same-length
 same-length c = search needs
 
 returns : tie.Need-returns
-returns c = settles-still (c .before .before .before .before .before .args .words .now) (sym (c .before .before .mode-of .ensures) ∙ c .enum-told .given .1) _
-
-same-length-2 : tie.Need-same-length-2
-same-length-2 c = search needs
-
-returns-2 : tie.Need-returns-2
-returns-2 c = search needs
+returns c = let s = c .before .before .before .before .before .before .before .before .before in let ws = s .args .words .now in let y = c .before .before .store-head in settles-here ws (y .last .0) _ (y .ensures) (s .pre .1) (c .before .before .before .before .before .before .load-head .result) (c .before .before .before .before .before .before .load-head .ensures) _ _ (c .before .before .before .before .before .notice-database .ensures (entryAt (entriesOf ws)))
 
 pub notice-database-spec : {M : Type 1} → statement M
 notice-database-spec =
     tie.close
-    (tie.spec
-    mode-of-requires
-    enum-told
-    enum-told-2
-    database-in-requires
-    same-length
-    returns
-    same-length-2
-    returns-2)
+    (tie.spec load-head-requires notice-database-requires store-head-requires same-length returns)

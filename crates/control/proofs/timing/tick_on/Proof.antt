@@ -1,5 +1,6 @@
--- The mode decides; while it is Running nothing is written.
-use mathlib.Core.Path.{sym, _∙_}
+-- While the mode is Running nothing is written.
+use Rattle.settings.specs.Mode.{isRunning}
+use mathlib.Core.Path.{sym, ap, _∙_}
 use Rattle.control.proofs.TimingLaws.{ticks-still}
 use borrow.Author.Needs.{needs}
 use Rattle.control.proofs.timing.tick_on.Statement.{statement}
@@ -8,20 +9,17 @@ use Rattle.control.proofs.timing.tick_on.Tie as tie
 mode-of-requires : tie.Need-mode-of-requires
 mode-of-requires c κs = search needs
 
-enum-told : tie.Need-enum-told
-enum-told c = search needs
-
-enum-told-2 : tie.Need-enum-told-2
-enum-told-2 c = search needs
-
-tick-in-requires : tie.Need-tick-in-requires
-tick-in-requires c κs = let s = c .before .before .before .before .before .before in (s .pre, sym (c .before .before .before .mode-of .ensures) ∙ c .before .enum-told2 .given .1)
+is-running-requires : tie.Need-is-running-requires
+is-running-requires c κs = search needs
 
 same-length : tie.Need-same-length
 same-length c = search needs
 
 returns : tie.Need-returns
-returns c = ticks-still (c .before .before .before .before .before .args .words .now) (sym (c .before .before .mode-of .ensures) ∙ c .enum-told .given .1) _
+returns c = let m = c .before .before .mode-of in ticks-still (c .before .before .before .before .before .args .words .now) (sym (ap isRunning (m .ensures)) ∙ sym (c .before .is-running .ensures) ∙ c .if1 .taken) _
+
+tick-in-requires : tie.Need-tick-in-requires
+tick-in-requires c κs = (c .before .before .before .before .before .before .pre, sym (ap isRunning (c .before .before .before .mode-of .ensures)) ∙ sym (c .before .before .is-running .ensures) ∙ c .before .if1 .left)
 
 same-length-2 : tie.Need-same-length-2
 same-length-2 c = search needs
@@ -34,10 +32,9 @@ tick-on-spec =
     tie.close
     (tie.spec
     mode-of-requires
-    enum-told
-    enum-told-2
-    tick-in-requires
+    is-running-requires
     same-length
     returns
+    tick-in-requires
     same-length-2
     returns-2)

@@ -7,7 +7,7 @@ use lib.ListN.{drop}
 use Rattle.basics.specs.Levels.{union}
 use Rattle.settings.proofs.SettingsLaws.{enabled-start, enabled-end}
 use Rattle.settings.specs.Settings.{enabledLevels}
-use Rattle.control.specs.Common.{commonOf}
+use Rattle.control.specs.Words.{commonOf}
 use Rattle.control.proofs.CommonLaws.{circuits-length, levels-step}
 use Rattle.control.proofs.words.levels_of.Statement.{statement}
 use Rattle.control.proofs.words.levels_of.Tie as tie

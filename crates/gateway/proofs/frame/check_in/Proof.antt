@@ -33,8 +33,8 @@ returns c = let a = c .before .before .before .before .before .before .before .b
 six-requires : tie.Need-six-requires
 six-requires c κs = search needs
 
-settle-in-requires : tie.Need-settle-in-requires
-settle-in-requires c κs = search needs
+decide-in-requires : tie.Need-decide-in-requires
+decide-in-requires c κs = search needs
 
 same-length-2 : tie.Need-same-length-2
 same-length-2 c = search needs
@@ -44,7 +44,7 @@ same-length-3 c = search needs
 
 returns-2 : tie.Need-returns-2
 returns-2 c = let a = c .before .before .before .before .before .before .before .before .before .before .before .before .before .before .before .before .before .args in
-    along (source-right (a .gateway .now) (a .n) (a .s) (big 6 (a .source .now) 0) (a .frame) (a .reply .now) _ (c .before .before .before .before .before .before .before .before .before .before .system-of .ensures) _ (c .before .before .before .before .before .before .before .six .ensures) (sym (c .before .before .before .before .before .before .before .before .before .is-wrong-source .ensures) ∙ c .before .before .before .before .before .before .before .before .if1 .left)) (c .before .before .before .before .settle-in .ensures)
+    along (source-right (a .gateway .now) (a .n) (a .s) (big 6 (a .source .now) 0) (a .frame) (a .reply .now) _ (c .before .before .before .before .before .before .before .before .before .before .system-of .ensures) _ (c .before .before .before .before .before .before .before .six .ensures) (sym (c .before .before .before .before .before .before .before .before .before .is-wrong-source .ensures) ∙ c .before .before .before .before .before .before .before .before .if1 .left)) (c .before .before .before .before .decide-in .ensures)
 
 pub check-in-spec : {M : Type 1} → statement M
 check-in-spec =
@@ -58,7 +58,7 @@ check-in-spec =
     same-length
     returns
     six-requires
-    settle-in-requires
+    decide-in-requires
     same-length-2
     same-length-3
     returns-2)

@@ -1,19 +1,24 @@
--- Refusal 1 for the level, 11, or the common words put back.
+-- Refusal 1 for the level, 11, or the control words put back.
+use Rattle.basics.specs.Lists.{part}
+use Rattle.control.specs.Words.{controlWords, commonOf}
 use Rattle.gateway.proofs.CallLaws.{csnp-off, csnp-outside, csnp-taken}
 use Rattle.gateway.proofs.WordLaws.{along, refuses}
 use Rattle.basics.specs.declared.refusal.Refusal.the-variants.{NoCircuit, NotRestarting}
-use Prim.Native.Nat.{_-_}
+use borrow.Author.Tests.{not-true, not-false}
+use Rattle.settings.specs.Mode.{isRestarting}
+use Rattle.settings.proofs.ModeLaws.{restarting-on}
 use native.Mathlib.Omega.{arith}
-use mathlib.Core.Path.{sym, _∙_}
+use mathlib.Core.Path.{sym, ap, _∙_}
+use Prim.Native.Nat.{_-_}
 use borrow.Author.Needs.{needs}
 use Rattle.gateway.proofs.notices.csnp_on.Statement.{statement}
 use Rattle.gateway.proofs.notices.csnp_on.Tie as tie
 
-only-level-requires : tie.Need-only-level-requires
-only-level-requires c κs = search needs
-
 has-level-requires : tie.Need-has-level-requires
 has-level-requires c κs = search needs
+
+returns : tie.Need-returns
+returns c = let a = c .before .before .before .before .args in along (csnp-off (a .gateway .now) (a .n) (c .before .before .before .before .pre .0) (a .s) (a .level) (sym (c .before .has-level .ensures) ∙ not-true _ (c .if1 .taken))) (refuses (a .gateway .now) (a .n) _ NoCircuit)
 
 sub-mode-of : tie.Need-sub-mode-of
 sub-mode-of c = search needs
@@ -27,17 +32,17 @@ part-mode-of-end c = search needs
 mode-of-requires : tie.Need-mode-of-requires
 mode-of-requires c κs = search needs
 
-enum-told : tie.Need-enum-told
-enum-told c = search needs
-
-enum-told-2 : tie.Need-enum-told-2
-enum-told-2 c = search needs
+is-restarting-requires : tie.Need-is-restarting-requires
+is-restarting-requires c κs = search needs
 
 same-length : tie.Need-same-length
 same-length c = search needs
 
-returns : tie.Need-returns
-returns c = let s = c .before .before .before .before .before .before .before .before .before .before in let a = s .args in along (csnp-outside (a .gateway .now) (a .n) (s .pre .0) (a .s) (a .level) (sym (c .before .before .before .before .before .before .has-level .ensures) ∙ c .before .before .before .before .before .if1 .taken) (sym (c .before .before .mode-of .ensures) ∙ c .enum-told2 .given .1)) (refuses (a .gateway .now) (a .n) _ NotRestarting)
+returns-2 : tie.Need-returns-2
+returns-2 c = let a = c .before .before .before .before .before .before .before .before .before .args in along (csnp-outside (a .gateway .now) (a .n) (c .before .before .before .before .before .before .before .before .before .pre .0) (a .s) (a .level) (sym (c .before .before .before .before .before .before .has-level .ensures) ∙ not-false _ (c .before .before .before .before .before .if1 .left)) (sym (ap isRestarting (c .before .before .mode-of .ensures)) ∙ sym (c .before .is-restarting .ensures) ∙ not-true _ (c .if2 .taken))) (refuses (a .gateway .now) (a .n) _ NotRestarting)
+
+only-level-requires : tie.Need-only-level-requires
+only-level-requires c κs = search needs
 
 sub-i : tie.Need-sub-i
 sub-i c = search needs
@@ -52,36 +57,32 @@ part-notice-csnp-end : tie.Need-part-notice-csnp-end
 part-notice-csnp-end c = search needs
 
 notice-csnp-requires : tie.Need-notice-csnp-requires
-notice-csnp-requires c κs = search needs
+notice-csnp-requires c κs = (omega (arith, c .before .before .before .before .before .before .before .before .before .before .before .pre .0), omega (arith, c .before .before .before .before .before .before .before .before .before .before .before .pre .1, c .before .before .before .before .before .before .before .before .before .before .before .pre .2), restarting-on (commonOf (part 0 controlWords (c .before .before .before .before .before .before .before .before .before .before .before .args .gateway .now)) .timers .mode) (sym (ap isRestarting (c .before .before .before .before .mode-of .ensures)) ∙ sym (c .before .before .before .is-restarting .ensures) ∙ not-false _ (c .before .before .if2 .left)))
 
 same-length-2 : tie.Need-same-length-2
 same-length-2 c = search needs
 
-returns-2 : tie.Need-returns-2
-returns-2 c = let s = c .before .before .before .before .before .before .before .before .before .before .before .before .before .before in let a = s .args in let x = c .before .before .notice-csnp in csnp-taken (a .gateway .now) (a .n) (s .pre .0) (a .s) (a .level) (sym (c .before .before .before .before .before .before .before .before .before .before .has-level .ensures) ∙ c .before .before .before .before .before .before .before .before .before .if1 .taken) (sym (c .before .before .before .before .before .before .mode-of .ensures) ∙ c .before .before .before .before .enum-told .given .1) _ (c .before .before .before .before .before .before .before .before .before .before .before .only-level .ensures) (x .last .0) (omega (arith, x .kept .0)) _ (x .ensures)
-
 returns-3 : tie.Need-returns-3
-returns-3 c = let s = c .before .before .before .before .before in let a = s .args in along (csnp-off (a .gateway .now) (a .n) (s .pre .0) (a .s) (a .level) (sym (c .before .has-level .ensures) ∙ c .if1 .left)) (refuses (a .gateway .now) (a .n) _ NoCircuit)
+returns-3 c = let a = c .before .before .before .before .before .before .before .before .before .before .before .before .before .before .args in let x = c .before .before .notice-csnp in csnp-taken (a .gateway .now) (a .n) (c .before .before .before .before .before .before .before .before .before .before .before .before .before .before .pre .0) (a .s) (a .level) (sym (c .before .before .before .before .before .before .before .before .before .before .before .has-level .ensures) ∙ not-false _ (c .before .before .before .before .before .before .before .before .before .before .if1 .left)) (sym (ap isRestarting (c .before .before .before .before .before .before .before .mode-of .ensures)) ∙ sym (c .before .before .before .before .before .before .is-restarting .ensures) ∙ not-false _ (c .before .before .before .before .before .if2 .left)) _ (c .before .before .before .before .only-level .ensures) (x .last .0) (omega (arith, x .kept .0)) _ (x .ensures)
 
 pub csnp-on-spec : {M : Type 1} → statement M
 csnp-on-spec =
     tie.close
     (tie.spec
-    only-level-requires
     has-level-requires
+    returns
     sub-mode-of
     part-mode-of-start
     part-mode-of-end
     mode-of-requires
-    enum-told
-    enum-told-2
+    is-restarting-requires
     same-length
-    returns
+    returns-2
+    only-level-requires
     sub-i
     sub-notice-csnp
     part-notice-csnp-start
     part-notice-csnp-end
     notice-csnp-requires
     same-length-2
-    returns-2
     returns-3)

@@ -1,4 +1,5 @@
 -- The invariant: what is read before i and what is still to read make all.
+use Rattle.basics.specs.Mask.{circuits}
 use Rattle.gateway.proofs.CallLaws.{copy-step, gather-end}
 use Rattle.gateway.specs.Setup.{circuitGiven}
 use lib.ListN.{length, take, drop, length-set}
@@ -11,10 +12,10 @@ use Rattle.gateway.proofs.setup.circuits_given.Statement.{statement}
 use Rattle.gateway.proofs.setup.circuits_given.Tie as tie
 
 abbrev Inv-loop : tie.InvT-loop
-Inv-loop all read₀ i₀ read i = (i ≤ 8) × (length read ≡ 8) × (take i read ++ map circuitGiven (drop i all) ≡ map circuitGiven all)
+Inv-loop all read₀ i₀ read i = (i ≤ circuits) × (length read ≡ circuits) × (take i read ++ map circuitGiven (drop i all) ≡ map circuitGiven all)
 
 abbrev μ-loop : tie.MeasureT-loop
-μ-loop all read₀ i₀ read i = 8 - i
+μ-loop all read₀ i₀ read i = circuits - i
 
 array-copy-out-circuit-given : tie.Need-array-copy-out-circuit-given Inv-loop μ-loop
 array-copy-out-circuit-given c = search needs
@@ -47,11 +48,11 @@ loop-less : tie.Need-loop-less Inv-loop μ-loop
 loop-less c = omega arith
 
 loop-again : tie.Need-loop-again Inv-loop μ-loop
-loop-again c = let l = c .before .before .before .loop in let all = c .before .before .before .before .before .before .args .t1 in let la : length all ≡ 8 = search needs in
+loop-again c = let l = c .before .before .before .loop in let all = c .before .before .before .before .before .before .args .t1 in let la : length all ≡ circuits = search needs in
     (omega arith, simp length-set (l .inv .1), copy-step _ circuitGiven (l .read) all (l .i) _ (omega arith) (omega arith) (c .circuit-given2 .ensures) ∙ l .inv .2)
 
 returns : tie.Need-returns Inv-loop μ-loop
-returns c = let l = c .before .loop in let all = c .before .before .before .before .args .t1 in let la : length all ≡ 8 = search needs in
+returns c = let l = c .before .loop in let all = c .before .before .before .before .args .t1 in let la : length all ≡ circuits = search needs in
     gather-end circuitGiven (l .read) all (l .i) (omega arith) (omega arith) ∙ l .inv .2
 
 pub circuits-given-spec : {M : Type 1} → statement M

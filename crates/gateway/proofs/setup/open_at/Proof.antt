@@ -1,4 +1,6 @@
 -- The room's words put back are an empty room.
+use Rattle.slots.specs.Slots.{roomWords}
+use Rattle.control.specs.Words.{controlWords}
 use Rattle.gateway.proofs.SetupLaws.{opened}
 use borrow.Rule.Slice.PartMut.{mid-len}
 use mathlib.Core.Path.{_∙_}
@@ -36,7 +38,7 @@ same-length : tie.Need-same-length
 same-length c = search needs
 
 returns : tie.Need-returns
-returns c = let s = c .before .before .before .before .before in let a = s .args in let x = c .before .before .open-room in let at = 128 + 64 * a .i in opened (a .gateway .now) (x .last .0) (a .i) (a .s) (s .pre .0) (s .pre .1) (x .kept .0 ∙ mid-len at (at + 64) (a .gateway .now) (omega (arith, s .pre .0))) (x .ensures)
+returns c = let s = c .before .before .before .before .before in let a = s .args in let x = c .before .before .open-room in let at = controlWords + roomWords * a .i in opened (a .gateway .now) (x .last .0) (a .i) (a .s) (s .pre .0) (s .pre .1) (x .kept .0 ∙ mid-len at (at + roomWords) (a .gateway .now) (omega (arith, s .pre .0))) (x .ensures)
 
 pub open-at-spec : {M : Type 1} → statement M
 open-at-spec =

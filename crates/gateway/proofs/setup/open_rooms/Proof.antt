@@ -1,4 +1,5 @@
 -- The invariant: the rooms opened before i and those still to open make all.
+use Rattle.basics.specs.Mask.{circuits}
 use Rattle.gateway.proofs.CallLaws.{copy-step, gather-end}
 use Rattle.gateway.proofs.WordLaws.{length-rooms}
 use Rattle.gateway.specs.Words.{gatewayWords, gatewayOf}
@@ -14,11 +15,11 @@ use Rattle.gateway.proofs.setup.open_rooms.Tie as tie
 
 abbrev Inv-loop : tie.InvT-loop
 Inv-loop gateway₀ all i₀ gateway i =
-    (i ≤ 8) × (length gateway ≡ gatewayWords)
+    (i ≤ circuits) × (length gateway ≡ gatewayWords)
     × (withRooms (gatewayOf gateway) (take i (gatewayOf gateway .rooms) ++ map newRoom (drop i all)) ≡ withRooms (gatewayOf gateway₀) (map newRoom all))
 
 abbrev μ-loop : tie.MeasureT-loop
-μ-loop gateway₀ all i₀ gateway i = 8 - i
+μ-loop gateway₀ all i₀ gateway i = circuits - i
 
 loop-holds : tie.Need-loop-holds Inv-loop μ-loop
 loop-holds c = (omega arith, c .before .pre, refl)
@@ -39,14 +40,14 @@ loop-less : tie.Need-loop-less Inv-loop μ-loop
 loop-less c = omega arith
 
 loop-again : tie.Need-loop-again Inv-loop μ-loop
-loop-again c = let l = c .before .before .before .before .before .before .loop in let all = c .before .before .before .before .before .before .before .before .args .t2 in let la : length all ≡ 8 = search needs in let g = gatewayOf (l .gateway) in let lr = length-rooms (l .gateway) in let x = c .before .before .open-at in
+loop-again c = let l = c .before .before .before .before .before .before .loop in let all = c .before .before .before .before .before .before .before .before .args .t2 in let la : length all ≡ circuits = search needs in let g = gatewayOf (l .gateway) in let lr = length-rooms (l .gateway) in let x = c .before .before .open-at in
     (omega arith, x .kept .0 ∙ l .inv .1, rw (x .ensures) (ap (withRooms g) (copy-step _ newRoom (g .rooms) all (l .i) _ (omega arith) (omega arith) refl) ∙ l .inv .2))
 
 same-length : tie.Need-same-length Inv-loop μ-loop
 same-length c = c .before .loop .inv .1 ∙ sym (c .before .before .before .pre)
 
 returns : tie.Need-returns Inv-loop μ-loop
-returns c = let l = c .before .loop in let all = c .before .before .before .args .t2 in let la : length all ≡ 8 = search needs in let g = gatewayOf (l .gateway) in let lr = length-rooms (l .gateway) in
+returns c = let l = c .before .loop in let all = c .before .before .before .args .t2 in let la : length all ≡ circuits = search needs in let g = gatewayOf (l .gateway) in let lr = length-rooms (l .gateway) in
     ap (withRooms g) (gather-end newRoom (g .rooms) all (l .i) (omega arith) (omega arith)) ∙ l .inv .2
 
 pub open-rooms-spec : {M : Type 1} → statement M

@@ -1,4 +1,5 @@
 -- Refusal 12, or the common words and then the rooms.
+use Rattle.control.specs.Words.{controlWords}
 use Rattle.gateway.proofs.SetupLaws.{set-up-refused, set-up-done}
 use Rattle.settings.proofs.SettingsLaws.{count-in-range}
 use lib.Seq.{length-take-le}
@@ -21,7 +22,7 @@ part-set-up-end : tie.Need-part-set-up-end
 part-set-up-end c = search needs
 
 set-up-requires : tie.Need-set-up-requires
-set-up-requires c κs = let s = c .before .before .before .before .before in (length-take-le 128 (s .args .gateway .now) (omega (arith, s .pre)), count-in-range (s .args .s) (sym (c .before .before .are-settings-ok .ensures) ∙ c .before .if1 .taken) .1)
+set-up-requires c κs = let s = c .before .before .before .before .before in (length-take-le controlWords (s .args .gateway .now) (omega (arith, s .pre)), count-in-range (s .args .s) (sym (c .before .before .are-settings-ok .ensures) ∙ c .before .if1 .taken) .1)
 
 open-rooms-requires : tie.Need-open-rooms-requires
 open-rooms-requires c κs = search needs

@@ -1,5 +1,6 @@
 -- The System ID and the circuits are read.
 use borrow.Author.Needs.{needs}
+use Rattle.basics.specs.Mask.{circuits}
 use Rattle.gateway.proofs.setup.settings_given.Statement.{statement}
 use Rattle.gateway.proofs.setup.settings_given.Tie as tie
 

@@ -1,4 +1,6 @@
 -- Refusal 1, or the room's words put back.
+use Rattle.slots.specs.Slots.{roomWords}
+use Rattle.control.specs.Words.{controlWords}
 use Rattle.gateway.proofs.CallLaws.{releases}
 use Rattle.model.specs.Step.{Release}
 use borrow.Rule.Slice.PartMut.{mid-len}
@@ -68,8 +70,8 @@ same-length-2 : tie.Need-same-length-2
 same-length-2 c = search needs
 
 returns-2 : tie.Need-returns-2
-returns-2 c = let s = c .before .before .before .before .before .before .before .before .before .before in let a = s .args in let r = subst (InRange _) (c .before .before .before .before .enum-told .given .1) (c .before .before .before .before .before .before .circuit-of .ensures .range) in let x = c .before .before .release in let at = 128 + 64 * (a .n - 1) in
-    along (a-circuit (gatewayOf (a .gateway .now)) (a .n) Release _ (choice (a .gateway .now) (a .n) _ _ (c .before .before .before .before .before .before .circuit-of .ensures) (c .before .before .before .before .enum-told .given .1))) (releases (a .gateway .now) (a .n) (s .pre) (r .0) (r .1) _ (x .last .0) (x .kept .0 ∙ mid-len at (at + 64) (a .gateway .now) (omega (arith, s .pre))) (x .ensures))
+returns-2 c = let s = c .before .before .before .before .before .before .before .before .before .before in let a = s .args in let r = subst (InRange _) (c .before .before .before .before .enum-told .given .1) (c .before .before .before .before .before .before .circuit-of .ensures .range) in let x = c .before .before .release in let at = controlWords + roomWords * (a .n - 1) in
+    along (a-circuit (gatewayOf (a .gateway .now)) (a .n) Release _ (choice (a .gateway .now) (a .n) _ _ (c .before .before .before .before .before .before .circuit-of .ensures) (c .before .before .before .before .enum-told .given .1))) (releases (a .gateway .now) (a .n) (s .pre) (r .0) (r .1) _ (x .last .0) (x .kept .0 ∙ mid-len at (at + roomWords) (a .gateway .now) (omega (arith, s .pre))) (x .ensures))
 
 pub release-in-spec : {M : Type 1} → statement M
 release-in-spec =

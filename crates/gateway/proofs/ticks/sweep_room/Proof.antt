@@ -1,4 +1,6 @@
 -- The room's words put back are its sweep.
+use Rattle.slots.specs.Slots.{roomWords}
+use Rattle.control.specs.Words.{controlWords}
 use Rattle.gateway.proofs.CallLaws.{lapsed-at}
 use borrow.Rule.Slice.PartMut.{mid-len}
 use Prim.Native.Nat.{_+_, _-_, _*_}
@@ -36,7 +38,7 @@ same-length : tie.Need-same-length
 same-length c = search needs
 
 returns : tie.Need-returns
-returns c = let s = c .before .before .before .before .before in let a = s .args in let x = c .before .before .expire in let at = 128 + 64 * a .i in lapsed-at (a .gateway .now) (a .clock) (a .i) (s .pre .1) _ (x .last .0) (x .ensures) (s .pre .0) (x .kept .0 ∙ mid-len at (at + 64) (a .gateway .now) (omega (arith, s .pre .0)))
+returns c = let s = c .before .before .before .before .before in let a = s .args in let x = c .before .before .expire in let at = controlWords + roomWords * a .i in lapsed-at (a .gateway .now) (a .clock) (a .i) (s .pre .1) _ (x .last .0) (x .ensures) (s .pre .0) (x .kept .0 ∙ mid-len at (at + roomWords) (a .gateway .now) (omega (arith, s .pre .0)))
 
 pub sweep-room-spec : {M : Type 1} → statement M
 sweep-room-spec =

@@ -4,7 +4,7 @@ use Rattle.gateway.proofs.WordLaws.{length-rooms}
 use Rattle.gateway.specs.Words.{gatewayWords, gatewayOf}
 use Rattle.model.specs.Step.{swept, lapsed}
 use Rattle.model.specs.Gateway.{withRooms, noRoom}
-use Rattle.basics.specs.Mask.{bits}
+use Rattle.basics.specs.Mask.{bits, circuits}
 use lib.ListN.{length, take, drop}
 use mathlib.Core.List.{_++_, map}
 use Prim.Native.Nat.{_+_, _-_, _≤_}
@@ -15,12 +15,12 @@ use Rattle.gateway.proofs.ticks.sweep_rooms.Tie as tie
 
 abbrev Inv-loop : tie.InvT-loop
 Inv-loop gateway₀ clock marks₀ i₀ gateway marks i =
-    (i ≤ 8) × (length gateway ≡ gatewayWords)
+    (i ≤ circuits) × (length gateway ≡ gatewayWords)
     × (take i (bits marks) ++ map (lapsed clock) (drop i (gatewayOf gateway .rooms)) ≡ map (lapsed clock) (gatewayOf gateway₀ .rooms))
     × (withRooms (gatewayOf gateway) (take i (gatewayOf gateway .rooms) ++ map (swept clock) (drop i (gatewayOf gateway .rooms))) ≡ withRooms (gatewayOf gateway₀) (map (swept clock) (gatewayOf gateway₀ .rooms)))
 
 abbrev μ-loop : tie.MeasureT-loop
-μ-loop gateway₀ clock marks₀ i₀ gateway marks i = 8 - i
+μ-loop gateway₀ clock marks₀ i₀ gateway marks i = circuits - i
 
 loop-holds : tie.Need-loop-holds Inv-loop μ-loop
 loop-holds c = (omega arith, c .before .pre, refl, refl)

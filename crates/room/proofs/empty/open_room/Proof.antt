@@ -1,6 +1,6 @@
 -- The invariant: what is emptied, joined with what is left of an empty room, is the empty room.
 use Rattle.room.specs.Table.{emptyRoom}
-use Rattle.slots.specs.Slots.{tableOf}
+use Rattle.slots.specs.Slots.{tableOf, roomWords, places}
 use Rattle.room.proofs.SweepLaws.{empty-step, empty-end}
 use lib.ListN.{length, take, drop}
 use Prim.Native.Nat.{_-_, _≤_}
@@ -12,10 +12,10 @@ use Rattle.room.proofs.empty.open_room.Statement.{statement}
 use Rattle.room.proofs.empty.open_room.Tie as tie
 
 abbrev Inv-loop : tie.InvT-loop
-Inv-loop words₀ kind i₀ words i = (i ≤ 16) × (length words ≡ 64) × (take i (tableOf words) ++ drop i (emptyRoom kind) ≡ emptyRoom kind)
+Inv-loop words₀ kind i₀ words i = (i ≤ places) × (length words ≡ roomWords) × (take i (tableOf words) ++ drop i (emptyRoom kind) ≡ emptyRoom kind)
 
 abbrev μ-loop : tie.MeasureT-loop
-μ-loop words₀ kind i₀ words i = 16 - i
+μ-loop words₀ kind i₀ words i = places - i
 
 loop-holds : tie.Need-loop-holds Inv-loop μ-loop
 loop-holds c = (omega arith, c .before .pre, refl)

@@ -1,6 +1,6 @@
 -- The invariant: the first record is the first of those from i on.
 use Rattle.room.specs.Place.{firstOf}
-use Rattle.slots.specs.Slots.{tableOf}
+use Rattle.slots.specs.Slots.{tableOf, places}
 use Rattle.adjacency.specs.Place.{isHeld}
 use Rattle.slots.proofs.SlotLaws.{length-table}
 use Rattle.room.proofs.SearchLaws.{first-here, first-skip, first-none}
@@ -13,10 +13,10 @@ use Rattle.room.proofs.search.first_held.Statement.{statement}
 use Rattle.room.proofs.search.first_held.Tie as tie
 
 abbrev Inv-loop : tie.InvT-loop
-Inv-loop words i₀ i = (i ≤ 16) × (firstOf (isHeld) (tableOf words) 0 ≡ firstOf (isHeld) (drop i (tableOf words)) i)
+Inv-loop words i₀ i = (i ≤ places) × (firstOf (isHeld) (tableOf words) 0 ≡ firstOf (isHeld) (drop i (tableOf words)) i)
 
 abbrev μ-loop : tie.MeasureT-loop
-μ-loop words i₀ i = 16 - i
+μ-loop words i₀ i = places - i
 
 loop-holds : tie.Need-loop-holds Inv-loop μ-loop
 loop-holds c = (omega arith, refl)

@@ -1,6 +1,6 @@
 -- The invariant: some router outranks us just where one from place i on does.
 use Rattle.basics.specs.Lists.{some}
-use Rattle.slots.specs.Slots.{tableOf}
+use Rattle.slots.specs.Slots.{tableOf, places}
 use Rattle.adjacency.specs.Place.{outrankedAt}
 use Rattle.slots.proofs.SlotLaws.{length-table}
 use Rattle.room.proofs.SearchLaws.{any-here, any-skip, any-none}
@@ -13,10 +13,10 @@ use Rattle.room.proofs.search.is_outranked.Statement.{statement}
 use Rattle.room.proofs.search.is_outranked.Tie as tie
 
 abbrev Inv-loop : tie.InvT-loop
-Inv-loop words rank i₀ i = (i ≤ 16) × (some (outrankedAt rank) (tableOf words) ≡ some (outrankedAt rank) (drop i (tableOf words)))
+Inv-loop words rank i₀ i = (i ≤ places) × (some (outrankedAt rank) (tableOf words) ≡ some (outrankedAt rank) (drop i (tableOf words)))
 
 abbrev μ-loop : tie.MeasureT-loop
-μ-loop words rank i₀ i = 16 - i
+μ-loop words rank i₀ i = places - i
 
 loop-holds : tie.Need-loop-holds Inv-loop μ-loop
 loop-holds c = (omega arith, refl)

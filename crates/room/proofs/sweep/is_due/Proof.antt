@@ -1,6 +1,6 @@
 -- The invariant: a record has expired just where one from place i on has.
 use Rattle.room.specs.Table.{anyExpired}
-use Rattle.slots.specs.Slots.{tableOf}
+use Rattle.slots.specs.Slots.{tableOf, places}
 use Rattle.adjacency.specs.Place.{meets, expiredBy}
 use Rattle.slots.proofs.SlotLaws.{length-table}
 use Rattle.slots.proofs.ProbeLaws.{not-due}
@@ -15,10 +15,10 @@ use Rattle.room.proofs.sweep.is_due.Statement.{statement}
 use Rattle.room.proofs.sweep.is_due.Tie as tie
 
 abbrev Inv-loop : tie.InvT-loop
-Inv-loop words clock i₀ i = (i ≤ 16) × (anyExpired clock (tableOf words) ≡ anyExpired clock (drop i (tableOf words)))
+Inv-loop words clock i₀ i = (i ≤ places) × (anyExpired clock (tableOf words) ≡ anyExpired clock (drop i (tableOf words)))
 
 abbrev μ-loop : tie.MeasureT-loop
-μ-loop words clock i₀ i = 16 - i
+μ-loop words clock i₀ i = places - i
 
 loop-holds : tie.Need-loop-holds Inv-loop μ-loop
 loop-holds c = (omega arith, refl)

@@ -2,7 +2,7 @@
 use Rattle.room.specs.Sweep.{testOf}
 use Rattle.room.specs.Table.{sweep}
 use Rattle.basics.specs.Lists.{some}
-use Rattle.slots.specs.Slots.{tableOf}
+use Rattle.slots.specs.Slots.{tableOf, roomWords, places}
 use Rattle.adjacency.specs.Place.{meets}
 use Rattle.slots.proofs.SlotLaws.{length-table}
 use Rattle.room.proofs.SweepLaws.{sweep-step, any-step, sweep-end, any-end}
@@ -17,12 +17,12 @@ use Rattle.room.proofs.sweep.sweep_in.Statement.{statement}
 use Rattle.room.proofs.sweep.sweep_in.Tie as tie
 
 abbrev Inv-loop : tie.InvT-loop
-Inv-loop words₀ which any₀ i₀ words any i = (i ≤ 16) × (length words ≡ 64)
+Inv-loop words₀ which any₀ i₀ words any i = (i ≤ places) × (length words ≡ roomWords)
     × (any || some (meets (testOf which)) (drop i (tableOf words)) ≡ some (meets (testOf which)) (tableOf words₀))
     × (take i (tableOf words) ++ sweep (testOf which) (drop i (tableOf words)) ≡ sweep (testOf which) (tableOf words₀))
 
 abbrev μ-loop : tie.MeasureT-loop
-μ-loop words₀ which any₀ i₀ words any i = 16 - i
+μ-loop words₀ which any₀ i₀ words any i = places - i
 
 loop-holds : tie.Need-loop-holds Inv-loop μ-loop
 loop-holds c = (omega arith, c .before .pre, refl, refl)

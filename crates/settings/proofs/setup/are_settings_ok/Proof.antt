@@ -1,12 +1,16 @@
 -- The count is tested first, so that the loop stays within the eight.
 use mathlib.Core.Path.{sym, _∙_}
 use Rattle.settings.proofs.SettingsLaws.{between-true, ok-counted, ok-miscounted}
+use Rattle.basics.specs.Mask.{circuits}
 use borrow.Author.Needs.{needs}
 use Rattle.settings.proofs.setup.are_settings_ok.Statement.{statement}
 use Rattle.settings.proofs.setup.are_settings_ok.Tie as tie
 
 cast-is-between : tie.Need-cast-is-between
 cast-is-between c = search needs
+
+cast-is-between-2 : tie.Need-cast-is-between-2
+cast-is-between-2 c = search needs
 
 is-between-requires : tie.Need-is-between-requires
 is-between-requires c κs = search needs
@@ -15,7 +19,7 @@ cast-are-circuits-ok : tie.Need-cast-are-circuits-ok
 cast-are-circuits-ok c = search needs
 
 are-circuits-ok-requires : tie.Need-are-circuits-ok-requires
-are-circuits-ok-requires c κs = between-true 1 _ 8 (sym (c .before .is-between .ensures) ∙ c .if1 .taken) .1
+are-circuits-ok-requires c κs = between-true 1 _ circuits (sym (c .before .is-between .ensures) ∙ c .if1 .taken) .1
 
 are-lengths-ok-requires : tie.Need-are-lengths-ok-requires
 are-lengths-ok-requires c κs = search needs
@@ -34,6 +38,7 @@ are-settings-ok-spec =
     tie.close
     (tie.spec
     cast-is-between
+    cast-is-between-2
     is-between-requires
     cast-are-circuits-ok
     are-circuits-ok-requires

@@ -1,24 +1,19 @@
--- The mode decides.
-use Rattle.timers.proofs.TimersLaws.{settles-running, settles-restarting}
+-- The notice is kept; then the call is settled.
+use Rattle.timers.specs.Timers.{noticeT2s}
+use Rattle.timers.specs.Memory.{timersOf}
+use Rattle.timers.proofs.TimersLaws.{closes}
 use borrow.Author.Needs.{needs}
 use Rattle.timers.proofs.events.notice_database.Statement.{statement}
 use Rattle.timers.proofs.events.notice_database.Tie as tie
 
-enum-told : tie.Need-enum-told
-enum-told c = search needs
+notice-t2s-requires : tie.Need-notice-t2s-requires
+notice-t2s-requires c κs = search needs
 
-enum-told-2 : tie.Need-enum-told-2
-enum-told-2 c = search needs
-
-database-in-requires : tie.Need-database-in-requires
-database-in-requires c κs = search needs
+settle-requires : tie.Need-settle-requires
+settle-requires c κs = search needs
 
 returns : tie.Need-returns
-returns c = λ e. settles-running (c .before .before .args .h) e _ (c .enum-told .given .1)
-
-returns-2 : tie.Need-returns-2
-returns-2 c = λ e. settles-restarting (c .before .before .before .args .h) e _ _ _ (c .before .enum-told2 .given .1) (c .database-in .ensures e)
+returns c = λ e. let a = c .before .before .before .args in closes (noticeT2s (a .n)) (timersOf (a .h) e) _ _ _ (c .before .before .notice-t2s .ensures e) (c .before .settle .ensures e e)
 
 pub notice-database-spec : {M : Type 1} → statement M
-notice-database-spec =
-    tie.close (tie.spec enum-told enum-told-2 database-in-requires returns returns-2)
+notice-database-spec = tie.close (tie.spec notice-t2s-requires settle-requires returns)

@@ -1,28 +1,41 @@
--- The mode decides.
-use Rattle.timers.specs.Memory.{entryAt}
-use Rattle.timers.proofs.TimersLaws.{ticks-running, ticks-restarting}
+-- The T1 step, then the steps of the head; then the call is settled.
+use Rattle.timers.specs.Timers.{toT3}
+use Rattle.timers.specs.Memory.{entryAt, timersOf}
+use Rattle.timers.proofs.TimersLaws.{closes, ticks, toT3-is}
 use borrow.Author.Needs.{needs}
 use Rattle.timers.proofs.events.tick_timers.Statement.{statement}
 use Rattle.timers.proofs.events.tick_timers.Tie as tie
 
-enum-told : tie.Need-enum-told
-enum-told c = search needs
+tick-t1s-requires : tie.Need-tick-t1s-requires
+tick-t1s-requires c κs = search needs
 
-enum-told-2 : tie.Need-enum-told-2
-enum-told-2 c = search needs
+with-mask-requires : tie.Need-with-mask-requires
+with-mask-requires c κs = search needs
 
-tick-in-requires : tie.Need-tick-in-requires
-tick-in-requires c κs = search needs
+tick-head-requires : tie.Need-tick-head-requires
+tick-head-requires c κs = search needs
 
-returns : tie.Need-returns
-returns c = let a = c .before .before .before .args in ticks-running (a .h) (entryAt (a .words .now)) _ _ (c .enum-told .given .1)
+settle-requires : tie.Need-settle-requires
+settle-requires c κs = search needs
 
 same-length : tie.Need-same-length
 same-length c = search needs
 
-returns-2 : tie.Need-returns-2
-returns-2 c = let a = c .before .before .before .before .before .before .before .args in ticks-restarting (a .h) (entryAt (a .words .now)) _ _ _ _ _ (c .before .before .before .before .enum-told2 .given .1) (c .before .before .tick-in .ensures)
+returns : tie.Need-returns
+returns c = let a = c .before .before .before .before .before .before .before .before .before .args in
+    let x = c .before .before .before .before .before .before .tick-t1s in
+    let e = entryAt (a .words .now) in
+    let f = entryAt (x .last .0) in
+    let mid = toT3-is (a .s) (a .clock) (x .result .mask) (a .h) e f _ _ (x .ensures .0) (c .before .before .before .with-mask .ensures f) (c .before .before .tick-head .ensures f) in
+    ticks (a .s) (a .clock) (a .h) e _ _ _ (closes (toT3 (a .s) (a .clock)) (timersOf (a .h) e) _ _ _ mid (c .before .settle .ensures e f)) (x .ensures .1)
 
 pub tick-timers-spec : {M : Type 1} → statement M
 tick-timers-spec =
-    tie.close (tie.spec enum-told enum-told-2 tick-in-requires returns same-length returns-2)
+    tie.close
+    (tie.spec
+    tick-t1s-requires
+    with-mask-requires
+    tick-head-requires
+    settle-requires
+    same-length
+    returns)

@@ -4,8 +4,8 @@ use Rattle.room.specs.Place.{Spots}
 use Rattle.room.specs.Accept.{Did}
 use Rattle.room.proofs.AcceptLaws.{room-refused, room-full, room-free}
 use borrow.Author.Needs.{needs}
-use Rattle.room.proofs.accept.seat_at.Statement.{statement}
-use Rattle.room.proofs.accept.seat_at.Tie as tie
+use Rattle.room.proofs.accept.accept_at.Statement.{statement}
+use Rattle.room.proofs.accept.accept_at.Tie as tie
 
 enum-known-what : tie.Need-enum-known-what
 enum-known-what c = search needs
@@ -40,8 +40,8 @@ same-length-2 c = search needs
 returns-3 : tie.Need-returns-3
 returns-3 c = let s = c .before .before .before .before .before .before .before .before .before .before .before .before .before .before .before .before in let t = subst (Spots _ _) (c .before .before .before .before .before .before .before .before .before .spot .given .1) (s .pre .1) in record { is = room-free _ _ _ _ _ (c .before .before .before .before .before .before .before .before .before .before .before .before .what .given .1) (t .room); did = (c .before .before .before .before .before .before .keep .ensures, c .before .before .answer .ensures) }
 
-pub seat-at-spec : {M : Type 1} → statement M
-seat-at-spec =
+pub accept-at-spec : {M : Type 1} → statement M
+accept-at-spec =
     tie.close
     (tie.spec
     enum-known-what

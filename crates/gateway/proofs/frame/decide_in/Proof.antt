@@ -1,0 +1,126 @@
+-- A refusal puts the room back as it was; else the room is put back, and then the orders are given.
+use Rattle.gateway.proofs.FrameLaws.{left, taken}
+use Rattle.gateway.proofs.WordLaws.{length-room, mode-put}
+use Rattle.gateway.specs.Words.{roomPlace}
+use Rattle.room.specs.Accept.{Accepts}
+use Rattle.slots.specs.Slots.{roomWords}
+use borrow.Rule.Slice.PartMut.{mid-len}
+use native.Mathlib.Omega.{arith}
+use mathlib.Core.Path.{subst, _∙_}
+use Prim.Native.Nat.{_+_, _-_}
+use borrow.Author.Needs.{needs}
+use Rattle.gateway.proofs.frame.decide_in.Statement.{statement}
+use Rattle.gateway.proofs.frame.decide_in.Tie as tie
+
+sub-mode-of : tie.Need-sub-mode-of
+sub-mode-of c = search needs
+
+part-mode-of-start : tie.Need-part-mode-of-start
+part-mode-of-start c = search needs
+
+part-mode-of-end : tie.Need-part-mode-of-end
+part-mode-of-end c = search needs
+
+mode-of-requires : tie.Need-mode-of-requires
+mode-of-requires c κs = search needs
+
+sub-here-of : tie.Need-sub-here-of
+sub-here-of c = search needs
+
+part-here-of-start : tie.Need-part-here-of-start
+part-here-of-start c = search needs
+
+part-here-of-end : tie.Need-part-here-of-end
+part-here-of-end c = search needs
+
+here-of-requires : tie.Need-here-of-requires
+here-of-requires c κs = search needs
+
+key-in-requires : tie.Need-key-in-requires
+key-in-requires c κs = search needs
+
+sub-a : tie.Need-sub-a
+sub-a c = search needs
+
+mul-a : tie.Need-mul-a
+mul-a c = search needs
+
+add-a : tie.Need-add-a
+add-a c = search needs
+
+add-accept-in : tie.Need-add-accept-in
+add-accept-in c = search needs
+
+mul-accept-in : tie.Need-mul-accept-in
+mul-accept-in c = search needs
+
+sub-accept-in : tie.Need-sub-accept-in
+sub-accept-in c = search needs
+
+part-accept-in-start : tie.Need-part-accept-in-start
+part-accept-in-start c = search needs
+
+part-accept-in-end : tie.Need-part-accept-in-end
+part-accept-in-end c = search needs
+
+accept-in-requires : tie.Need-accept-in-requires
+accept-in-requires c κs = search needs
+
+enum-known-x : tie.Need-enum-known-x
+enum-known-x c = search needs
+
+enum-known-acknowledgement : tie.Need-enum-known-acknowledgement
+enum-known-acknowledgement c = search needs
+
+order-in-requires : tie.Need-order-in-requires
+order-in-requires c κs = let a = c .before .before .before .before .before .before .before .before .before .before .before .before .before .before .before .before .before .before .before .before .args in let x = c .before .before .before .before .before .before .before .before .accept-in in let l = (x .kept .0 ∙ mid-len (roomPlace (a .n - 1)) (roomPlace (a .n - 1) + roomWords) (a .gateway .now) (omega (arith, c .before .before .before .before .before .before .before .before .before .before .before .before .before .before .before .before .before .before .before .before .pre .0, c .before .before .before .before .before .before .before .before .before .before .before .before .before .before .before .before .before .before .before .before .pre .1, c .before .before .before .before .before .before .before .before .before .before .before .before .before .before .before .before .before .before .before .before .pre .2))) in (length-room (a .gateway .now) (x .last .0) (c .before .before .before .before .before .before .before .before .before .before .before .before .before .before .before .before .before .before .before .before .pre .0) (a .n - 1) (omega (arith, c .before .before .before .before .before .before .before .before .before .before .before .before .before .before .before .before .before .before .before .before .pre .1, c .before .before .before .before .before .before .before .before .before .before .before .before .before .before .before .before .before .before .before .before .pre .2)) l, c .before .before .before .before .before .before .before .before .before .before .before .before .before .before .before .before .before .before .before .before .pre .1, c .before .before .before .before .before .before .before .before .before .before .before .before .before .before .before .before .before .before .before .before .pre .2, mode-put (a .gateway .now) (x .last .0) (c .before .before .before .before .before .before .before .before .before .before .before .before .before .before .before .before .before .before .before .before .pre .0) (a .n - 1) (omega (arith, c .before .before .before .before .before .before .before .before .before .before .before .before .before .before .before .before .before .before .before .before .pre .1, c .before .before .before .before .before .before .before .before .before .before .before .before .before .before .before .before .before .before .before .before .pre .2)) l _ (c .before .before .before .before .before .before .before .before .before .before .before .before .before .before .before .mode-of .ensures))
+
+same-length : tie.Need-same-length
+same-length c = search needs
+
+same-length-2 : tie.Need-same-length-2
+same-length-2 c = search needs
+
+returns : tie.Need-returns
+returns c = let a = c .before .before .before .before .before .before .before .before .before .before .before .before .before .before .before .before .before .before .before .args in let x = c .before .before .before .before .before .before .before .accept-in in left (a .gateway .now) (a .n) (a .s) (a .mac) (a .frame) (a .reply .now) (c .before .before .before .before .before .before .before .before .before .before .before .before .before .before .before .before .before .before .before .pre .0) (c .before .before .before .before .before .before .before .before .before .before .before .before .before .before .before .before .before .before .before .pre .1) (c .before .before .before .before .before .before .before .before .before .before .before .before .before .before .before .before .before .before .before .pre .2) _ _ (c .before .before .before .before .before .before .before .before .before .before .before .here-of .ensures) (c .before .before .before .before .before .before .before .before .before .before .key-in .ensures) _ (x .last .0) _ (subst (Accepts _ _ _ _ _ _ _) (c .before .x .given .1) (x .ensures))
+
+same-length-3 : tie.Need-same-length-3
+same-length-3 c = search needs
+
+same-length-4 : tie.Need-same-length-4
+same-length-4 c = search needs
+
+returns-2 : tie.Need-returns-2
+returns-2 c = let a = c .before .before .before .before .before .before .before .before .before .before .before .before .before .before .before .before .before .before .before .before .before .before .before .args in let x = c .before .before .before .before .before .before .before .before .before .before .before .accept-in in let y = c .before .before .order-in in taken (a .gateway .now) (a .n) (a .s) (a .mac) (a .frame) (a .reply .now) (c .before .before .before .before .before .before .before .before .before .before .before .before .before .before .before .before .before .before .before .before .before .before .before .pre .0) (c .before .before .before .before .before .before .before .before .before .before .before .before .before .before .before .before .before .before .before .before .before .before .before .pre .1) (c .before .before .before .before .before .before .before .before .before .before .before .before .before .before .before .before .before .before .before .before .before .before .before .pre .2) _ _ (c .before .before .before .before .before .before .before .before .before .before .before .before .before .before .before .here-of .ensures) (c .before .before .before .before .before .before .before .before .before .before .before .before .before .before .key-in .ensures) (x .last .0) _ _ _ _ (x .kept .0 ∙ mid-len (roomPlace (a .n - 1)) (roomPlace (a .n - 1) + roomWords) (a .gateway .now) (omega (arith, c .before .before .before .before .before .before .before .before .before .before .before .before .before .before .before .before .before .before .before .before .before .before .before .pre .0, c .before .before .before .before .before .before .before .before .before .before .before .before .before .before .before .before .before .before .before .before .before .before .before .pre .1, c .before .before .before .before .before .before .before .before .before .before .before .before .before .before .before .before .before .before .before .before .before .before .before .pre .2))) (y .last .0) _ (subst (Accepts _ _ _ _ _ _ _) (c .before .before .before .before .before .acknowledgement .given .1) (x .ensures)) (y .ensures)
+
+pub decide-in-spec : {M : Type 1} → statement M
+decide-in-spec =
+    tie.close
+    (tie.spec
+    sub-mode-of
+    part-mode-of-start
+    part-mode-of-end
+    mode-of-requires
+    sub-here-of
+    part-here-of-start
+    part-here-of-end
+    here-of-requires
+    key-in-requires
+    sub-a
+    mul-a
+    add-a
+    add-accept-in
+    mul-accept-in
+    sub-accept-in
+    part-accept-in-start
+    part-accept-in-end
+    accept-in-requires
+    enum-known-x
+    enum-known-acknowledgement
+    order-in-requires
+    same-length
+    same-length-2
+    returns
+    same-length-3
+    same-length-4
+    returns-2)

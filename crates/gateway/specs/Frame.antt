@@ -1,0 +1,23 @@
+-- What a frame that was accepted orders (document 01, "Marks and holding time" and "Timers while Restarting"), of the words as the record's
+-- change left them.
+use Prim.Native.Nat.{ℕ, _-_}
+use mathlib.Core.Path.{_≡_}
+use mathlib.Core.List.{List}
+use Rattle.hello.specs.declared.read.Hello.{Hello}
+use Rattle.adjacency.specs.declared.marks.Acknowledgement.{Acknowledgement}
+use Rattle.adjacency.specs.declared.marks.Line.{Line}
+use Rattle.settings.specs.declared.circuit.Circuit.{Circuit}
+use Rattle.timers.specs.Timers.{heard}
+use Rattle.control.specs.Common.{Common, withTimers}
+use Rattle.model.specs.declared.answers.Orders.{Orders}
+use Rattle.model.specs.Gateway.{withCommon, roomOf}
+use Rattle.model.specs.Receive.{saidOf, ordersOf}
+use Rattle.gateway.specs.Words.{gatewayOf}
+
+-- the common part after a frame on circuit n
+abbrev pub commonAfter : ℕ → Circuit → Hello → Common → Common
+commonAfter n s h c = withTimers (heard (c .clock) (n - 1) (s .levels) (saidOf c s h) (c .timers)) c
+
+pub record GivesOrders (n : ℕ) (s : Circuit) (h : Hello) (reply : Acknowledgement) (line : Line) (ws ws′ : List ℕ) (o : Orders) : Type 0 where
+  pub orders : o ≡ ordersOf n s h reply line (gatewayOf ws .common) (roomOf (gatewayOf ws) n)
+  pub next : gatewayOf ws′ ≡ withCommon (gatewayOf ws) (commonAfter n s h (gatewayOf ws .common))

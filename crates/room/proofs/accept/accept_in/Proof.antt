@@ -1,0 +1,35 @@
+-- The decision is that of the record that stood.
+use mathlib.Core.Path.{_∙_}
+use Rattle.room.proofs.AcceptLaws.{decided-is}
+use borrow.Author.Needs.{needs}
+use Rattle.room.proofs.accept.accept_in.Statement.{statement}
+use Rattle.room.proofs.accept.accept_in.Tie as tie
+
+place-of-requires : tie.Need-place-of-requires
+place-of-requires c κs = search needs
+
+react-to-requires : tie.Need-react-to-requires
+react-to-requires c κs = search needs
+
+accept-at-requires : tie.Need-accept-at-requires
+accept-at-requires c κs = (c .before .before .before .before .before .before .before .pre .0, c .before .before .before .place-of .ensures .spot, c .before .before .before .before .before .before .before .pre .1)
+
+same-length : tie.Need-same-length
+same-length c = search needs
+
+same-length-2 : tie.Need-same-length-2
+same-length-2 c = search needs
+
+returns : tie.Need-returns
+returns c = let x = c .before .before .before .before .accept-at .ensures in record { is = x .is ∙ decided-is _ _ _ _ _ _ (c .before .before .before .before .before .before .before .before .place-of .ensures .found) (c .before .before .before .before .before .before .before .react-to .ensures); did = x .did }
+
+pub accept-in-spec : {M : Type 1} → statement M
+accept-in-spec =
+    tie.close
+    (tie.spec
+    place-of-requires
+    react-to-requires
+    accept-at-requires
+    same-length
+    same-length-2
+    returns)
