@@ -1,12 +1,27 @@
-//! Links the proved archive. `ISIS_GR_LIB_DIR` names its folder; without it, the folder that `rt staticlib isis_gr` writes to.
+//! Links the proved archive, and takes the sizes from the C header. `ISIS_GR_LIB_DIR` names the archive's folder; without it, the folder
+//! that `rt staticlib isis_gr` writes to.
 use std::path::PathBuf;
 
 fn main() {
     println!("cargo:rerun-if-env-changed=ISIS_GR_LIB_DIR");
-    let folder = std::env::var_os("ISIS_GR_LIB_DIR")
-        .map(PathBuf::from)
-        .unwrap_or_else(|| PathBuf::from(std::env::var_os("CARGO_MANIFEST_DIR").expect("cargo sets it")).join("../../target/staticlib"));
+    let root = PathBuf::from(std::env::var_os("CARGO_MANIFEST_DIR").expect("cargo sets it")).join("../..");
+    let folder = std::env::var_os("ISIS_GR_LIB_DIR").map(PathBuf::from).unwrap_or_else(|| root.join("target/staticlib"));
     println!("cargo:rerun-if-changed={}", folder.join("libisis_gr.a").display());
     println!("cargo:rustc-link-search=native={}", folder.display());
     println!("cargo:rustc-link-lib=static=isis_gr");
+
+    let header = root.join("include/isis_gr.h");
+    println!("cargo:rerun-if-changed={}", header.display());
+    let text = std::fs::read_to_string(&header).expect("the header is beside the crates");
+    let size = |name: &str| -> usize {
+        let line = text.lines().find(|line| line.starts_with(&format!("#define ISIS_GR_{name} "))).expect("the header names the size");
+        line.split_whitespace().nth(2).expect("a number follows").parse().expect("it is a number")
+    };
+    let sizes = format!(
+        "/// The words of a gateway.\npub const GATEWAY_WORDS: usize = {};\n\n/// The octets of the settings.\npub const SETTINGS_OCTETS: usize = {};\n",
+        size("GATEWAY_WORDS"),
+        size("SETTINGS_OCTETS")
+    );
+    let out = PathBuf::from(std::env::var_os("OUT_DIR").expect("cargo sets it")).join("sizes.rs");
+    std::fs::write(out, sizes).expect("the output folder can be written");
 }

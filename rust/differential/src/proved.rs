@@ -111,27 +111,27 @@ impl Memory {
 
     /// Tick.
     pub fn tick(&mut self, clock: u32) -> Result<Ticked, Refusal> {
-        // SAFETY: the reference is valid for 640 words.
+        // SAFETY: the reference is valid for the words of a gateway.
         let word = unsafe { isis_gr_raw_tick(self.0.as_mut_ptr(), clock) };
         code(word, Ticked { marks: bools((word >> 8) as u8), hellos: bools((word >> 16) as u8), timers: timers(word) })
     }
 
     /// Release.
     pub fn release(&mut self, circuit: u8) -> Result<(), Refusal> {
-        // SAFETY: the reference is valid for 640 words.
+        // SAFETY: the reference is valid for the words of a gateway.
         code(u64::from(unsafe { isis_gr_raw_release(self.0.as_mut_ptr(), circuit) }), ())
     }
 
     /// CSNP set complete.
     pub fn csnp_complete(&mut self, circuit: u8, level: u8) -> Result<TimerOutcome, Refusal> {
-        // SAFETY: the reference is valid for 640 words.
+        // SAFETY: the reference is valid for the words of a gateway.
         let word = unsafe { isis_gr_raw_csnp_complete(self.0.as_mut_ptr(), circuit, level) };
         code(word, timers(word))
     }
 
     /// Database complete.
     pub fn database_complete(&mut self, level: u8) -> Result<TimerOutcome, Refusal> {
-        // SAFETY: the reference is valid for 640 words.
+        // SAFETY: the reference is valid for the words of a gateway.
         let word = unsafe { isis_gr_raw_database_complete(self.0.as_mut_ptr(), level) };
         code(word, timers(word))
     }
@@ -161,21 +161,21 @@ impl Memory {
 
     /// Link metric.
     pub fn link_metric(&self, circuit: u8) -> Result<u32, Refusal> {
-        // SAFETY: the reference is valid for 640 words.
+        // SAFETY: the reference is valid for the words of a gateway.
         let word = unsafe { isis_gr_raw_link_metric(self.0.as_ptr(), circuit) };
         code(word, (word >> 32) as u32)
     }
 
     /// Flags of the next hello.
     pub fn next_hello_flags(&self, circuit: u8) -> Result<u8, Refusal> {
-        // SAFETY: the reference is valid for 640 words.
+        // SAFETY: the reference is valid for the words of a gateway.
         let word = unsafe { isis_gr_raw_next_hello_flags(self.0.as_ptr(), circuit) };
         code(u64::from(word), (word >> 8) as u8)
     }
 
     /// Circuits that wait for T1, and the lowest.
     pub fn waiting(&self) -> (u32, Option<u8>) {
-        // SAFETY: the reference is valid for 640 words.
+        // SAFETY: the reference is valid for the words of a gateway.
         let word = unsafe { isis_gr_raw_waiting(self.0.as_ptr()) };
         (word & 0xFF, Some((word >> 8) as u8).filter(|n| *n != 0))
     }

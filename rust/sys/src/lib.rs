@@ -4,11 +4,7 @@
 #![no_std]
 #![deny(missing_docs)]
 
-/// The words of a gateway.
-pub const GATEWAY_WORDS: usize = 640;
-
-/// The octets of the settings.
-pub const SETTINGS_OCTETS: usize = 169;
+include!(concat!(env!("OUT_DIR"), "/sizes.rs"));
 
 extern "C" {
     /// The words of a gateway in this archive.

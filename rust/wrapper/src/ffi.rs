@@ -24,22 +24,22 @@ pub(crate) fn receive(words: &mut Words, circuit: u8, source: &[u8; 6], frame: &
 }
 
 pub(crate) fn tick(words: &mut Words, clock: u32) -> u64 {
-    // SAFETY: the reference is valid for 640 words.
+    // SAFETY: the reference is valid for the words of a gateway.
     unsafe { raw::isis_gr_raw_tick(words.as_mut_ptr(), clock) }
 }
 
 pub(crate) fn release(words: &mut Words, circuit: u8) -> u32 {
-    // SAFETY: the reference is valid for 640 words.
+    // SAFETY: the reference is valid for the words of a gateway.
     unsafe { raw::isis_gr_raw_release(words.as_mut_ptr(), circuit) }
 }
 
 pub(crate) fn csnp_complete(words: &mut Words, circuit: u8, level: u8) -> u64 {
-    // SAFETY: the reference is valid for 640 words.
+    // SAFETY: the reference is valid for the words of a gateway.
     unsafe { raw::isis_gr_raw_csnp_complete(words.as_mut_ptr(), circuit, level) }
 }
 
 pub(crate) fn database_complete(words: &mut Words, level: u8) -> u64 {
-    // SAFETY: the reference is valid for 640 words.
+    // SAFETY: the reference is valid for the words of a gateway.
     unsafe { raw::isis_gr_raw_database_complete(words.as_mut_ptr(), level) }
 }
 
@@ -49,16 +49,16 @@ pub(crate) fn look_up(words: &Words, circuit: u8, level: u8, system: &[u8; 6], m
 }
 
 pub(crate) fn link_metric(words: &Words, circuit: u8) -> u64 {
-    // SAFETY: the reference is valid for 640 words.
+    // SAFETY: the reference is valid for the words of a gateway.
     unsafe { raw::isis_gr_raw_link_metric(words.as_ptr(), circuit) }
 }
 
 pub(crate) fn next_hello_flags(words: &Words, circuit: u8) -> u32 {
-    // SAFETY: the reference is valid for 640 words.
+    // SAFETY: the reference is valid for the words of a gateway.
     unsafe { raw::isis_gr_raw_next_hello_flags(words.as_ptr(), circuit) }
 }
 
 pub(crate) fn waiting(words: &Words) -> u32 {
-    // SAFETY: the reference is valid for 640 words.
+    // SAFETY: the reference is valid for the words of a gateway.
     unsafe { raw::isis_gr_raw_waiting(words.as_ptr()) }
 }
