@@ -13,8 +13,8 @@ use Rattle.hello.specs.declared.read.Hello.{Hello}
 use Rattle.hello.specs.declared.read.Link.{Link}
 use Rattle.hello.specs.declared.read.Link.the-variants.{P2p}
 use Rattle.hello.specs.declared.reverse.ReverseMetric.the-variants.{Absent as NoMetric}
-use Rattle.hello.specs.declared.three_way.State.{State}
-use Rattle.hello.specs.declared.three_way.State.the-variants.{Up as UpState, Down}
+use Rattle.hello.specs.declared.three_way.ThreeWayState.{ThreeWayState}
+use Rattle.hello.specs.declared.three_way.ThreeWayState.the-variants.{Up as UpState, Down}
 use Rattle.hello.specs.declared.three_way.Identifiers.the-variants.{Absent as NoIdentifiers}
 use Rattle.adjacency.specs.Step.{wrongId, wrongNeighbor, linkStep, keptUp, stepOf}
 use Rattle.adjacency.specs.Marks.{planned, lineOf}
@@ -35,11 +35,11 @@ use Rattle.adjacency.specs.declared.duty.Csnps.the-variants.{Nothing as 
 abbrev at : ℕ → Here
 at clock = record { clock = clock; restarting = false; own = 0x192168001001; circuit = 1; hold = 30 }
 
-abbrev link : State → Link
+abbrev link : ThreeWayState → Link
 link state = P2p (record { state = state; ids = NoIdentifiers })
 
 -- a hello of the neighbour 192168001002 with Holding Time 27, these flags, this Remaining Time and this three-way state
-abbrev frame : ℕ → ℕ → State → Hello
+abbrev frame : ℕ → ℕ → ThreeWayState → Hello
 frame flags time state =
     record {
       system = 0x192168001002;

@@ -1,7 +1,7 @@
 -- The state step and refusal 8's excuses by cases: what holds whatever the other arguments are.
 use mathlib.Core.Bool.{Bool, true, false}
 use mathlib.Core.Path.{_≡_, refl}
-use Rattle.hello.specs.declared.three_way.State.the-variants.{Initializing, Down}
+use Rattle.hello.specs.declared.three_way.ThreeWayState.the-variants.{Initializing, Down}
 use Rattle.adjacency.specs.Step.{p2pStep, excused}
 use Rattle.adjacency.specs.declared.record.Phase.{Phase}
 use Rattle.adjacency.specs.declared.record.Phase.the-variants.{Gone, Init, Up}

@@ -11,8 +11,8 @@ use Rattle.basics.specs.declared.levels.Levels.{Levels}
 use Rattle.hello.specs.declared.read.Hello.{Hello}
 use Rattle.hello.specs.declared.read.Link.{Link}
 use Rattle.hello.specs.declared.read.Link.the-variants.{Lan, P2p}
-use Rattle.hello.specs.declared.three_way.State.{State}
-use Rattle.hello.specs.declared.three_way.State.the-variants.{Up, Initializing, Down}
+use Rattle.hello.specs.declared.three_way.ThreeWayState.{ThreeWayState}
+use Rattle.hello.specs.declared.three_way.ThreeWayState.the-variants.{Up, Initializing, Down}
 use Rattle.hello.specs.declared.three_way.Identifiers.{Identifiers}
 use Rattle.hello.specs.declared.three_way.Identifiers.the-variants.{Absent as NoIds, Own, Neighbor, Whole}
 use Rattle.adjacency.specs.Record.{isUp}
@@ -67,7 +67,7 @@ lanStep listed = cond listed UpPhase InitPhase
 
 -- P2P, by RFC 5303, 3.2: no record: Down gives INIT, Initializing gives UP, Up gives no record; INIT: Down gives INIT, else UP; UP: Down
 -- gives INIT, else UP
-abbrev pub p2pStep : Phase → State → Phase
+abbrev pub p2pStep : Phase → ThreeWayState → Phase
 p2pStep Gone Down = InitPhase
 p2pStep Gone Initializing = UpPhase
 p2pStep Gone Up = Gone

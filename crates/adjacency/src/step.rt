@@ -5,8 +5,8 @@ use basics::levels::has_level;
 use hello::read::Hello;
 use hello::read::Link;
 use hello::three_way::Identifiers;
-use hello::three_way::State;
 use hello::three_way::ThreeWay;
+use hello::three_way::ThreeWayState;
 use restart_tlv::flags::Flags;
 use restart_tlv::reader::RestartTlv;
 ghost use mathlib.Core.Path.{_≡_};
@@ -140,13 +140,13 @@ fn step_lan(listed: bool) -> Phase
     Phase::Init
 }
 
-fn step_p2p(phase: Phase, state: State) -> Phase
+fn step_p2p(phase: Phase, state: ThreeWayState) -> Phase
     ensures { λ r. ⌜ r ≡ p2pStep phase state ⌝ }
 {
     match state {
-        State::Down => Phase::Init,
-        State::Initializing => Phase::Up,
-        State::Up => match phase {
+        ThreeWayState::Down => Phase::Init,
+        ThreeWayState::Initializing => Phase::Up,
+        ThreeWayState::Up => match phase {
             Phase::Gone => Phase::Gone,
             Phase::Init => Phase::Up,
             Phase::Up => Phase::Up,

@@ -13,7 +13,7 @@ use Rattle.settings.specs.Settings.{enabledLevels}
 use Rattle.settings.proofs.SettingsLaws.{enabled-step}
 use Rattle.timers.specs.Memory.{wordCount, timersAt}
 use Rattle.settings.specs.declared.circuit.Circuit.{Circuit}
-use Rattle.control.specs.Words.{controlWords, markPlace, countPlace, clockPlace, systemPlace, lengthsPlace, headPlace, entriesPlace, circuitsPlace, marked, countIn, countOf, circuitAt, circuitsFrom, headOf, entriesOf, lengthsIn, commonOf}
+use Rattle.control.specs.Words.{controlWords, sealPlace, countPlace, clockPlace, systemPlace, lengthsPlace, headPlace, entriesPlace, circuitsPlace, sealed, countIn, countOf, circuitAt, circuitsFrom, headOf, entriesOf, lengthsIn, commonOf}
 use Rattle.control.specs.Common.{withClock, withTimers, circuitOf, Chooses, noCircuit}
 use Rattle.basics.specs.Mask.{circuits}
 use Rattle.settings.specs.declared.circuit.Chosen.the-variants.{Known, Unknown}
@@ -100,15 +100,15 @@ module _ (a e : ℕ) (ws ws′ : List ℕ) (k : Keeps a e ws ws′) where
   circuits-kept i zero h = refl
   circuits-kept i (suc n) h = cc (circuit-kept i h, circuits-kept (suc i) n h)
 
-  marked-kept : (i : ℕ) → 0 < a → (i < a) ⊎ (e ≤ i) → marked ws′ i ≡ marked ws i
-  unfolding marked
-  marked-kept i h g = cc (k markPlace (inl h), k i g)
+  sealed-kept : (i : ℕ) → 0 < a → (i < a) ⊎ (e ≤ i) → sealed ws′ i ≡ sealed ws i
+  unfolding sealed
+  sealed-kept i h g = cc (k sealPlace (inl h), k i g)
 
   pub head-kept : (0 < a) → (e ≤ headPlace) ⊎ (headPlace + 4 ≤ a) → headOf ws′ ≡ headOf ws
   unfolding headOf
   head-kept h g =
       cc (
-        marked-kept headPlace h (aside 0 (omega arith) g),
+        sealed-kept headPlace h (aside 0 (omega arith) g),
         k (headPlace + 1) (aside 1 (omega arith) g),
         k (headPlace + 2) (aside 2 (omega arith) g),
         k (headPlace + 3) (aside 3 (omega arith) g),
@@ -138,8 +138,8 @@ module _ (ws ws′ : List ℕ) where
       cc (
         k systemPlace (inr (omega arith)),
         k lengthsPlace (inr (omega arith)),
-        marked-kept clockPlace (clockPlace + 1) ws ws′ k countPlace (omega arith) (inl (omega arith)),
-        circuits-kept clockPlace (clockPlace + 1) ws ws′ k 0 (countIn (marked ws countPlace)) (omega arith),
+        sealed-kept clockPlace (clockPlace + 1) ws ws′ k countPlace (omega arith) (inl (omega arith)),
+        circuits-kept clockPlace (clockPlace + 1) ws ws′ k 0 (countIn (sealed ws countPlace)) (omega arith),
         head-kept clockPlace (clockPlace + 1) ws ws′ k (omega arith) (inl (omega arith)),
         entries-kept clockPlace (clockPlace + 1) ws ws′ k l l′ (omega arith),
       )
@@ -152,8 +152,8 @@ module _ (ws ws′ : List ℕ) where
         k systemPlace (inl (omega arith)),
         k lengthsPlace (inl (omega arith)),
         k clockPlace (inl (omega arith)),
-        marked-kept headPlace circuitsPlace ws ws′ k countPlace (omega arith) (inl (omega arith)),
-        circuits-kept headPlace circuitsPlace ws ws′ k 0 (countIn (marked ws countPlace)) (omega arith),
+        sealed-kept headPlace circuitsPlace ws ws′ k countPlace (omega arith) (inl (omega arith)),
+        circuits-kept headPlace circuitsPlace ws ws′ k 0 (countIn (sealed ws countPlace)) (omega arith),
       )
 
 pub clock-set : (ws : List ℕ) (clock : ℕ) → length ws ≡ controlWords → clock < 4294967296

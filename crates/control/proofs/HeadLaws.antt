@@ -11,15 +11,15 @@ use borrow.Author.Tests.{eq-eqb}
 use Rattle.basics.proofs.BitLaws.{bit-back}
 use Rattle.timers.specs.Memory.{timersOf, timersAt}
 use Rattle.timers.specs.declared.head.Head.{Head}
-use Rattle.control.specs.Words.{controlWords, markPlace, headPlace, circuitsPlace, mark, marked, modeIn, timerIn, t2In, t3In, headIn, headOf, entriesOf, timerDeadline, t3Deadline, commonOf}
+use Rattle.control.specs.Words.{controlWords, sealPlace, headPlace, circuitsPlace, seal, sealed, modeIn, timerIn, t2In, t3In, headIn, headOf, entriesOf, timerDeadline, t3Deadline, commonOf}
 use Rattle.control.specs.Common.{withTimers}
 use Rattle.control.proofs.CommonLaws.{Keeps, entries-kept, timers-changed}
 
-pub mode-at : (ws : List ℕ) → modeIn (marked ws headPlace % 4) ≡ commonOf ws .timers .mode
+pub mode-at : (ws : List ℕ) → modeIn (sealed ws headPlace % 4) ≡ commonOf ws .timers .mode
 unfolding commonOf headOf headIn timersOf
 mode-at ws = refl
 
-pub head-at : (ws : List ℕ) (w : ℕ) → w ≡ marked ws headPlace
+pub head-at : (ws : List ℕ) (w : ℕ) → w ≡ sealed ws headPlace
     → headIn w (getD ws (headPlace + 1) 0) (getD ws (headPlace + 2) 0) (getD ws (headPlace + 3) 0) ≡ headOf ws
 unfolding headOf
 head-at ws w e = rw e refl
@@ -79,14 +79,14 @@ module _ (ws : List ℕ) (w a b e : ℕ) (len : length ws ≡ controlWords) wher
   far : (xs : List ℕ) (p q v : ℕ) → q < p → getD (set xs p v) q 0 ≡ getD xs q 0
   far xs p q v h = getD-set-other xs p q v 0 (λ (z : q ≡ p). omega arith)
 
-  set4-head : getD ws markPlace 0 ≡ mark → headOf (set4 ws w a b e) ≡ headIn w a b e
-  unfolding headOf marked
+  set4-head : getD ws sealPlace 0 ≡ seal → headOf (set4 ws w a b e) ≡ headIn w a b e
+  unfolding headOf sealed
   set4-head m =
       let x1 = set ws headPlace w in
       let x2 = set x1 (headPlace + 1) a in
       let x3 = set x2 (headPlace + 2) b in
       cc (
-        eq-eqb (getD (set4 ws w a b e) markPlace 0) mark (set4-keeps markPlace (inl (omega arith)) ∙ m),
+        eq-eqb (getD (set4 ws w a b e) sealPlace 0) seal (set4-keeps sealPlace (inl (omega arith)) ∙ m),
         far x3 (headPlace + 3) headPlace e (omega arith),
         far x2 (headPlace + 2) headPlace b (omega arith),
         far x1 (headPlace + 1) headPlace a (omega arith),
@@ -99,7 +99,7 @@ module _ (ws : List ℕ) (w a b e : ℕ) (len : length ws ≡ controlWords) wher
         getD-set-same x3 (headPlace + 3) e 0 (simp length-set (omega arith)),
       )
 
-  pub head-stored : (h : Head) → getD ws markPlace 0 ≡ mark → headIn w a b e ≡ h
+  pub head-stored : (h : Head) → getD ws sealPlace 0 ≡ seal → headIn w a b e ≡ h
       → commonOf (set4 ws w a b e) ≡ withTimers (timersAt h (entriesOf ws)) (commonOf ws)
   head-stored h m p =
       timers-changed ws (set4 ws w a b e) wider

@@ -18,10 +18,10 @@ use Rattle.timers.specs.declared.events.Start.{Start}
 use Rattle.settings.specs.declared.circuit.Circuit.{Circuit}
 use Rattle.settings.specs.declared.setup.Settings.{Settings}
 use Rattle.settings.specs.Settings.{circuitsOf, enabledLevels}
-use Rattle.control.specs.Words.{controlWords, markPlace, countPlace, clockPlace, systemPlace, lengthsPlace, circuitsPlace, mark, marked, lengthsIn, circuitIn, circuitAt, circuitsFrom, countOf, commonOf}
+use Rattle.control.specs.Words.{controlWords, sealPlace, countPlace, clockPlace, systemPlace, lengthsPlace, circuitsPlace, seal, sealed, lengthsIn, circuitIn, circuitAt, circuitsFrom, countOf, commonOf}
 use Rattle.control.specs.Common.{withTimers, presentOf, startOf, setupCommon, noCircuit}
 use Rattle.control.proofs.CommonLaws.{length-circuits, circuits-at, Keeps, circuits-kept}
-use Rattle.control.specs.Setup.{Stores, SetsUp}
+use Rattle.control.specs.Setup.{Stores, SetsControl}
 
 -- ---- a circuit's three words
 
@@ -95,7 +95,7 @@ circuits-take ws i (suc n) (suc k) le = ap (λ (l : List Circuit). circuitAt ws 
 
 module _ (ws : List ℕ) (system clock count w : ℕ) (len : length ws ≡ controlWords) where
   abbrev x1 : List ℕ
-  x1 = set ws markPlace mark
+  x1 = set ws sealPlace seal
 
   abbrev x2 : List ℕ
   x2 = set x1 countPlace count
@@ -119,13 +119,13 @@ module _ (ws : List ℕ) (system clock count w : ℕ) (len : length ws ≡ contr
   keeps q (inl h) = absurd (omega arith)
   keeps q (inr h) =
       past x4 lengthsPlace q w (omega arith) ∙ past x3 systemPlace q system (omega arith) ∙ past x2 clockPlace q clock (omega arith)
-      ∙ past x1 countPlace q count (omega arith) ∙ past ws markPlace q mark (omega arith)
+      ∙ past x1 countPlace q count (omega arith) ∙ past ws sealPlace q seal (omega arith)
 
-  mark-there : getD set5 markPlace 0 ≡ mark
-  mark-there =
-      far x4 lengthsPlace markPlace w (omega arith) ∙ far x3 systemPlace markPlace system (omega arith)
-      ∙ far x2 clockPlace markPlace clock (omega arith) ∙ far x1 countPlace markPlace count (omega arith)
-      ∙ getD-set-same ws markPlace mark 0 (omega arith)
+  seal-there : getD set5 sealPlace 0 ≡ seal
+  seal-there =
+      far x4 lengthsPlace sealPlace w (omega arith) ∙ far x3 systemPlace sealPlace system (omega arith)
+      ∙ far x2 clockPlace sealPlace clock (omega arith) ∙ far x1 countPlace sealPlace count (omega arith)
+      ∙ getD-set-same ws sealPlace seal 0 (omega arith)
 
   count-there : getD set5 countPlace 0 ≡ count
   count-there =
@@ -141,16 +141,16 @@ module _ (ws : List ℕ) (system clock count w : ℕ) (len : length ws ≡ contr
   system-there = far x4 lengthsPlace systemPlace w (omega arith) ∙ getD-set-same x3 systemPlace system 0 (simp length-set (omega arith))
 
   counted : count ≤ circuits → countOf set5 ≡ count
-  unfolding countOf marked
+  unfolding countOf sealed
   counted h =
-      rw (eq-eqb (getD set5 markPlace 0) mark mark-there, count-there, le-ltb circuits count h) refl
+      rw (eq-eqb (getD set5 sealPlace 0) seal seal-there, count-there, le-ltb circuits count h) refl
 
   pub settings-stored : (lengths : Lengths) → lengthsIn w ≡ lengths → clock < 4294967296 → count ≤ circuits → Stores system lengths clock count ws set5
   unfolding commonOf
   settings-stored lengths e hc hn =
       let z : clock % 4294967296 ≡ clock = omega arith in
       record {
-        marked = mark-there;
+        sealed = seal-there;
         system = system-there;
         lengths = ap lengthsIn (getD-set-same x4 lengthsPlace w 0 (simp length-set (omega arith))) ∙ e;
         clock = ap (λ (n : ℕ). n % 4294967296) clock-there ∙ z;
@@ -176,7 +176,7 @@ module _ (s : Settings) (le : s .count ≤ circuits) (ws mid : List ℕ) (start 
           (record { mode = b .mode; lengths = b .lengths; clock = b .clock; present = b .present; levels = b .levels }) = rw (p, q, r, t, u) refl in x
 
   pub sets-up : (u : List ℕ) (after : Timers) (hs : List Bool) → (withTimers (started start) (commonOf mid) ≡ setupCommon s) × (start ≡ startOf s)
-      → commonOf u ≡ withTimers after (commonOf mid) → Starts start after hs → SetsUp s u hs
+      → commonOf u ≡ withTimers after (commonOf mid) → Starts start after hs → SetsControl s u hs
   sets-up u after hs q p x =
       record {
         common = p ∙ ap (λ (t : Timers). withTimers t (commonOf mid)) (x .timers) ∙ q .0;

@@ -23,11 +23,11 @@ use Rattle.timers.specs.Outcome.{ordered, tickHellos}
 use Rattle.timers.specs.Events.{Closes, Ticks, Hears}
 use Rattle.settings.specs.declared.mode.Mode.the-variants.{Running}
 use Rattle.timers.specs.declared.head.Head.{Head}
-use Rattle.timers.specs.declared.outcome.Outcome.{Outcome}
-use Rattle.timers.specs.declared.outcome.Outcome.the-variants.{Idle}
+use Rattle.timers.specs.declared.outcome.TimerOutcome.{TimerOutcome}
+use Rattle.timers.specs.declared.outcome.TimerOutcome.the-variants.{Idle}
 use Rattle.timers.proofs.T1sLaws.{bits-none}
 use Rattle.timers.proofs.TimersLaws.{settled-on, ordered-on, hellos-on, freed-on, settled-off, ordered-off, hellos-off, freed-off}
-use Rattle.control.specs.Words.{controlWords, markPlace, entriesPlace, circuitsPlace, headPlace, mark, marked, headOf, entriesOf, commonOf, entriesEnd}
+use Rattle.control.specs.Words.{controlWords, sealPlace, entriesPlace, circuitsPlace, headPlace, seal, sealed, headOf, entriesOf, commonOf, entriesEnd}
 use Rattle.control.specs.Common.{Common, withClock, withTimers}
 use Rattle.control.proofs.CommonLaws.{Keeps, timers-changed}
 use Rattle.control.proofs.HeadLaws.{mode-at}
@@ -37,10 +37,10 @@ use Rattle.basics.proofs.PartLaws.{length-back, part-same, outside}
 -- ---- the mode
 
 -- memory whose mode is not Running was set up
-pub on-marked : (ws : List ℕ) → On ws → getD ws markPlace 0 ≡ mark
-unfolding marked
-on-marked ws m =
-    by-test (eqb (getD ws markPlace 0) mark) (λ q. eqb-true (getD ws markPlace 0) mark q)
+pub on-sealed : (ws : List ℕ) → On ws → getD ws sealPlace 0 ≡ seal
+unfolding sealed
+on-sealed ws m =
+    by-test (eqb (getD ws sealPlace 0) seal) (λ q. eqb-true (getD ws sealPlace 0) seal q)
     (λ q.
     let e : commonOf ws .timers .mode ≡ Running = sym (mode-at ws) ∙ rw q refl in
     absurd (true≢false (sym (ap isRunning e) ∙ m)))
@@ -61,8 +61,8 @@ module _ (ws t : List ℕ) (len : length ws ≡ controlWords) (lt : length t ≡
   put-keeps : Keeps entriesPlace entriesEnd ws back
   put-keeps = outside entriesPlace entriesEnd ws t (omega arith) (omega arith) lt
 
-  pub mark-put : getD ws markPlace 0 ≡ mark → getD back markPlace 0 ≡ mark
-  mark-put m = put-keeps markPlace (inl (omega arith)) ∙ m
+  pub seal-put : getD ws sealPlace 0 ≡ seal → getD back sealPlace 0 ≡ seal
+  seal-put m = put-keeps sealPlace (inl (omega arith)) ∙ m
 
   -- then the head is stored
   pub put-stored : (u : List ℕ) (h : Head) → commonOf u ≡ withTimers (timersAt h (entriesOf back)) (commonOf back)
@@ -78,7 +78,7 @@ module _ (ws t : List ℕ) (len : length ws ≡ controlWords) (lt : length t ≡
 -- ---- what a call leaves
 
 module _ (ws u : List ℕ) (after : Timers) (p : commonOf u ≡ withTimers after (commonOf ws)) (m : On ws) where
-  settles-on : (f : Timers → Timers) (o : Outcome) → Closes f (commonOf ws .timers) after o → CommonSettles f ws u o
+  settles-on : (f : Timers → Timers) (o : TimerOutcome) → Closes f (commonOf ws .timers) after o → CommonSettles f ws u o
   settles-on f o s =
       record {
         common = p ∙ ap (λ (t : Timers). withTimers t (commonOf ws)) (s .timers ∙ settled-on (commonOf ws .timers) m f);
@@ -86,17 +86,17 @@ module _ (ws u : List ℕ) (after : Timers) (p : commonOf u ≡ withTimers after
       }
 
   module _ (h : Head) (e : h ≡ headOf ws) where
-    pub settles-here : (f : Timers → Timers) (o : Outcome) → Closes f (timersAt h (entriesOf ws)) after o → CommonSettles f ws u o
+    pub settles-here : (f : Timers → Timers) (o : TimerOutcome) → Closes f (timersAt h (entriesOf ws)) after o → CommonSettles f ws u o
     settles-here f o s = settles-on f o (subst (λ (t : Timers). Closes f t after o) (timers-now ws h e) s)
 
-    pub hears-here : (clock i : ℕ) (l : Levels) (d : Heard) (o : Outcome) (r : Freed) → clock ≡ commonOf ws .clock
+    pub hears-here : (clock i : ℕ) (l : Levels) (d : Heard) (o : TimerOutcome) (r : Freed) → clock ≡ commonOf ws .clock
         → Hears clock i l d (timersAt h (entriesOf ws)) after o r → CommonHears i l d ws u o r
     hears-here clock i l d o r k s =
         let x = subst (λ (t : Timers). Hears (commonOf ws .clock) i l d t after o r) (timers-now ws h e)
         (subst (λ (n : ℕ). Hears n i l d (timersAt h (entriesOf ws)) after o r) k s) in
         record { settles = settles-on (heardIn (commonOf ws .clock) i l d) o (x .closes); freed = x .freed ∙ freed-on (commonOf ws .timers) m i d }
 
-    pub ticks-here : (lengths : Lengths) (clock : ℕ) (o : Outcome) (hs : List Bool) → lengths ≡ commonOf ws .lengths
+    pub ticks-here : (lengths : Lengths) (clock : ℕ) (o : TimerOutcome) (hs : List Bool) → lengths ≡ commonOf ws .lengths
         → Ticks lengths clock (timersAt h (entriesOf ws)) after o hs → CommonTicksOn clock ws u o hs
     ticks-here lengths clock o hs k s =
         let x = subst (λ (t : Timers). Ticks (commonOf ws .lengths) clock t after o hs) (timers-now ws h e)
@@ -131,7 +131,7 @@ module _ (ws : List ℕ) (m : isRunning (commonOf ws .timers .mode) ≡ true) wh
       }
 
 -- the clock is moved first
-pub ticks-moved : (ws mid u : List ℕ) (clock : ℕ) (o : Outcome) (hs : List Bool) → commonOf mid ≡ withClock clock (commonOf ws)
+pub ticks-moved : (ws mid u : List ℕ) (clock : ℕ) (o : TimerOutcome) (hs : List Bool) → commonOf mid ≡ withClock clock (commonOf ws)
     → CommonTicksOn clock mid u o hs → CommonTicks clock ws u o hs
 ticks-moved ws mid u clock o hs e x =
     record {

@@ -7,18 +7,18 @@ use lib.ListN.{getD}
 use Rattle.settings.specs.declared.lengths.Lengths.{Lengths}
 use Rattle.timers.specs.Events.{startHellos}
 use Rattle.settings.specs.declared.setup.Settings.{Settings}
-use Rattle.control.specs.Words.{markPlace, mark, circuitsFrom, commonOf}
+use Rattle.control.specs.Words.{sealPlace, seal, circuitsFrom, commonOf}
 use Rattle.control.specs.Common.{startOf, setupCommon}
 
 -- the words that are no timer's and no circuit's
 pub record Stores (own : ℕ) (l : Lengths) (time n : ℕ) (ws ws′ : List ℕ) : Type 0 where
-  pub marked : getD ws′ markPlace 0 ≡ mark
+  pub sealed : getD ws′ sealPlace 0 ≡ seal
   pub system : commonOf ws′ .system ≡ own
   pub lengths : commonOf ws′ .lengths ≡ l
   pub clock : commonOf ws′ .clock ≡ time
   pub circuits : commonOf ws′ .circuits ≡ circuitsFrom ws 0 n
 
 -- all of them, and the circuits whose hello is ordered
-pub record SetsUp (s : Settings) (ws′ : List ℕ) (h : List Bool) : Type 0 where
+pub record SetsControl (s : Settings) (ws′ : List ℕ) (h : List Bool) : Type 0 where
   pub common : commonOf ws′ ≡ setupCommon s
   pub hellos : h ≡ startHellos (startOf s)

@@ -10,7 +10,7 @@ use Rattle.timer_parts.specs.declared.t1.Freed.{Freed}
 use Rattle.timers.specs.Timers.{Timers, settled, toT3, ticked, heardIn}
 use Rattle.timers.specs.Outcome.{ordered, tickHellos, heardFreed}
 use Rattle.settings.specs.Mode.{isRunning}
-use Rattle.timers.specs.declared.outcome.Outcome.{Outcome}
+use Rattle.timers.specs.declared.outcome.TimerOutcome.{TimerOutcome}
 use Rattle.control.specs.Words.{commonOf}
 use Rattle.control.specs.Common.{withClock, withTimers}
 
@@ -19,22 +19,22 @@ abbrev pub On : List ℕ → Type 0
 On ws = isRunning (commonOf ws .timers .mode) ≡ false
 
 -- a call whose own step is f
-pub record CommonSettles (f : Timers → Timers) (ws ws′ : List ℕ) (o : Outcome) : Type 0 where
+pub record CommonSettles (f : Timers → Timers) (ws ws′ : List ℕ) (o : TimerOutcome) : Type 0 where
   pub common : commonOf ws′ ≡ withTimers (settled f (commonOf ws .timers)) (commonOf ws)
   pub outcome : o ≡ ordered f (commonOf ws .timers)
 
 -- an accepted hello on circuit i, which has the levels l, at the held clock
-pub record CommonHears (i : ℕ) (l : Levels) (d : Heard) (ws ws′ : List ℕ) (o : Outcome) (r : Freed) : Type 0 where
+pub record CommonHears (i : ℕ) (l : Levels) (d : Heard) (ws ws′ : List ℕ) (o : TimerOutcome) (r : Freed) : Type 0 where
   pub settles : CommonSettles (heardIn (commonOf ws .clock) i l d) ws ws′ o
   pub freed : r ≡ heardFreed i d (commonOf ws .timers)
 
 -- a tick's timers, where the clock is moved already
-pub record CommonTicksOn (clock : ℕ) (ws ws′ : List ℕ) (o : Outcome) (h : List Bool) : Type 0 where
+pub record CommonTicksOn (clock : ℕ) (ws ws′ : List ℕ) (o : TimerOutcome) (h : List Bool) : Type 0 where
   pub settles : CommonSettles (toT3 (commonOf ws .lengths) clock) ws ws′ o
   pub hellos : h ≡ tickHellos (commonOf ws .lengths) clock (commonOf ws .timers)
 
 -- a tick: the clock, and the timers at it
-pub record CommonTicks (clock : ℕ) (ws ws′ : List ℕ) (o : Outcome) (h : List Bool) : Type 0 where
+pub record CommonTicks (clock : ℕ) (ws ws′ : List ℕ) (o : TimerOutcome) (h : List Bool) : Type 0 where
   pub common : commonOf ws′ ≡ withTimers (ticked (commonOf ws .lengths) clock (commonOf ws .timers)) (withClock clock (commonOf ws))
   pub outcome : o ≡ ordered (toT3 (commonOf ws .lengths) clock) (commonOf ws .timers)
   pub hellos : h ≡ tickHellos (commonOf ws .lengths) clock (commonOf ws .timers)

@@ -27,8 +27,8 @@ controlWords = 128
 
 -- ---- the places
 
-abbrev pub markPlace : ℕ
-markPlace = 0
+abbrev pub sealPlace : ℕ
+sealPlace = 0
 
 abbrev pub countPlace : ℕ
 countPlace = 1
@@ -57,14 +57,14 @@ entriesEnd = entriesPlace + wordCount
 abbrev pub circuitsPlace : ℕ
 circuitsPlace = 64
 
--- ---- the mark
+-- ---- the seal
 
-abbrev pub mark : ℕ
-mark = 5283647409863405617
+abbrev pub seal : ℕ
+seal = 5283647409863405617
 
 -- a word of memory that was set up; in any other memory it counts as 0
-unfoldable pub marked : List ℕ → ℕ → ℕ
-marked ws i = cond (eqb (getD ws markPlace 0) mark) (getD ws i 0) 0
+unfoldable pub sealed : List ℕ → ℕ → ℕ
+sealed ws i = cond (eqb (getD ws sealPlace 0) seal) (getD ws i 0) 0
 
 -- ---- the lengths
 
@@ -102,7 +102,7 @@ abbrev pub countIn : ℕ → ℕ
 countIn n = cond (ltb circuits n) 0 n
 
 unfoldable pub countOf : List ℕ → ℕ
-countOf ws = countIn (marked ws countPlace)
+countOf ws = countIn (sealed ws countPlace)
 
 -- ---- the timers' head
 
@@ -129,7 +129,7 @@ headIn w a b c =
 
 -- in memory that was never set up the mode is Running and nothing runs
 unfoldable pub headOf : List ℕ → Head
-headOf ws = headIn (marked ws headPlace) (getD ws (headPlace + 1) 0) (getD ws (headPlace + 2) 0) (getD ws (headPlace + 3) 0)
+headOf ws = headIn (sealed ws headPlace) (getD ws (headPlace + 1) 0) (getD ws (headPlace + 2) 0) (getD ws (headPlace + 3) 0)
 
 abbrev pub entriesOf : List ℕ → List ℕ
 entriesOf ws = take wordCount (drop entriesPlace ws)

@@ -6,7 +6,7 @@
 //
 // Mode: 0 Running, 1 Restarting. T3: 0 idle, 1 runs, 2 expired. The deadlines follow in words of their own.
 use crate::words::HEAD_AT;
-use crate::words::marked_at;
+use crate::words::sealed_at;
 use basics::bits::digit;
 use settings::mode::Mode;
 use timer_parts::t2::T2;
@@ -18,7 +18,7 @@ ghost use mathlib.Core.Path.{_≡_};
 ghost use Prim.Native.Nat.{_<_};
 ghost use lib.ListN.{length, getD};
 ghost use Rattle.timers.specs.Memory.{timersAt};
-ghost use Rattle.control.specs.Words.{controlWords, markPlace, mark, modeIn, timerIn, t2In, t3In, headIn, headOf, entriesOf, timerDeadline, t3Deadline, commonOf};
+ghost use Rattle.control.specs.Words.{controlWords, sealPlace, seal, modeIn, timerIn, t2In, t3In, headIn, headOf, entriesOf, timerDeadline, t3Deadline, commonOf};
 ghost use Rattle.control.specs.Common.{withTimers};
 
 fn mode_in(d: u64) -> Mode
@@ -81,14 +81,14 @@ pub fn mode_of(words: &[u64]) -> Mode
     requires { ⌜ length (now words) ≡ controlWords ⌝ }
     ensures { λ r. ⌜ r ≡ commonOf (now (words .entry)) .timers .mode ⌝ }
 {
-    mode_in(marked_at(words, HEAD_AT) % 4)
+    mode_in(sealed_at(words, HEAD_AT) % 4)
 }
 
 pub fn load_head(words: &[u64]) -> Head
     requires { ⌜ length (now words) ≡ controlWords ⌝ }
     ensures { λ r. ⌜ r ≡ headOf (now (words .entry)) ⌝ }
 {
-    let w = marked_at(words, HEAD_AT);
+    let w = sealed_at(words, HEAD_AT);
     head_in(
         w,
         words[HEAD_AT + 1],
@@ -167,7 +167,7 @@ fn head_word(h: Head) -> u64
 
 // In memory that was set up.
 pub fn store_head(words: &mut [u64], h: Head)
-    requires { ⌜ (length (now words) ≡ controlWords) × (getD (now words) markPlace 0 ≡ mark) ⌝ }
+    requires { ⌜ (length (now words) ≡ controlWords) × (getD (now words) sealPlace 0 ≡ seal) ⌝ }
     ensures { λ _. ⌜ commonOf (now (words .exit)) ≡ withTimers (timersAt h (entriesOf (now (words .entry)))) (commonOf (now (words .entry))) ⌝ }
 {
     let w = head_word(h);

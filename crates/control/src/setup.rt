@@ -8,8 +8,8 @@ use crate::words::COUNT_AT;
 use crate::words::ENTRIES_AT;
 use crate::words::ENTRIES_END;
 use crate::words::LENGTHS_AT;
-use crate::words::MARK;
-use crate::words::MARK_AT;
+use crate::words::SEAL;
+use crate::words::SEAL_AT;
 use crate::words::SYSTEM_AT;
 use crate::words::levels_of;
 use basics::mask::CIRCUITS;
@@ -25,7 +25,7 @@ ghost use lib.ListN.{length};
 ghost use Rattle.basics.specs.Mask.{bits, circuits};
 ghost use Rattle.control.specs.Words.{controlWords, circuitAt, circuitsFrom};
 ghost use Rattle.control.specs.Common.{presentOf};
-ghost use Rattle.control.specs.Setup.{Stores, SetsUp};
+ghost use Rattle.control.specs.Setup.{Stores, SetsControl};
 
 // Circuit i, from 0.
 fn store_circuit(words: &mut [u64], i: usize, s: Circuit)
@@ -57,7 +57,7 @@ fn store_settings(words: &mut [u64], system: u64, lengths: Lengths, clock: u32, 
     ensures { λ _. ⌜ Stores system lengths clock count (now (words .entry)) (now (words .exit)) ⌝ }
 {
     let w = lengths_word(lengths);
-    words[MARK_AT] = MARK;
+    words[SEAL_AT] = SEAL;
     words[COUNT_AT] = count as u64;
     words[CLOCK_AT] = clock as u64;
     words[SYSTEM_AT] = system;
@@ -75,7 +75,7 @@ fn present_of(count: u8) -> u8
 // The common part of a new gateway; the answer is the mask of the circuits whose hello is ordered.
 pub fn set_up(words: &mut [u64], s: Settings) -> u8
     requires { ⌜ (length (now words) ≡ controlWords) × (s .count ≤ circuits) ⌝ }
-    ensures { λ r. ⌜ SetsUp s (now (words .exit)) (bits r) ⌝ }
+    ensures { λ r. ⌜ SetsControl s (now (words .exit)) (bits r) ⌝ }
 {
     let lengths = s.lengths;
     let mode = s.mode;

@@ -14,7 +14,7 @@ use settings::mode::Mode;
 use settings::mode::is_running;
 use timer_parts::heard::Heard;
 use timer_parts::t1::Freed;
-use timers::outcome::Outcome;
+use timers::outcome::TimerOutcome;
 ghost use mathlib.Core.Path.{_≡_};
 ghost use Prim.Native.Nat.{_<_};
 ghost use lib.ListN.{length, getD};
@@ -24,17 +24,17 @@ ghost use Rattle.timers.specs.Timers.{noT1, csnpIn, noticeT2s, countRuns, first
 ghost use Rattle.control.specs.Words.{controlWords, commonOf};
 ghost use Rattle.control.specs.Timing.{On, CommonSettles, CommonHears, CommonTicksOn, CommonTicks};
 
-pub struct Handled {
-    pub outcome: Outcome,
+pub struct HelloOrders {
+    pub outcome: TimerOutcome,
     pub freed: Freed,
 }
 
-pub struct Ticked {
+pub struct TickOrders {
     pub hellos: u8,
-    pub outcome: Outcome,
+    pub outcome: TimerOutcome,
 }
 
-fn hear_in(words: &mut [u64], i: usize, l: Levels, d: Heard) -> Handled
+fn hear_in(words: &mut [u64], i: usize, l: Levels, d: Heard) -> HelloOrders
     requires { ⌜ (length (now words) ≡ controlWords) × (i < circuits) × On (now words) ⌝ }
     ensures { λ r. ⌜ CommonHears i l d (now (words .entry)) (now (words .exit)) (r .outcome) (r .freed) ⌝ }
 {
@@ -45,17 +45,17 @@ fn hear_in(words: &mut [u64], i: usize, l: Levels, d: Heard) -> Handled
     let outcome = x.outcome;
     let freed = x.freed;
     store_head(words, head);
-    Handled { outcome, freed }
+    HelloOrders { outcome, freed }
 }
 
 // An accepted hello on circuit i, which has the levels `l`, at the held clock and in the held mode.
-pub fn hear(words: &mut [u64], mode: Mode, i: usize, l: Levels, d: Heard) -> Handled
+pub fn hear(words: &mut [u64], mode: Mode, i: usize, l: Levels, d: Heard) -> HelloOrders
     requires { ⌜ (length (now words) ≡ controlWords) × (i < circuits) × (mode ≡ commonOf (now words) .timers .mode) ⌝ }
     ensures { λ r. ⌜ CommonHears i l d (now (words .entry)) (now (words .exit)) (r .outcome) (r .freed) ⌝ }
 {
     if is_running(mode) {
-        return Handled {
-            outcome: Outcome::Idle,
+        return HelloOrders {
+            outcome: TimerOutcome::Idle,
             freed: Freed::Kept,
         };
     }
@@ -63,7 +63,7 @@ pub fn hear(words: &mut [u64], mode: Mode, i: usize, l: Levels, d: Heard) -> Han
 }
 
 // The CSNP sets of the levels `n` are complete on circuit i, which has the levels `l`.
-pub fn notice_csnp(words: &mut [u64], i: usize, l: Levels, n: Levels) -> Outcome
+pub fn notice_csnp(words: &mut [u64], i: usize, l: Levels, n: Levels) -> TimerOutcome
     requires { ⌜ (length (now words) ≡ controlWords) × (i < circuits) × On (now words) ⌝ }
     ensures { λ r. ⌜ CommonSettles (csnpIn i l n) (now (words .entry)) (now (words .exit)) r ⌝ }
 {
@@ -76,7 +76,7 @@ pub fn notice_csnp(words: &mut [u64], i: usize, l: Levels, n: Levels) -> Outcome
 }
 
 // The databases of the levels `n` are complete.
-pub fn notice_database(words: &mut [u64], n: Levels) -> Outcome
+pub fn notice_database(words: &mut [u64], n: Levels) -> TimerOutcome
     requires { ⌜ (length (now words) ≡ controlWords) × On (now words) ⌝ }
     ensures { λ r. ⌜ CommonSettles (noticeT2s n) (now (words .entry)) (now (words .exit)) r ⌝ }
 {
@@ -88,7 +88,7 @@ pub fn notice_database(words: &mut [u64], n: Levels) -> Outcome
     outcome
 }
 
-fn tick_in(words: &mut [u64], clock: u32) -> Ticked
+fn tick_in(words: &mut [u64], clock: u32) -> TickOrders
     requires { ⌜ (length (now words) ≡ controlWords) × On (now words) ⌝ }
     ensures { λ r. ⌜ CommonTicksOn clock (now (words .entry)) (now (words .exit)) (r .outcome) (bits (r .hellos)) ⌝ }
 {
@@ -99,24 +99,24 @@ fn tick_in(words: &mut [u64], clock: u32) -> Ticked
     let outcome = x.outcome;
     let hellos = x.hellos;
     store_head(words, head);
-    Ticked { hellos, outcome }
+    TickOrders { hellos, outcome }
 }
 
-fn tick_on(words: &mut [u64], clock: u32) -> Ticked
+fn tick_on(words: &mut [u64], clock: u32) -> TickOrders
     requires { ⌜ length (now words) ≡ controlWords ⌝ }
     ensures { λ r. ⌜ CommonTicksOn clock (now (words .entry)) (now (words .exit)) (r .outcome) (bits (r .hellos)) ⌝ }
 {
     if is_running(mode_of(words)) {
-        return Ticked {
+        return TickOrders {
             hellos: 0,
-            outcome: Outcome::Idle,
+            outcome: TimerOutcome::Idle,
         };
     }
     tick_in(words, clock)
 }
 
 // The clock, and then the timers at it.
-pub fn tick(words: &mut [u64], clock: u32) -> Ticked
+pub fn tick(words: &mut [u64], clock: u32) -> TickOrders
     requires { ⌜ length (now words) ≡ controlWords ⌝ }
     ensures { λ r. ⌜ CommonTicks clock (now (words .entry)) (now (words .exit)) (r .outcome) (bits (r .hellos)) ⌝ }
 {

@@ -1,9 +1,9 @@
 // The control words (house).
 //
 //   word  0     1      2      3          4        5             6, 7          8            9-15   16-31       32-63  64-87     88-127
-//         mark  count  clock  System ID  lengths  timers' head  T2 deadlines  T3 deadline  free   T1 entries  free   circuits  free
+//         seal  count  clock  System ID  lengths  timers' head  T2 deadlines  T3 deadline  free   T1 entries  free   circuits  free
 //
-// A circuit has three words: its small fields, its MAC, its extended circuit ID. In memory without the mark the words 1 and 5
+// A circuit has three words: its small fields, its MAC, its extended circuit ID. In memory without the seal the words 1 and 5
 // count as 0: it has no circuits, and no timer runs there.
 use basics::kind::CircuitKind;
 use basics::levels::Levels;
@@ -18,12 +18,12 @@ ghost use Prim.Native.Nat.{_<_, _≤_};
 ghost use lib.ListN.{length};
 ghost use Rattle.basics.specs.Mask.{circuits};
 ghost use Rattle.settings.specs.Settings.{enabledLevels};
-ghost use Rattle.control.specs.Words.{controlWords, marked, countOf, kindIn, circuitIn, circuitAt, lengthsIn, commonOf};
+ghost use Rattle.control.specs.Words.{controlWords, sealed, countOf, kindIn, circuitIn, circuitAt, lengthsIn, commonOf};
 ghost use Rattle.control.specs.Common.{withClock, Chooses};
 
-pub const MARK: u64 = 5283647409863405617;
+pub const SEAL: u64 = 5283647409863405617;
 
-pub const MARK_AT: usize = 0;
+pub const SEAL_AT: usize = 0;
 
 pub const COUNT_AT: usize = 1;
 
@@ -45,11 +45,11 @@ pub const CIRCUITS_AT: usize = 64;
 pub const CONTROL_WORDS: usize = 128;
 
 // A word of memory that was set up.
-pub fn marked_at(words: &[u64], i: usize) -> u64
+pub fn sealed_at(words: &[u64], i: usize) -> u64
     requires { ⌜ (length (now words) ≡ controlWords) × (i < controlWords) ⌝ }
-    ensures { λ r. ⌜ r ≡ marked (now (words .entry)) i ⌝ }
+    ensures { λ r. ⌜ r ≡ sealed (now (words .entry)) i ⌝ }
 {
-    if words[MARK_AT] == MARK {
+    if words[SEAL_AT] == SEAL {
         return words[i];
     }
     0
@@ -59,7 +59,7 @@ pub fn count_of(words: &[u64]) -> usize
     requires { ⌜ length (now words) ≡ controlWords ⌝ }
     ensures { λ r. ⌜ (r ≡ countOf (now (words .entry))) × (r ≤ circuits) ⌝ }
 {
-    let n = marked_at(words, COUNT_AT);
+    let n = sealed_at(words, COUNT_AT);
     if (CIRCUITS as u64) < n {
         return 0;
     }

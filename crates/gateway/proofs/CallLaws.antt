@@ -17,7 +17,7 @@ use Rattle.slots.specs.Slots.{tableOf, roomWords}
 use Rattle.adjacency.specs.Place.{expiredBy}
 use Rattle.adjacency.specs.declared.place.Slot.{Slot}
 use Rattle.room.specs.Table.{find, released, firstState, expired, anyExpired}
-use Rattle.room.specs.Sweep.{Swept}
+use Rattle.room.specs.Sweep.{Sweeps}
 use Rattle.metric.specs.Metric.{linkMetric}
 use Rattle.restart_tlv.specs.declared.flags.Flags.{Flags}
 use Rattle.basics.specs.declared.levels.Levels.{Levels}
@@ -29,7 +29,7 @@ use Rattle.basics.specs.declared.mask.Lowest.{Lowest}
 use Rattle.timers.specs.Timers.{Timers, ticked, toT3, csnpIn, noticeT2s, noT1, countRuns, firstRuns}
 use Rattle.settings.specs.Mode.{isRestarting}
 use Rattle.timers.specs.Outcome.{ordered, tickHellos}
-use Rattle.timers.specs.declared.outcome.Outcome.{Outcome as Timed}
+use Rattle.timers.specs.declared.outcome.TimerOutcome.{TimerOutcome}
 use Rattle.settings.specs.Settings.{enabledLevels}
 use Rattle.settings.specs.declared.circuit.Circuit.{Circuit}
 use Rattle.control.specs.Words.{countOf, commonOf, controlWords}
@@ -40,7 +40,7 @@ use Rattle.adjacency.specs.Keys.{keyOn}
 use Rattle.model.specs.Answers.{Answer, Refused, Ticked, Told, Fact, Done, Noticed, Looked, Metric, HelloFlags, Waits}
 use Rattle.model.specs.Gateway.{Gateway, Room, withRooms, withCommon, noRoom, renew, roomOf}
 use Rattle.model.specs.Receive.{Acted, refuse}
-use Rattle.model.specs.Step.{Call, Judged, Decline, Tell, Release, CsnpComplete, LookUp, LinkMetric, NextHello, Tick, DatabaseComplete, Waiting, Over, act, asksLevel, csnpComplete, lookUp, linkMetricOf, nextHello, noticeOf, settledBy, lift, noneOf, quiet, tickOf, databaseOf, judge, carry, swept, lapsed, step}
+use Rattle.model.specs.Step.{Call, Judged, Refused as RefusedCall, Tell, Release, CsnpComplete, LookUp, LinkMetric, NextHello, Tick, DatabaseComplete, Waiting, Over, act, asksLevel, csnpComplete, lookUp, linkMetricOf, nextHello, noticeOf, settledBy, lift, noneOf, quiet, tickOf, databaseOf, judge, carry, sweptRoom, lapsed, step}
 use Rattle.gateway.specs.Words.{gatewayWords, roomPlace, gatewayOf, Meets}
 use Rattle.basics.specs.Lists.{part}
 use Rattle.gateway.proofs.WordLaws.{along, asks, common-at, common-put, room-put, room-at, room-of, renew-at, same-room}
@@ -91,14 +91,14 @@ module _ (ws : List ℕ) (n : ℕ) (len : length ws ≡ gatewayWords) where
       unfolding lift csnpComplete gatewayOf
       csnp-outside m = rw (has, m) refl
 
-      pub csnp-taken : (m : isRestarting (commonOf (part 0 controlWords ws) .timers .mode) ≡ true) (on : Levels) (se : on ≡ onlyLevel level) (u : List ℕ) (lu : length u ≡ controlWords) (o : Timed)
+      pub csnp-taken : (m : isRestarting (commonOf (part 0 controlWords ws) .timers .mode) ≡ true) (on : Levels) (se : on ≡ onlyLevel level) (u : List ℕ) (lu : length u ≡ controlWords) (o : TimerOutcome)
           → CommonSettles (csnpIn (n - 1) (s .levels) on) (part 0 controlWords ws) u o
           → Meets (Told (Noticed o)) (lift g n (csnpComplete n s level)) ws (putMid 0 controlWords ws u) []
       unfolding csnpComplete gatewayOf
       csnp-taken m on se u lu o h =
           let f : Timers → Timers = csnpIn (n - 1) (s .levels) (onlyLevel level) in
           let h′ : CommonSettles f (part 0 controlWords ws) u o = subst (λ (x : Levels). CommonSettles (csnpIn (n - 1) (s .levels) x) (part 0 controlWords ws) u o) se h in
-          common-acts (csnpComplete n s level) (Noticed o) u lu (rw (has, m) (ap (λ (x : Timed). Told (Noticed x)) (h′ .outcome))) (rw (has, m) refl) (rw (has, m) (h′ .common)) (rw (has, m) refl)
+          common-acts (csnpComplete n s level) (Noticed o) u lu (rw (has, m) (ap (λ (x : TimerOutcome). Told (Noticed x)) (h′ .outcome))) (rw (has, m) refl) (rw (has, m) (h′ .common)) (rw (has, m) refl)
 
   -- look up
   module _ (s : Circuit) (k : Key) where
@@ -178,12 +178,12 @@ module _ (ws : List ℕ) where
       tick-back c e lt =
           rw (is-some, lt-ltb clock (cs .clock) (rw (← e) lt)) (record { answer = refl; reply = refl; next = refl; kept = λ x y. refl })
 
-      pub tick-took : (c : ℕ) (ws1 u : List ℕ) (marks hellos : List Bool) (o : Timed) → c ≡ cs .clock → c ≤ clock → length ws1 ≡ gatewayWords → length u ≡ controlWords
-          → marks ≡ map (lapsed clock) (gw .rooms) → gatewayOf ws1 ≡ withRooms gw (map (swept clock) (gw .rooms))
+      pub tick-took : (c : ℕ) (ws1 u : List ℕ) (lost hellos : List Bool) (o : TimerOutcome) → c ≡ cs .clock → c ≤ clock → length ws1 ≡ gatewayWords → length u ≡ controlWords
+          → lost ≡ map (lapsed clock) (gw .rooms) → gatewayOf ws1 ≡ withRooms gw (map (sweptRoom clock) (gw .rooms))
           → CommonTicks clock (part 0 controlWords ws1) u o hellos
-          → Meets (Ticked marks hellos o) (step gw (Over (Tick clock))) ws (putMid 0 controlWords ws1 u) []
+          → Meets (Ticked lost hellos o) (step gw (Over (Tick clock))) ws (putMid 0 controlWords ws1 u) []
       unfolding step judge tickOf carry
-      tick-took c ws1 u marks hellos o e le l1 lu m r h =
+      tick-took c ws1 u lost hellos o e le l1 lu m r h =
           let c1 : commonOf (part 0 controlWords ws1) ≡ gw .common = common-at ws1 ∙ ap (λ (x : Gateway). x .common) r in
           let s : noneOf (gw .common .circuits) ≡ false = rw (← common-at ws) is-some in
           let w : gw .common .clock ≤ clock = rw (← common-at ws, ← e) le in
@@ -194,7 +194,7 @@ module _ (ws : List ℕ) where
           (record {
             answer = λ i. Ticked (m i) (hh i) (ho i);
             reply = refl;
-            next = common-put ws1 u l1 lu ∙ ap (λ (x : Gateway). withCommon x (commonOf u)) r ∙ ap (withCommon (withRooms gw (map (swept clock) (gw .rooms)))) hc;
+            next = common-put ws1 u l1 lu ∙ ap (λ (x : Gateway). withCommon x (commonOf u)) r ∙ ap (withCommon (withRooms gw (map (sweptRoom clock) (gw .rooms)))) hc;
             kept = λ x z. absurd (let y : _≡_ {A = ℕ} 0 1 = cc in omega arith);
           })
 
@@ -208,7 +208,7 @@ module _ (ws : List ℕ) where
     database-off e = rw (← le, e) (record { answer = refl; reply = refl; next = refl; kept = λ x y. refl })
 
     module _ (on : hasLevel l level ≡ true) where
-      judged : (d : Judged) → cond (isRestarting (gw .common .timers .mode)) (Tell (settledBy (noticeT2s (onlyLevel level)) (gw .common)) (Told (noticeOf (noticeT2s (onlyLevel level)) (gw .common)))) (Decline NotRestarting) ≡ d
+      judged : (d : Judged) → cond (isRestarting (gw .common .timers .mode)) (Tell (settledBy (noticeT2s (onlyLevel level)) (gw .common)) (Told (noticeOf (noticeT2s (onlyLevel level)) (gw .common)))) (RefusedCall NotRestarting) ≡ d
           → step gw call ≡ carry gw d
       unfolding step judge databaseOf
       judged d e =
@@ -219,11 +219,11 @@ module _ (ws : List ℕ) where
       unfolding carry
       database-outside m =
           let q : isRestarting (gw .common .timers .mode) ≡ false = rw (← common-at ws) m in
-          along (sym (judged (Decline NotRestarting) (rw q)))
+          along (sym (judged (RefusedCall NotRestarting) (rw q)))
           (record { answer = refl; reply = refl; next = refl; kept = λ x y. refl })
 
       pub database-taken : isRestarting (cs .timers .mode) ≡ true → (n : Levels) → n ≡ onlyLevel level → (u : List ℕ) → length ws ≡ gatewayWords → length u ≡ controlWords
-          → (o : Timed) → CommonSettles (noticeT2s n) (part 0 controlWords ws) u o → Meets (Told (Noticed o)) (step gw call) ws (putMid 0 controlWords ws u) []
+          → (o : TimerOutcome) → CommonSettles (noticeT2s n) (part 0 controlWords ws) u o → Meets (Told (Noticed o)) (step gw call) ws (putMid 0 controlWords ws u) []
       unfolding carry
       database-taken m n ne u len lu o h =
           let f : Timers → Timers = noticeT2s (onlyLevel level) in
@@ -244,10 +244,10 @@ module _ (ws : List ℕ) where
   unfolding step judge carry gatewayOf
   waits k low e f = record { answer = λ i. Told (Waits (e i) (f i)); reply = refl; next = refl; kept = λ x y. refl }
 
-pub lapsed-at : (ws : List ℕ) (clock i : ℕ) → i < circuits → (any : Bool) (t : List ℕ) → Swept (expiredBy clock) (tableOf (part (roomPlace i) (roomPlace i + roomWords - roomPlace i) ws)) (tableOf t) any
+pub lapsed-at : (ws : List ℕ) (clock i : ℕ) → i < circuits → (any : Bool) (t : List ℕ) → Sweeps (expiredBy clock) (tableOf (part (roomPlace i) (roomPlace i + roomWords - roomPlace i) ws)) (tableOf t) any
     → length ws ≡ gatewayWords → length t ≡ roomPlace i + roomWords - roomPlace i
     → (any ≡ lapsed clock (getD (gatewayOf ws .rooms) i noRoom))
-    × (gatewayOf (putMid (roomPlace i) (roomPlace i + roomWords - roomPlace i) ws t) ≡ withRooms (gatewayOf ws) (set (gatewayOf ws .rooms) i (swept clock (getD (gatewayOf ws .rooms) i noRoom))))
+    × (gatewayOf (putMid (roomPlace i) (roomPlace i + roomWords - roomPlace i) ws t) ≡ withRooms (gatewayOf ws) (set (gatewayOf ws .rooms) i (sweptRoom clock (getD (gatewayOf ws .rooms) i noRoom))))
 lapsed-at ws clock i lt any t s len lt64 =
     let e = room-at ws i lt in (
       s .any ∙ ap (anyExpired clock) e,

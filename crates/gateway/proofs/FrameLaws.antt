@@ -12,7 +12,7 @@ use Rattle.gateway.specs.Frame.{commonAfter, GivesOrders}
 use Rattle.basics.specs.Mask.{circuits}
 use Rattle.hello.specs.Hello.{helloRead}
 use Rattle.hello.specs.declared.read.Hello.{Hello}
-use Rattle.hello.specs.declared.read.Read.the-variants.{Refused as Unread, Accepted as ReadAs}
+use Rattle.hello.specs.declared.read.Read.the-variants.{Refused as RefusedRead, Accepted as ReadAs}
 use Rattle.basics.specs.declared.refusal.Refusal.{Refusal}
 use Rattle.basics.specs.declared.refusal.Refusal.the-variants.{ReplyRoom, WrongSource}
 use Rattle.adjacency.specs.Step.{wrongSource}
@@ -21,7 +21,7 @@ use Rattle.adjacency.specs.declared.duty.Rank.{Rank}
 use Rattle.adjacency.specs.declared.marks.Acknowledgement.{Acknowledgement}
 use Rattle.adjacency.specs.declared.marks.Line.{Line}
 use Rattle.adjacency.specs.declared.react.Reaction.{Reaction}
-use Rattle.adjacency.specs.declared.react.Reaction.the-variants.{Refused as Declined, Accepted}
+use Rattle.adjacency.specs.declared.react.Reaction.the-variants.{Refused as RefusedReaction, Accepted}
 use Rattle.adjacency.specs.declared.record.Adjacency.{Adjacency}
 use Rattle.adjacency.specs.declared.record.Key.{Key}
 use Rattle.adjacency.specs.declared.step.Here.{Here}
@@ -30,7 +30,7 @@ use Rattle.adjacency.specs.declared.place.Slot.{Slot}
 use Rattle.basics.specs.declared.levels.Levels.{Levels}
 use Rattle.timer_parts.specs.declared.heard.Heard.{Heard}
 use Rattle.timer_parts.specs.declared.t1.Freed.{Freed}
-use Rattle.timers.specs.declared.outcome.Outcome.{Outcome as Timed}
+use Rattle.timers.specs.declared.outcome.TimerOutcome.{TimerOutcome}
 use Rattle.settings.specs.declared.circuit.Circuit.{Circuit}
 use Rattle.control.specs.Common.{Common}
 use Rattle.control.specs.Words.{commonOf, controlWords}
@@ -46,7 +46,7 @@ use Rattle.gateway.specs.Words.{gatewayWords, roomPlace, gatewayOf, Meet
 use Rattle.basics.specs.Lists.{part}
 use Rattle.gateway.proofs.WordLaws.{along, refuses, common-at, common-put, room-put, room-same, room-of, renew-at}
 
-pub hears-said : {i : ℕ} {l : Levels} {d d′ : Heard} {ws u : List ℕ} {o : Timed} {r : Freed} → d ≡ d′ → CommonHears i l d ws u o r → CommonHears i l d′ ws u o r
+pub hears-said : {i : ℕ} {l : Levels} {d d′ : Heard} {ws u : List ℕ} {o : TimerOutcome} {r : Freed} → d ≡ d′ → CommonHears i l d ws u o r → CommonHears i l d′ ws u o r
 hears-said e h = rw (← e) h
 
 pub received-is : (g : Gateway) (n : ℕ) (s : Circuit) (mac : ℕ) (frame b : List ℕ) → lift g n (receive n s mac frame b) ≡ lift g n (act n s (Receive mac frame b))
@@ -61,7 +61,7 @@ module _ (g : Gateway) (n : ℕ) (s : Circuit) (mac : ℕ) (frame b : List ℕ) 
   small h = rw (lt-ltb (length b) 11 h) refl
 
   module _ (room : 11 ≤ length b) where
-    pub reads-bad : (x : Refusal) → helloRead (s .kind) (s .mac) frame ≡ Unread x → lift g n (refuse b x) ≡ lift g n (receive n s mac frame b)
+    pub reads-bad : (x : Refusal) → helloRead (s .kind) (s .mac) frame ≡ RefusedRead x → lift g n (refuse b x) ≡ lift g n (receive n s mac frame b)
     unfolding receive readIn
     reads-bad x e = rw (le-ltb (length b) 11 room, e) refl
 
@@ -91,7 +91,7 @@ module _ (ws : List ℕ) (n : ℕ) (s : Circuit) (mac : ℕ) (h : Hello) (b : Li
   abbrev k : Key
   k = keyIn (s .kind) mac h
 
-  declined-is : (x : Refusal) → Declined x ≡ decided (hereOf (g .common) s) k h (roomOf g n .slots) → lift g n (refuse b x) ≡ lift g n (decidedIn n s mac b h)
+  declined-is : (x : Refusal) → RefusedReaction x ≡ decided (hereOf (g .common) s) k h (roomOf g n .slots) → lift g n (refuse b x) ≡ lift g n (decidedIn n s mac b h)
   unfolding lift decidedIn reacted
   declined-is x e = rw (← e) refl
 
@@ -109,11 +109,11 @@ module _ (ws : List ℕ) (n : ℕ) (s : Circuit) (mac : ℕ) (h : Hello) (b : Li
         ∙ ap (λ (x : Key). decided (hereOf (g .common) s) x h (tableOf (part a (a + roomWords - a) ws))) ke
         ∙ ap (decided (hereOf (g .common) s) k h) (room-of ws n lo hi)
 
-    pub left : (x : Refusal) (t b′ : List ℕ) → Accepts here key h (part a (a + roomWords - a) ws) b t b′ (Declined x)
+    pub left : (x : Refusal) (t b′ : List ℕ) → Accepts here key h (part a (a + roomWords - a) ws) b t b′ (RefusedReaction x)
         → Meets (Refused x) (lift g n (decidedIn n s mac b h)) ws (putMid a (a + roomWords - a) ws t) b′
     left x t b′ l =
         let w : putMid a (a + roomWords - a) ws t ≡ ws = ap (putMid a (a + roomWords - a) ws) (l .did .0) ∙ put-same a (a + roomWords - a) ws in
-        rw (w, l .did .1) (along (declined-is x (decided-at (Declined x) (l .is))) (refuses ws n b x))
+        rw (w, l .did .1) (along (declined-is x (decided-at (RefusedReaction x) (l .is))) (refuses ws n b x))
 
     module _ (t b′ : List ℕ) (after : Adjacency) (reply : Acknowledgement) (line : Line) (lt : length t ≡ a + roomWords - a) where
       abbrev ws1 : List ℕ
@@ -153,7 +153,7 @@ module _ (ws : List ℕ) (n : ℕ) (s : Circuit) (h : Hello) (reply : Acknowledg
   abbrev at : ℕ
   at = roomPlace (n - 1)
 
-  pub gives : (rank : Rank) (cs : Csnps) (timed : Timed) (freed : Freed) (u : List ℕ) → length u ≡ controlWords → rank ≡ rankOf s h
+  pub gives : (rank : Rank) (cs : Csnps) (timed : TimerOutcome) (freed : Freed) (u : List ℕ) → length u ≡ controlWords → rank ≡ rankOf s h
       → cs ≡ csnpsIn rank line (s .levels) (h .link) (tableOf (part at (at + roomWords - at) ws))
       → CommonHears (n - 1) (s .levels) (saidOf (commonOf (part 0 controlWords ws)) s h) (part 0 controlWords ws) u timed freed
       → GivesOrders n s h reply line ws (putMid 0 controlWords ws u) (record { reply = reply; csnps = cs; outcome = timed; freed = freed })

@@ -16,7 +16,7 @@ use Rattle.settings.specs.Settings.{settingsOk}
 use Rattle.settings.specs.declared.circuit.Circuit.{Circuit}
 use Rattle.settings.specs.declared.setup.Settings.{Settings}
 use Rattle.control.specs.Common.{setupCommon}
-use Rattle.control.specs.Setup.{SetsUp as StoresAll}
+use Rattle.control.specs.Setup.{SetsControl as StoresAll}
 use Rattle.model.specs.declared.answers.SetUp.{SetUp}
 use Rattle.model.specs.declared.answers.SetUp.the-variants.{Refused, Done}
 use Rattle.model.specs.Gateway.{Gateway, withRooms, withCommon, newRoom, newGateway, setup}

@@ -10,8 +10,8 @@ use Rattle.basics.specs.Mask.{bits, circuits}
 use Rattle.settings.specs.declared.circuit.Circuit.{Circuit}
 use Rattle.settings.specs.declared.setup.Settings.{Settings}
 use Rattle.model.specs.declared.answers.SetUp.{SetUp}
-use Rattle.model.specs.declared.answers.SetUp.the-variants.{Refused as RefusedSetUp, Done}
-use Rattle.model.specs.Gateway.{Gateway, Setup, Declined, Started}
+use Rattle.model.specs.declared.answers.SetUp.the-variants.{Refused as RefusedAnswer, Done}
+use Rattle.model.specs.Gateway.{Gateway, Setup, Refused as RefusedSetup, Started}
 use Rattle.gateway.specs.declared.config.GatewaySettings.{GatewaySettings}
 use Rattle.gateway.specs.declared.config.CircuitSettings.{CircuitSettings}
 use Rattle.gateway.specs.Words.{gatewayOf}
@@ -41,24 +41,24 @@ settingsGiven s =
 
 -- setup's answer: its refusal, or the circuits whose hello is ordered
 pub data Report : Type 0 where
-  Denied : Refusal → Report
+  Refused : Refusal → Report
   Begun : (hellos : List Bool) → Report
 
 abbrev pub reportOf : SetUp → Report
-reportOf (RefusedSetUp x) = Denied x
+reportOf (RefusedAnswer x) = Refused x
 reportOf (Done hellos) = Begun (bits hellos)
 
 abbrev pub reportIn : Setup → Report
-reportIn (Declined x) = Denied x
+reportIn (RefusedSetup x) = Refused x
 reportIn (Started g hellos) = Begun hellos
 
 -- "refused (12) and no gateway results": what stood before stands
 abbrev pub startedIn : Gateway → Setup → Gateway
-startedIn before (Declined x) = before
+startedIn before (RefusedSetup x) = before
 startedIn before (Started g hellos) = g
 
 -- What setup on the words ws is to do, o being its outcome: a refusal leaves every word as it was.
 pub record SetsUp (o : Setup) (ws ws′ : List ℕ) (r : SetUp) : Type 0 where
   pub answer : reportOf r ≡ reportIn o
   pub next : gatewayOf ws′ ≡ startedIn (gatewayOf ws) o
-  pub kept : (x : Refusal) → reportOf r ≡ Denied x → ws′ ≡ ws
+  pub kept : (x : Refusal) → reportOf r ≡ Refused x → ws′ ≡ ws

@@ -10,7 +10,7 @@ use adjacency::step::is_wrong_source;
 use basics::octets::six;
 use basics::refusal::Refusal;
 use control::head::mode_of;
-use control::timing::Handled;
+use control::timing::HelloOrders;
 use control::timing::hear;
 use control::words::CONTROL_WORDS;
 use control::words::circuit_of;
@@ -72,7 +72,7 @@ fn rank_of(s: Circuit, frame: Hello) -> Rank
 }
 
 // What an accepted frame on circuit i (from 0) says to the timers.
-fn hear_frame(words: &mut [u64], mode: Mode, i: usize, s: Circuit, frame: Hello) -> Handled
+fn hear_frame(words: &mut [u64], mode: Mode, i: usize, s: Circuit, frame: Hello) -> HelloOrders
     requires { ⌜ (length (now words) ≡ controlWords) × (i < circuits) × (mode ≡ commonOf (now words) .timers .mode) ⌝ }
     ensures { λ r. ⌜ CommonHears i (s .levels) (saidOf (commonOf (now (words .entry))) s frame) (now (words .entry)) (now (words .exit)) (r .outcome) (r .freed) ⌝ }
 {

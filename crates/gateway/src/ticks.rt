@@ -12,7 +12,7 @@ use room::sweep::expire;
 use room::sweep::release;
 use settings::circuit::Chosen;
 use slots::slot::ROOM_WORDS;
-use timers::outcome::Outcome;
+use timers::outcome::TimerOutcome;
 ghost use mathlib.Core.Path.{_≡_};
 ghost use mathlib.Core.List.{[], map};
 ghost use Prim.Native.Nat.{_<_};
@@ -20,13 +20,13 @@ ghost use lib.ListN.{length, getD, set};
 ghost use Rattle.basics.specs.Mask.{bits, circuits};
 ghost use Rattle.model.specs.Answers.{tickedOf, releasedOf};
 ghost use Rattle.model.specs.Gateway.{withRooms, noRoom};
-ghost use Rattle.model.specs.Step.{swept, lapsed, step, At, Over, Tick, Release};
+ghost use Rattle.model.specs.Step.{sweptRoom, lapsed, step, At, Over, Tick, Release};
 ghost use Rattle.gateway.specs.Words.{gatewayWords, gatewayOf, Meets};
 
 // Circuit i (from 0): whether a record went.
 fn sweep_room(gateway: &mut [u64], i: usize, clock: u32) -> bool
     requires { ⌜ (length (now gateway) ≡ gatewayWords) × (i < circuits) ⌝ }
-    ensures { λ r. ⌜ (r ≡ lapsed clock (getD (gatewayOf (now (gateway .entry)) .rooms) i noRoom)) × (gatewayOf (now (gateway .exit)) ≡ withRooms (gatewayOf (now (gateway .entry))) (set (gatewayOf (now (gateway .entry)) .rooms) i (swept clock (getD (gatewayOf (now (gateway .entry)) .rooms) i noRoom)))) ⌝ }
+    ensures { λ r. ⌜ (r ≡ lapsed clock (getD (gatewayOf (now (gateway .entry)) .rooms) i noRoom)) × (gatewayOf (now (gateway .exit)) ≡ withRooms (gatewayOf (now (gateway .entry))) (set (gatewayOf (now (gateway .entry)) .rooms) i (sweptRoom clock (getD (gatewayOf (now (gateway .entry)) .rooms) i noRoom)))) ⌝ }
 {
     let a = CONTROL_WORDS + ROOM_WORDS * i;
     expire(&mut gateway[a..a + ROOM_WORDS], clock as u64)
@@ -35,16 +35,16 @@ fn sweep_room(gateway: &mut [u64], i: usize, clock: u32) -> bool
 // Every circuit: the mask of those that lost a record.
 fn sweep_rooms(gateway: &mut [u64], clock: u32) -> u8
     requires { ⌜ length (now gateway) ≡ gatewayWords ⌝ }
-    ensures { λ r. ⌜ (bits r ≡ map (lapsed clock) (gatewayOf (now (gateway .entry)) .rooms)) × (gatewayOf (now (gateway .exit)) ≡ withRooms (gatewayOf (now (gateway .entry))) (map (swept clock) (gatewayOf (now (gateway .entry)) .rooms))) ⌝ }
+    ensures { λ r. ⌜ (bits r ≡ map (lapsed clock) (gatewayOf (now (gateway .entry)) .rooms)) × (gatewayOf (now (gateway .exit)) ≡ withRooms (gatewayOf (now (gateway .entry))) (map (sweptRoom clock) (gatewayOf (now (gateway .entry)) .rooms))) ⌝ }
 {
-    let mut marks = 0u8;
+    let mut lost = 0u8;
     let mut i = 0;
     while i < CIRCUITS {
         let m = sweep_room(gateway, i, clock);
-        marks = put_bit(marks, i, m);
+        lost = put_bit(lost, i, m);
         i += 1;
     }
-    marks
+    lost
 }
 
 // Refusal 10, or the tick. Memory that was never set up has no circuit: there a tick does nothing.
@@ -54,20 +54,20 @@ pub(crate) fn tick_in(gateway: &mut [u64], clock: u32) -> Ticked
 {
     if count_of(&gateway[0..CONTROL_WORDS]) == 0 {
         return Ticked::Done {
-            marks: 0,
+            lost: 0,
             hellos: 0,
-            outcome: Outcome::Idle,
+            outcome: TimerOutcome::Idle,
         };
     }
     if clock < clock_of(&gateway[0..CONTROL_WORDS]) {
         return Ticked::Refused(Refusal::ClockBack);
     }
-    let marks = sweep_rooms(gateway, clock);
+    let lost = sweep_rooms(gateway, clock);
     let x = control::timing::tick(&mut gateway[0..CONTROL_WORDS], clock);
     let hellos = x.hellos;
     let outcome = x.outcome;
     Ticked::Done {
-        marks,
+        lost,
         hellos,
         outcome,
     }

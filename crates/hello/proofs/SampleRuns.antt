@@ -19,7 +19,7 @@ use Rattle.hello.specs.declared.read.Read.the-variants.{Refused, Accepte
 use Rattle.hello.specs.declared.read.Link.the-variants.{P2p}
 use Rattle.basics.specs.declared.refusal.Refusal.the-variants.{BadTlv}
 use Rattle.hello.specs.declared.reverse.ReverseMetric.the-variants.{Absent as NoMetric}
-use Rattle.hello.specs.declared.three_way.State.the-variants.{Up}
+use Rattle.hello.specs.declared.three_way.ThreeWayState.the-variants.{Up}
 use Rattle.hello.specs.declared.three_way.Identifiers.the-variants.{Absent as NoIdentifiers}
 
 -- a P2P hello of the neighbour 192168001002 with Holding Time 27, three-way Up, and a Restart TLV with this value

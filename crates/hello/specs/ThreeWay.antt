@@ -8,8 +8,8 @@ use Rattle.basics.specs.Octets.{octet, big}
 use Rattle.tlv.specs.Tlv.{Tlv, loneFault, firstValue, unless}
 use Rattle.tlv.specs.declared.tlvs.Found.{Found}
 use Rattle.tlv.specs.declared.tlvs.Found.the-variants.{At}
-use Rattle.hello.specs.declared.three_way.State.{State}
-use Rattle.hello.specs.declared.three_way.State.the-variants.{Up, Initializing, Down}
+use Rattle.hello.specs.declared.three_way.ThreeWayState.{ThreeWayState}
+use Rattle.hello.specs.declared.three_way.ThreeWayState.the-variants.{Up, Initializing, Down}
 use Rattle.hello.specs.declared.three_way.Identifiers.{Identifiers}
 use Rattle.hello.specs.declared.three_way.Identifiers.the-variants.{Absent, Own, Neighbor, Whole}
 use Rattle.hello.specs.declared.three_way.ThreeWay.{ThreeWay}
@@ -29,7 +29,7 @@ abbrev pub threeWayFault : ℕ → List Tlv → Found
 threeWayFault end [] = At end
 threeWayFault end (t ∷ ts) = loneFault threeWayBad (t ∷ ts)
 
-unfoldable pub stateOf : ℕ → State
+unfoldable pub stateOf : ℕ → ThreeWayState
 stateOf n = cond (eqb n 0) Up (cond (eqb n 1) Initializing Down)
 
 -- own extended circuit ID (4), Neighbor System ID (6), Neighbor Extended Circuit ID (4), as far as the length goes

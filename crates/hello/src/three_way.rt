@@ -14,7 +14,7 @@ ghost use Rattle.hello.specs.ThreeWay.{threeWayLength, threeWayBad, stat
 ghost use Rattle.hello.specs.declared.three_way.ThreeWayRead.the-variants.{Good, Bad};
 
 // The neighbour's state of this adjacency.
-pub enum State {
+pub enum ThreeWayState {
     Up,
     Initializing,
     Down,
@@ -30,7 +30,7 @@ pub enum Identifiers {
 }
 
 pub struct ThreeWay {
-    pub state: State,
+    pub state: ThreeWayState,
     pub ids: Identifiers,
 }
 
@@ -67,13 +67,13 @@ fn is_bad_three_way(v: &[u8]) -> bool
     2 < v[0]
 }
 
-fn decode_state(octet: u8) -> State
+fn decode_state(octet: u8) -> ThreeWayState
     ensures { λ r. ⌜ r ≡ stateOf octet ⌝ }
 {
     match octet {
-        0 => State::Up,
-        1 => State::Initializing,
-        _ => State::Down,
+        0 => ThreeWayState::Up,
+        1 => ThreeWayState::Initializing,
+        _ => ThreeWayState::Down,
     }
 }
 

@@ -26,7 +26,7 @@ use Rattle.control.specs.Common.{noCircuit, circuitOf, setupCommon, startOf}
 use Rattle.settings.specs.declared.circuit.Chosen.{Chosen}
 use Rattle.settings.specs.declared.circuit.Chosen.the-variants.{Known, Unknown}
 use Rattle.model.specs.Gateway.{Room, Gateway, numbered, renew, noRoom, roomOf, newRoom, newGateway, Started, setup}
-use Rattle.model.specs.Step.{swept}
+use Rattle.model.specs.Step.{sweptRoom}
 use Rattle.invariants.specs.Invariants.{Each, end, Quiet, roomFor}
 use Rattle.invariants.proofs.QuietLaws.{started-quiet}
 use Rattle.invariants.proofs.RoomLaws.{each-put, each-sweep, Bare, bare-each, bare-gather, empty-bare, places, empty-places, places-put, places-sweep, single-sweep, single-put}
@@ -116,14 +116,14 @@ unfolding numbered renew places
 renew-same l zero v h = absurd (omega arith)
 renew-same l (suc i) v h = set-same l i v h
 
--- all rooms swept
-swept-getD : (clock : ℕ) (l : List Room) (i : ℕ) → getD (map (swept clock) l) i noRoom ≡ swept clock (getD l i noRoom)
+-- all rooms sweptRoom
+swept-getD : (clock : ℕ) (l : List Room) (i : ℕ) → getD (map (sweptRoom clock) l) i noRoom ≡ sweptRoom clock (getD l i noRoom)
 unfolding sweep
 swept-getD clock [] i = refl
 swept-getD clock (r ∷ l) zero = refl
 swept-getD clock (r ∷ l) (suc i) = swept-getD clock l i
 
-pub swept-at : (clock : ℕ) (l : List Room) (n : ℕ) → numbered (map (swept clock) l) n noRoom ≡ swept clock (numbered l n noRoom)
+pub swept-at : (clock : ℕ) (l : List Room) (n : ℕ) → numbered (map (sweptRoom clock) l) n noRoom ≡ sweptRoom clock (numbered l n noRoom)
 unfolding numbered sweep
 swept-at clock l zero = refl
 swept-at clock l (suc i) = swept-getD clock l i

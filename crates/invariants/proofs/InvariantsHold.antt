@@ -20,7 +20,7 @@ use Rattle.adjacency.specs.declared.record.State.{State}
 use Rattle.adjacency.specs.Place.{expiredBy}
 use Rattle.adjacency.specs.declared.place.Slot.{Slot}
 use Rattle.room.specs.Table.{expired}
-use Rattle.timers.specs.declared.outcome.Outcome.{Outcome as Timed}
+use Rattle.timers.specs.declared.outcome.TimerOutcome.{TimerOutcome}
 use Rattle.settings.specs.declared.circuit.Circuit.{Circuit}
 use Rattle.control.specs.Common.{Common, circuitOf}
 use Rattle.settings.specs.declared.circuit.Chosen.the-variants.{Known, Unknown}
@@ -30,7 +30,7 @@ use Rattle.model.specs.Answers.{Received, Ticked}
 use Rattle.model.specs.Gateway.{Gateway, roomOf, recordAt}
 use Rattle.model.specs.Receive.{receive}
 use Rattle.model.specs.Step.{Call, At, Over, Receive, Tick, act, lift, on, noneOf, tickOf, judge, carry, step}
-use Rattle.invariants.specs.Invariants.{after, Octets, AllFit, none, more, Each, records, roomFor, TrueTime, TrueReplies, Swept, TickSweeps, Bounded, Invariant, Invariants}
+use Rattle.invariants.specs.Invariants.{after, Octets, AllFit, none, more, Each, records, roomFor, TrueTime, TrueReplies, AboveClock, TickSweeps, Bounded, Invariant, Invariants}
 use Rattle.invariants.proofs.RoomLaws.{each-sweep, bare-each, bare-records, places, records-places}
 use Rattle.invariants.proofs.GatewayLaws.{Size, places-of, none-of, RoomOk, Holds, renew-same, swept-at, setup-holds}
 use Rattle.invariants.proofs.ReceiveLaws.{ActOk, receive-ok, receive-reply}
@@ -78,10 +78,10 @@ module _ (g : Gateway) (h : Holds g) where
   left-above : (clock n : ℕ) → Each (λ s. clock < expiryOf s) (expired clock (roomOf g n .slots))
   left-above clock n = each-sweep (expiredBy clock) (λ s e q. leb-false (expiryOf s) clock e) (roomOf g n .slots) (h .rooms n .spans)
 
-  tick-above : (clock : ℕ) (marks hellos : List Bool) (o : Timed) → step g (Over (Tick clock)) .answer ≡ Ticked marks hellos o
-      → Swept (step g (Over (Tick clock)) .next)
+  tick-above : (clock : ℕ) (lost hellos : List Bool) (o : TimerOutcome) → step g (Over (Tick clock)) .answer ≡ Ticked lost hellos o
+      → AboveClock (step g (Over (Tick clock)) .next)
   unfolding step judge tickOf carry
-  tick-above clock marks hellos o e =
+  tick-above clock lost hellos o e =
       by-test (noneOf (g .common .circuits))
       (λ a. rw a (record { above = λ n. unknown-each (roomOf g n .slots) (rw (none-known (g .common) a n) at (h .rooms n .size)) }))
       (λ a. by-test (ltb clock (g .common .clock))

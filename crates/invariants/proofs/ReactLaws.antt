@@ -7,8 +7,8 @@ use Rattle.hello.specs.declared.read.Hello.{Hello}
 use Rattle.hello.specs.declared.read.Link.{Link}
 use Rattle.hello.specs.declared.read.Link.the-variants.{Lan, P2p}
 use Rattle.basics.specs.declared.refusal.Refusal.{Refusal}
-use Rattle.hello.specs.declared.three_way.State.{State as Said}
-use Rattle.hello.specs.declared.three_way.State.the-variants.{Up as SaidUp, Initializing, Down}
+use Rattle.hello.specs.declared.three_way.ThreeWayState.{ThreeWayState as Said}
+use Rattle.hello.specs.declared.three_way.ThreeWayState.the-variants.{Up as SaidUp, Initializing, Down}
 use Rattle.adjacency.specs.Record.{phaseOf, markOf, expiryOf}
 use Rattle.adjacency.specs.Step.{wrongNeighbor, wrongCircuit, p2pStep, asInit, linkStep, keptUp, stepOf}
 use Rattle.adjacency.specs.Marks.{expiryBy, markBy, replyBy}

@@ -15,7 +15,7 @@ use Rattle.restart_tlv.specs.declared.writer.Ack.{Ack}
 use Rattle.hello.specs.Hello.{helloRead}
 use Rattle.hello.specs.declared.read.Hello.{Hello}
 use Rattle.hello.specs.declared.read.Read.{Read}
-use Rattle.hello.specs.declared.read.Read.the-variants.{Refused as Unread, Accepted as ReadAs}
+use Rattle.hello.specs.declared.read.Read.the-variants.{Refused as RefusedRead, Accepted as ReadAs}
 use Rattle.basics.specs.declared.refusal.Refusal.{Refusal}
 use Rattle.adjacency.specs.Step.{wrongSource}
 use Rattle.adjacency.specs.React.{timeIn, reactOf}
@@ -23,7 +23,7 @@ use Rattle.adjacency.specs.declared.marks.Acknowledgement.{Acknowledgement}
 use Rattle.adjacency.specs.declared.marks.Acknowledgement.the-variants.{Send}
 use Rattle.adjacency.specs.declared.marks.Line.{Line}
 use Rattle.adjacency.specs.declared.react.Reaction.{Reaction}
-use Rattle.adjacency.specs.declared.react.Reaction.the-variants.{Refused as DeclinedBy, Accepted}
+use Rattle.adjacency.specs.declared.react.Reaction.the-variants.{Refused as RefusedReaction, Accepted}
 use Rattle.adjacency.specs.declared.record.Adjacency.{Adjacency}
 use Rattle.adjacency.specs.declared.record.Adjacency.the-variants.{Absent, Present}
 use Rattle.adjacency.specs.declared.record.Key.{Key}
@@ -83,13 +83,13 @@ written-time system ack time b h =
 
 -- refusals 8 and 9 are given, or the frame's effect fits the room
 data Sound (clock : ℕ) (k : Key) (t : List Slot) : Reaction → Type 0 where
-  refused : {x : Refusal} → Sound clock k t (DeclinedBy x)
+  refused : {x : Refusal} → Sound clock k t (RefusedReaction x)
   sound : {after : Adjacency} {reply : Acknowledgement} {line : Line} → crowded k t ≡ false → SpanIn clock after → Replies clock after reply
       → (after ≡ Absent → find k t ≡ Absent) → Sound clock k t (Accepted after reply line)
 
 room-sound : (clock : ℕ) (k : Key) (t : List Slot) (a : Reaction) → Fair clock (find k t) a → Sound clock k t (ifRoom (crowded k t) a)
 unfolding ifRoom
-room-sound clock k t (DeclinedBy x) unfair = refused
+room-sound clock k t (RefusedReaction x) unfair = refused
 room-sound clock k t (Accepted after reply line) (fair span told gone) =
     by-test (crowded k t) (λ e. rw e refused) (λ e. rw e (sound e span told gone))
 
@@ -131,7 +131,7 @@ module _ (c : Common) (s : Circuit) (r : Room) (hold : s .hold ≤ 65535) (ok : 
 
     settle-ok : (a : Reaction) → Sound (c .clock) k (r .slots) a → ActOk c s (reacted n s h k b a c r)
     unfolding reacted
-    settle-ok (DeclinedBy x) refused = refuse-ok b x
+    settle-ok (RefusedReaction x) refused = refuse-ok b x
     settle-ok (Accepted after reply line) (sound free span told gone) = accepted-ok after reply line free span
 
   module _ (n mac : ℕ) (b : List ℕ) where
@@ -144,7 +144,7 @@ module _ (c : Common) (s : Circuit) (r : Room) (hold : s .hold ≤ 65535) (ok : 
 
     read-ok : (x : Read) → Brief x → ActOk c s (readIn n s mac b x c r)
     unfolding readIn
-    read-ok (Unread x) unread = refuse-ok b x
+    read-ok (RefusedRead x) unread = refuse-ok b x
     read-ok (ReadAs h) (brief p q) = checked-ok h p q
 
     pub receive-ok : (frame : List ℕ) → Octets frame → ActOk c s (receive n s mac frame b c r)
@@ -180,7 +180,7 @@ module _ (c : Common) (s : Circuit) (r : Room) (hold : s .hold ≤ 65535) (ok : 
 
     settle-reply : (a : Reaction) → Sound (c .clock) k (r .slots) a → ReplyOk (c .clock) k (reacted n s h k b a c r)
     unfolding reacted
-    settle-reply (DeclinedBy x) refused = refuse-reply k b x
+    settle-reply (RefusedReaction x) refused = refuse-reply k b x
     settle-reply (Accepted after reply line) (sound free span told gone) =
         accepted-reply after reply line told (kept-found k after free gone)
 
@@ -194,7 +194,7 @@ module _ (c : Common) (s : Circuit) (r : Room) (hold : s .hold ≤ 65535) (ok : 
 
     read-reply : (h : Hello) (x : Read) → x ≡ ReadAs h → Brief x → ReplyOk (c .clock) (keyIn (s .kind) mac h) (readIn n s mac b x c r)
     unfolding readIn
-    read-reply h (Unread x) e unread = absurd (let z : _≡_ {A = ℕ} 0 1 = cc in omega arith)
+    read-reply h (RefusedRead x) e unread = absurd (let z : _≡_ {A = ℕ} 0 1 = cc in omega arith)
     read-reply h (ReadAs j) e (brief p q) = let z : j ≡ h = cc in rw (← z) (checked-reply j p q)
 
     pub receive-reply : (h : Hello) (frame : List ℕ) → Octets frame → helloRead (s .kind) (s .mac) frame ≡ ReadAs h

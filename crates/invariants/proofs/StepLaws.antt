@@ -16,7 +16,7 @@ use Rattle.adjacency.specs.declared.record.State.{State}
 use Rattle.adjacency.specs.Place.{plannedState, expiredBy}
 use Rattle.settings.specs.Mode.{isRestarting}
 use Rattle.timers.specs.Timers.{toT3, csnpIn, noticeT2s}
-use Rattle.timers.specs.declared.outcome.Outcome.{Outcome as Timed}
+use Rattle.timers.specs.declared.outcome.TimerOutcome.{TimerOutcome}
 use Rattle.settings.specs.Settings.{enabledLevels}
 use Rattle.settings.specs.declared.circuit.Circuit.{Circuit}
 use Rattle.control.specs.Common.{Common, withClock, circuitOf}
@@ -25,7 +25,7 @@ use Rattle.settings.specs.declared.circuit.Chosen.the-variants.{Known, Unknown}
 use Rattle.model.specs.Answers.{Answer}
 use Rattle.model.specs.Gateway.{Room, Gateway, noRoom, numbered, renew, roomOf}
 use Rattle.model.specs.Receive.{Acted}
-use Rattle.model.specs.Step.{Local, Receive, Release, CsnpComplete, LookUp, LinkMetric, NextHello, Global, Tick, DatabaseComplete, Waiting, Call, At, Over, asksLevel, csnpComplete, lookUp, linkMetricOf, nextHello, act, lift, on, Judged, Decline, Sweep, Tell, noneOf, tickOf, databaseOf, judge, carry, step}
+use Rattle.model.specs.Step.{Local, Receive, Release, CsnpComplete, LookUp, LinkMetric, NextHello, Global, Tick, DatabaseComplete, Waiting, Call, At, Over, asksLevel, csnpComplete, lookUp, linkMetricOf, nextHello, act, lift, on, Judged, Refused as RefusedCall, Sweep, Tell, noneOf, tickOf, databaseOf, judge, carry, step}
 use Rattle.invariants.specs.Invariants.{Octets, Fits}
 use Rattle.invariants.proofs.QuietLaws.{toT3-mode, csnpIn-mode, noticeT2s-mode}
 use Rattle.invariants.proofs.ReactLaws.{Span}
@@ -100,8 +100,8 @@ module _ (g : Gateway) (h : Holds g) where
 -- ---- a call that names no circuit
 
 data JudgedOk (c : Common) : Judged → Type 0 where
-  decline : {x : Refusal} → JudgedOk c (Decline x)
-  sweep : {clock : ℕ} {d : Common} {hellos : List Bool} {o : Timed} → c .clock ≤ clock → Keeps (withClock clock c) d
+  decline : {x : Refusal} → JudgedOk c (RefusedCall x)
+  sweep : {clock : ℕ} {d : Common} {hellos : List Bool} {o : TimerOutcome} → c .clock ≤ clock → Keeps (withClock clock c) d
       → JudgedOk c (Sweep clock d hellos o)
   tell : {d : Common} {a : Answer} → Keeps c d → JudgedOk c (Tell d a)
 
@@ -140,7 +140,7 @@ left-span old clock le s e q =
 module _ (g : Gateway) (h : Holds g) where
   carry-holds : (j : Judged) → JudgedOk (g .common) j → Holds (carry g j .next)
   unfolding carry
-  carry-holds (Decline x) decline = h
+  carry-holds (RefusedCall x) decline = h
   carry-holds (Sweep clock d hellos o) (sweep le k) =
       record {
         quiet = k .quiet (h .quiet);

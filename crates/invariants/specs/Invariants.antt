@@ -23,7 +23,7 @@ use Rattle.adjacency.specs.declared.place.Slot.the-variants.{Free, Held, Closed
 use Rattle.room.specs.Gather.{gather}
 use Rattle.timers.specs.Timers.{Timers, anyRuns}
 use Rattle.settings.specs.declared.mode.Mode.the-variants.{Running}
-use Rattle.timers.specs.declared.outcome.Outcome.{Outcome as Timed}
+use Rattle.timers.specs.declared.outcome.TimerOutcome.{TimerOutcome}
 use Rattle.settings.specs.declared.circuit.Circuit.{Circuit}
 use Rattle.settings.specs.declared.setup.Settings.{Settings}
 use Rattle.control.specs.Common.{circuitOf}
@@ -93,13 +93,13 @@ pub record TrueReplies (g : Gateway) : Type 0 where
 -- ---- document 01, "Marks and holding time": "A tick removes each record with expiry at or below the clock"
 
 -- the expiry of every record on every circuit is above the clock
-pub record Swept (g : Gateway) : Type 0 where
+pub record AboveClock (g : Gateway) : Type 0 where
   pub above : (n : ℕ) → Each (λ s. g .common .clock < expiryOf s) (roomOf g n .slots)
 
 -- .. after every accepted tick
 pub record TickSweeps (g : Gateway) : Type 0 where
-  pub sweeps : (clock : ℕ) (marks hellos : List Bool) (o : Timed) → step g (Over (Tick clock)) .answer ≡ Ticked marks hellos o
-      → Swept (step g (Over (Tick clock)) .next)
+  pub sweeps : (clock : ℕ) (lost hellos : List Bool) (o : TimerOutcome) → step g (Over (Tick clock)) .answer ≡ Ticked lost hellos o
+      → AboveClock (step g (Over (Tick clock)) .next)
 
 -- ---- document 01, "What the gateway holds": "A LAN circuit has room for 16 records over both levels, a P2P circuit for 1."
 

@@ -20,8 +20,8 @@ use Rattle.adjacency.specs.declared.marks.Acknowledgement.the-variants.{Nothing
 use Rattle.basics.specs.declared.mask.Lowest.{Lowest}
 use Rattle.timer_parts.specs.declared.t1.Freed.{Freed}
 use Rattle.timer_parts.specs.declared.t1.Freed.the-variants.{Kept, Stopped, Reinitialise}
-use Rattle.timers.specs.declared.outcome.Outcome.{Outcome}
-use Rattle.timers.specs.declared.outcome.Outcome.the-variants.{Idle, Goes, Ended}
+use Rattle.timers.specs.declared.outcome.TimerOutcome.{TimerOutcome}
+use Rattle.timers.specs.declared.outcome.TimerOutcome.the-variants.{Idle, Goes, Ended}
 use Rattle.timers.specs.declared.outcome.Overload.{Overload}
 use Rattle.timers.specs.declared.outcome.Overload.the-variants.{Quiet, Set, Clear, Both}
 use Rattle.model.specs.declared.answers.Orders.{Orders}
@@ -67,7 +67,7 @@ overload-le Set = omega arith
 overload-le Clear = omega arith
 overload-le Both = omega arith
 
-outcome-below : (o : Outcome) → outcomeNo o < 256
+outcome-below : (o : TimerOutcome) → outcomeNo o < 256
 outcome-below Idle = omega arith
 outcome-below (Goes spf overload) = omega (arith, levels-le spf, overload-le overload)
 outcome-below (Ended spf overload) = omega (arith, levels-le spf, overload-le overload)
@@ -86,7 +86,7 @@ fact-code (Waits count low) h = absurd (h count low refl)
 pub code : (a : Answer) → ((count : ℕ) (low : Lowest) → a ≡ Told (Waits count low) → ⊥) → answerNo a % 256 ≡ numberOf a
 code (Refused x) h = omega (arith, refusal-below x)
 code (Received o) h = omega arith
-code (Ticked marks hellos o) h = omega arith
+code (Ticked lost hellos o) h = omega arith
 code (Told f) h = fact-code f (λ count low e. h count low (ap Told e))
 
 module _ (o : Orders) where
@@ -107,13 +107,13 @@ unfolding maskNo
 mask-below [] = omega arith
 mask-below (b ∷ l) = omega (arith, pow-suc 2 (length l), bit-le b, mask-below l)
 
-module _ (marks hellos : List Bool) (o : Outcome) (lm : length marks ≡ 8) (lh : length hellos ≡ 8) where
+module _ (lost hellos : List Bool) (o : TimerOutcome) (lm : length lost ≡ 8) (lh : length hellos ≡ 8) where
   abbrev ticked : ℕ
-  ticked = answerNo (Ticked marks hellos o)
+  ticked = answerNo (Ticked lost hellos o)
 
-  pub ticked-parts : (ticked / 2 ^ 8 % 256 ≡ maskNo marks) × (ticked / 2 ^ 16 % 256 ≡ maskNo hellos) × (ticked / 2 ^ 32 ≡ outcomeNo o)
+  pub ticked-parts : (ticked / 2 ^ 8 % 256 ≡ maskNo lost) × (ticked / 2 ^ 16 % 256 ≡ maskNo hellos) × (ticked / 2 ^ 32 ≡ outcomeNo o)
   ticked-parts =
-      let a : maskNo marks < 2 ^ 8 = subst (λ (n : ℕ). maskNo marks < 2 ^ n) lm (mask-below marks) in
+      let a : maskNo lost < 2 ^ 8 = subst (λ (n : ℕ). maskNo lost < 2 ^ n) lm (mask-below lost) in
       let b : maskNo hellos < 2 ^ 8 = subst (λ (n : ℕ). maskNo hellos < 2 ^ n) lh (mask-below hellos) in
       let d = outcome-below o in
       (omega arith, omega arith, omega arith)

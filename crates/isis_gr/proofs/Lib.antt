@@ -1,4 +1,4 @@
 pub mod NumberLaws
-pub mod TellsLaws
+pub mod EncodesLaws
 pub mod SettingsLaws
 pub mod DigitLaws

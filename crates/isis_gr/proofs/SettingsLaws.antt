@@ -13,9 +13,9 @@ use Rattle.basics.specs.Lists.{every}
 use Rattle.settings.specs.declared.setup.Settings.{Settings}
 use Rattle.model.specs.Gateway.{setup}
 use Rattle.model.specs.declared.answers.SetUp.{SetUp}
-use Rattle.gateway.specs.Setup.{Denied, SetsUp, reportOf}
+use Rattle.gateway.specs.Setup.{Refused as RefusedReport, SetsUp, reportOf}
 use Rattle.isis_gr.specs.Numbers.{reportNo, modeKnown}
-use Rattle.isis_gr.specs.Settings.{circuitPlace, circuitPlaces, circuitKnown, settingsFrom, settingsKnown, setupFrom, TellsSetup}
+use Rattle.isis_gr.specs.Settings.{circuitPlace, circuitPlaces, circuitKnown, settingsFrom, settingsKnown, setupFrom, EncodesSetup}
 
 -- ---- the circuits' numbers
 
@@ -52,12 +52,12 @@ module _ (s : List ℕ) where
 -- ---- setup
 
 module _ (s : List ℕ) {w : ℕ} {ws : List ℕ} where
-  pub tells-known : {g : Settings} {ws′ : List ℕ} {r : SetUp} → settingsKnown s ≡ true → g ≡ settingsFrom s → SetsUp (setup g) ws ws′ r
-      → w ≡ reportNo (reportOf r) → TellsSetup w (setupFrom s) ws ws′
+  pub encodes-known : {g : Settings} {ws′ : List ℕ} {r : SetUp} → settingsKnown s ≡ true → g ≡ settingsFrom s → SetsUp (setup g) ws ws′ r
+      → w ≡ reportNo (reportOf r) → EncodesSetup w (setupFrom s) ws ws′
   unfolding setupFrom
-  tells-known e f m q =
+  encodes-known e f m q =
       rw (e, ← f) (record { number = q ∙ ap reportNo (m .answer); next = m .next; kept = λ x y. m .kept x (m .answer ∙ y) })
 
-  pub tells-unknown : settingsKnown s ≡ false → w ≡ reportNo (Denied BadSetting) → TellsSetup w (setupFrom s) ws ws
+  pub encodes-unknown : settingsKnown s ≡ false → w ≡ reportNo (RefusedReport BadSetting) → EncodesSetup w (setupFrom s) ws ws
   unfolding setupFrom
-  tells-unknown e q = rw e (record { number = q; next = refl; kept = λ x y. refl })
+  encodes-unknown e q = rw e (record { number = q; next = refl; kept = λ x y. refl })

@@ -25,13 +25,13 @@ use Rattle.timer_parts.specs.declared.t1.Freed.{Freed}
 use Rattle.timer_parts.specs.declared.t1.Freed.the-variants.{Kept, Stopped, Reinitialise}
 use Rattle.settings.specs.declared.mode.Mode.{Mode}
 use Rattle.settings.specs.declared.mode.Mode.the-variants.{Running, Restarting}
-use Rattle.timers.specs.declared.outcome.Outcome.{Outcome}
-use Rattle.timers.specs.declared.outcome.Outcome.the-variants.{Idle, Goes, Ended}
+use Rattle.timers.specs.declared.outcome.TimerOutcome.{TimerOutcome}
+use Rattle.timers.specs.declared.outcome.TimerOutcome.the-variants.{Idle, Goes, Ended}
 use Rattle.timers.specs.declared.outcome.Overload.{Overload}
 use Rattle.timers.specs.declared.outcome.Overload.the-variants.{Quiet, Set, Clear, Both}
 use Rattle.model.specs.declared.answers.Orders.{Orders}
 use Rattle.model.specs.Answers.{Answer, Refused, Received, Ticked, Told, Fact, Done, Noticed, Looked, Metric, HelloFlags, Waits, replyFlags, replyTime, lowestNo}
-use Rattle.gateway.specs.Setup.{Report, Denied, Begun}
+use Rattle.gateway.specs.Setup.{Report, Refused as RefusedReport, Begun}
 
 -- ---- the parts
 
@@ -61,7 +61,7 @@ overloadNo Clear = 2
 overloadNo Both = 3
 
 -- how the timers ended: two digits for the kind, two for the SPF's levels, two for overload
-abbrev pub outcomeNo : Outcome → ℕ
+abbrev pub outcomeNo : TimerOutcome → ℕ
 outcomeNo Idle = 0
 outcomeNo (Goes spf overload) = 1 + 4 * levelsNo spf + 16 * overloadNo overload
 outcomeNo (Ended spf overload) = 2 + 4 * levelsNo spf + 16 * overloadNo overload
@@ -75,7 +75,7 @@ abbrev pub reverseNo : ReverseMetric → ℕ
 reverseNo NoReverse = 0
 reverseNo (Reverse offset whole unreachable) = 16 + 32 * bitOf whole + 64 * bitOf unreachable + 2 ^ 32 * offset
 
--- what a look up tells of a record beside its expiry
+-- what a look up encodes of a record beside its expiry
 abbrev pub dataNo : Mark → Data → ℕ
 dataNo m d = markNo m + 4 * bitOf (d .suppressed) + 8 * bitOf (d .last .tlv) + 2 ^ 8 * d .last .priority + reverseNo (d .last .reverse)
 
@@ -108,12 +108,12 @@ factNo (Waits count low) = count + 2 ^ 8 * lowestNo low
 abbrev pub answerNo : Answer → ℕ
 answerNo (Refused x) = refusalNo x
 answerNo (Received o) = ordersNo o
-answerNo (Ticked marks hellos o) = 2 ^ 8 * maskNo marks + 2 ^ 16 * maskNo hellos + 2 ^ 32 * outcomeNo o
+answerNo (Ticked lost hellos o) = 2 ^ 8 * maskNo lost + 2 ^ 16 * maskNo hellos + 2 ^ 32 * outcomeNo o
 answerNo (Told f) = factNo f
 
 -- setup
 abbrev pub reportNo : Report → ℕ
-reportNo (Denied x) = refusalNo x
+reportNo (RefusedReport x) = refusalNo x
 reportNo (Begun hellos) = 2 ^ 8 * maskNo hellos
 
 -- ---- what a look up writes
@@ -126,7 +126,7 @@ stateWords (Up d m) = d .expiry ∷ dataNo m d ∷ []
 abbrev pub foundWords : Answer → List ℕ → List ℕ
 foundWords (Refused x) ws = ws
 foundWords (Received o) ws = ws
-foundWords (Ticked marks hellos o) ws = ws
+foundWords (Ticked lost hellos o) ws = ws
 foundWords (Told Done) ws = ws
 foundWords (Told (Noticed o)) ws = ws
 foundWords (Told (Looked Absent)) ws = ws

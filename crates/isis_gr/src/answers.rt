@@ -60,10 +60,10 @@ pub(crate) fn ticked_word(a: Ticked) -> u64
     match a {
         Ticked::Refused(x) => number_of(x) as u64,
         Ticked::Done {
-            marks,
+            lost,
             hellos,
             outcome,
-        } => SECOND * marks as u64 + THIRD * hellos as u64 + FIFTH * outcome_number(outcome) as u64,
+        } => SECOND * lost as u64 + THIRD * hellos as u64 + FIFTH * outcome_number(outcome) as u64,
     }
 }
 

@@ -31,8 +31,8 @@ ghost use mathlib.Core.List.{[]};
 ghost use Rattle.basics.specs.Octets.{big};
 ghost use Rattle.model.specs.Step.{step, At, Over, Receive, Tick, Release, CsnpComplete, DatabaseComplete, LookUp, LinkMetric, NextHello, Waiting};
 ghost use Rattle.gateway.specs.Words.{gatewayWords, gatewayOf, keyGiven};
-ghost use Rattle.isis_gr.specs.Tells.{Tells, TellsFound};
-ghost use Rattle.isis_gr.specs.Settings.{setupFrom, TellsSetup};
+ghost use Rattle.isis_gr.specs.Encodes.{Encodes, EncodesFound};
+ghost use Rattle.isis_gr.specs.Settings.{setupFrom, EncodesSetup};
 
 // How many words of memory a caller lends.
 #[no_mangle]
@@ -48,7 +48,7 @@ pub extern "C" fn isis_gr_raw_set_up(
     gateway: &mut [u64; GATEWAY_WORDS],
     settings: &[u8; SETTINGS_OCTETS],
 ) -> u32
-    ensures { λ r. ⌜ TellsSetup r (setupFrom (now (settings .entry))) (now (gateway .entry)) (now (gateway .exit)) ⌝ }
+    ensures { λ r. ⌜ EncodesSetup r (setupFrom (now (settings .entry))) (now (gateway .entry)) (now (gateway .exit)) ⌝ }
 {
     if are_settings_known(settings) {
         return set_up_word(set_up(gateway, settings_in(settings)));
@@ -64,21 +64,21 @@ pub extern "C" fn isis_gr_raw_receive(
     frame: &[u8],
     reply: &mut [u8],
 ) -> u64
-    ensures { λ r. ⌜ Tells r (step (gatewayOf (now (gateway .entry))) (At circuit (Receive (big 6 (now (source .entry)) 0) (now (frame .entry)) (now (reply .entry))))) (now (gateway .entry)) (now (gateway .exit)) (now (reply .exit)) ⌝ }
+    ensures { λ r. ⌜ Encodes r (step (gatewayOf (now (gateway .entry))) (At circuit (Receive (big 6 (now (source .entry)) 0) (now (frame .entry)) (now (reply .entry))))) (now (gateway .entry)) (now (gateway .exit)) (now (reply .exit)) ⌝ }
 {
     received_word(receive(gateway, circuit, source, frame, reply))
 }
 
 #[no_mangle]
 pub extern "C" fn isis_gr_raw_tick(gateway: &mut [u64; GATEWAY_WORDS], clock: u32) -> u64
-    ensures { λ r. ⌜ Tells r (step (gatewayOf (now (gateway .entry))) (Over (Tick clock))) (now (gateway .entry)) (now (gateway .exit)) [] ⌝ }
+    ensures { λ r. ⌜ Encodes r (step (gatewayOf (now (gateway .entry))) (Over (Tick clock))) (now (gateway .entry)) (now (gateway .exit)) [] ⌝ }
 {
     ticked_word(tick(gateway, clock))
 }
 
 #[no_mangle]
 pub extern "C" fn isis_gr_raw_release(gateway: &mut [u64; GATEWAY_WORDS], circuit: u8) -> u32
-    ensures { λ r. ⌜ Tells r (step (gatewayOf (now (gateway .entry))) (At circuit Release)) (now (gateway .entry)) (now (gateway .exit)) [] ⌝ }
+    ensures { λ r. ⌜ Encodes r (step (gatewayOf (now (gateway .entry))) (At circuit Release)) (now (gateway .entry)) (now (gateway .exit)) [] ⌝ }
 {
     released_word(release(gateway, circuit))
 }
@@ -89,7 +89,7 @@ pub extern "C" fn isis_gr_raw_csnp_complete(
     circuit: u8,
     level: u8,
 ) -> u64
-    ensures { λ r. ⌜ Tells r (step (gatewayOf (now (gateway .entry))) (At circuit (CsnpComplete level))) (now (gateway .entry)) (now (gateway .exit)) [] ⌝ }
+    ensures { λ r. ⌜ Encodes r (step (gatewayOf (now (gateway .entry))) (At circuit (CsnpComplete level))) (now (gateway .entry)) (now (gateway .exit)) [] ⌝ }
 {
     noticed_word(csnp_complete(gateway, circuit, level))
 }
@@ -99,7 +99,7 @@ pub extern "C" fn isis_gr_raw_database_complete(
     gateway: &mut [u64; GATEWAY_WORDS],
     level: u8,
 ) -> u64
-    ensures { λ r. ⌜ Tells r (step (gatewayOf (now (gateway .entry))) (Over (DatabaseComplete level))) (now (gateway .entry)) (now (gateway .exit)) [] ⌝ }
+    ensures { λ r. ⌜ Encodes r (step (gatewayOf (now (gateway .entry))) (Over (DatabaseComplete level))) (now (gateway .entry)) (now (gateway .exit)) [] ⌝ }
 {
     noticed_word(database_complete(gateway, level))
 }
@@ -114,7 +114,7 @@ pub extern "C" fn isis_gr_raw_look_up(
     mac: &[u8; 6],
     found: &mut [u64; 2],
 ) -> u32
-    ensures { λ r. ⌜ TellsFound r (step (gatewayOf (now (gateway .entry))) (At circuit (LookUp (keyGiven level (now (system .entry)) (now (mac .entry)))))) (now (gateway .entry)) (now (found .entry)) (now (found .exit)) ⌝ }
+    ensures { λ r. ⌜ EncodesFound r (step (gatewayOf (now (gateway .entry))) (At circuit (LookUp (keyGiven level (now (system .entry)) (now (mac .entry)))))) (now (gateway .entry)) (now (found .entry)) (now (found .exit)) ⌝ }
 {
     let a = look_up(gateway, circuit, level, system, mac);
     write_found(found, a);
@@ -123,14 +123,14 @@ pub extern "C" fn isis_gr_raw_look_up(
 
 #[no_mangle]
 pub extern "C" fn isis_gr_raw_link_metric(gateway: &[u64; GATEWAY_WORDS], circuit: u8) -> u64
-    ensures { λ r. ⌜ Tells r (step (gatewayOf (now (gateway .entry))) (At circuit LinkMetric)) (now (gateway .entry)) (now (gateway .entry)) [] ⌝ }
+    ensures { λ r. ⌜ Encodes r (step (gatewayOf (now (gateway .entry))) (At circuit LinkMetric)) (now (gateway .entry)) (now (gateway .entry)) [] ⌝ }
 {
     metric_word(link_metric(gateway, circuit))
 }
 
 #[no_mangle]
 pub extern "C" fn isis_gr_raw_next_hello_flags(gateway: &[u64; GATEWAY_WORDS], circuit: u8) -> u32
-    ensures { λ r. ⌜ Tells r (step (gatewayOf (now (gateway .entry))) (At circuit NextHello)) (now (gateway .entry)) (now (gateway .entry)) [] ⌝ }
+    ensures { λ r. ⌜ Encodes r (step (gatewayOf (now (gateway .entry))) (At circuit NextHello)) (now (gateway .entry)) (now (gateway .entry)) [] ⌝ }
 {
     flags_word(next_hello_flags(gateway, circuit))
 }
@@ -138,7 +138,7 @@ pub extern "C" fn isis_gr_raw_next_hello_flags(gateway: &[u64; GATEWAY_WORDS], c
 // The lowest octet is the count, since this call is never refused.
 #[no_mangle]
 pub extern "C" fn isis_gr_raw_waiting(gateway: &[u64; GATEWAY_WORDS]) -> u32
-    ensures { λ r. ⌜ Tells r (step (gatewayOf (now (gateway .entry))) (Over Waiting)) (now (gateway .entry)) (now (gateway .entry)) [] ⌝ }
+    ensures { λ r. ⌜ Encodes r (step (gatewayOf (now (gateway .entry))) (Over Waiting)) (now (gateway .entry)) (now (gateway .entry)) [] ⌝ }
 {
     waiting_word(waiting_circuits(gateway))
 }

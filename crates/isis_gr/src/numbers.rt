@@ -11,8 +11,8 @@ use hello::reverse::ReverseMetric;
 use restart_tlv::flags::Flags;
 use restart_tlv::writer::Ack;
 use timer_parts::t1::Freed;
-use timers::outcome::Outcome;
 use timers::outcome::Overload;
+use timers::outcome::TimerOutcome;
 ghost use mathlib.Core.Path.{_≡_};
 ghost use Prim.Native.Nat.{_+_, _^_, _≤_, _<_};
 ghost use Rattle.restart_tlv.specs.Restart.{ackFlag};
@@ -66,15 +66,15 @@ fn overload_number(o: Overload) -> u8
     }
 }
 
-pub(crate) fn outcome_number(o: Outcome) -> u8
+pub(crate) fn outcome_number(o: TimerOutcome) -> u8
     ensures { λ r. ⌜ r ≡ outcomeNo o ⌝ }
 {
     match o {
-        Outcome::Idle => 0,
-        Outcome::Goes { spf, overload } => 1
+        TimerOutcome::Idle => 0,
+        TimerOutcome::Goes { spf, overload } => 1
             + 4 * levels_number(spf)
             + 16 * overload_number(overload),
-        Outcome::Ended { spf, overload } => 2
+        TimerOutcome::Ended { spf, overload } => 2
             + 4 * levels_number(spf)
             + 16 * overload_number(overload),
     }
@@ -144,8 +144,8 @@ pub(crate) fn data_number(m: Mark, d: Data) -> u64
 {
     let last = d.last;
     let reverse = last.reverse;
-    let marks = mark_number(m) as u64 + 4 * digit(d.suppressed) + 8 * digit(last.tlv);
-    marks + SECOND * last.priority as u64 + reverse_number(reverse)
+    let lost = mark_number(m) as u64 + 4 * digit(d.suppressed) + 8 * digit(last.tlv);
+    lost + SECOND * last.priority as u64 + reverse_number(reverse)
 }
 
 pub(crate) fn state_number(s: State) -> u8

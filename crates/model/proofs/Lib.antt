@@ -1,6 +1,6 @@
 pub mod SampleRuns
 pub mod Lists
 pub mod RefusalLaws
-pub mod Beside
+pub mod ButFor
 pub mod Near
 pub mod Isolation

@@ -17,7 +17,7 @@ use Rattle.room.specs.Table.{find, sweep}
 use Rattle.basics.specs.Lists.{some}
 use Rattle.timers.specs.Timers.{toT3}
 use Rattle.settings.specs.declared.mode.Mode.the-variants.{Running}
-use Rattle.timers.specs.declared.outcome.Outcome.{Outcome as Timed}
+use Rattle.timers.specs.declared.outcome.TimerOutcome.{TimerOutcome}
 use Rattle.timers.proofs.TimersLaws.{mode-running}
 use Rattle.settings.specs.Settings.{enabledLevels}
 use Rattle.settings.specs.declared.circuit.Circuit.{Circuit}
@@ -27,10 +27,10 @@ use Rattle.settings.specs.declared.circuit.Chosen.the-variants.{Known, Unknown}
 use Rattle.model.specs.Answers.{Answer}
 use Rattle.model.specs.Gateway.{Room, Gateway, numbered, renew, noRoom, roomOf, recordAt}
 use Rattle.model.specs.Receive.{Acted}
-use Rattle.model.specs.Step.{Local, Global, Tick, DatabaseComplete, Waiting, Call, At, Over, Outcome, act, lift, on, Judged, Decline, Sweep, Tell, noneOf, tickOf, databaseOf, judge, swept, lapsed, carry, step}
-use Rattle.model.specs.Claim.{Neighbour, isSent, isIts, isLan, isThere, still, Sight, unmarked, compared, Agree}
+use Rattle.model.specs.Step.{Local, Global, Tick, DatabaseComplete, Waiting, Call, At, Over, Outcome, act, lift, on, Judged, Refused as RefusedCall, Sweep, Tell, noneOf, tickOf, databaseOf, judge, sweptRoom, lapsed, carry, step}
+use Rattle.model.specs.Claim.{Neighbour, isSent, isIts, isLan, isThere, still, Observation, withoutLost, compared, Agree}
 use Rattle.model.proofs.Lists.{renew-both, length-renew, renew-numbered, numbered-map, ext-numbered}
-use Rattle.model.proofs.Beside.{Beside, beside-refl, beside-sym, beside-trans, beside-find, beside-sweep, Same, act-its, act-both, act-common}
+use Rattle.model.proofs.ButFor.{ButFor, beside-refl, beside-sym, beside-trans, beside-find, beside-sweep, Same, act-its, act-both, act-common}
 
 -- s₁ and s₂: the promise for its LAN stands in each run
 pub record Near (b : Neighbour) (s₁ s₂ : Bool) (g₁ g₂ : Gateway) : Type 0 where
@@ -40,7 +40,7 @@ pub record Near (b : Neighbour) (s₁ s₂ : Bool) (g₁ g₂ : Gateway) : Type 
   pub lan₂ : s₂ ≡ true → isLan (circuitOf (g₂ .common) (b .circuit)) ≡ true
   pub size : length (g₁ .rooms) ≡ length (g₂ .rooms)
   pub elsewhere : (n : ℕ) → n ≢ b .circuit → roomOf g₁ n ≡ roomOf g₂ n
-  pub own : s₁ ≡ true → s₂ ≡ true → Beside (b .mac) (roomOf g₁ (b .circuit) .slots) (roomOf g₂ (b .circuit) .slots)
+  pub own : s₁ ≡ true → s₂ ≡ true → ButFor (b .mac) (roomOf g₁ (b .circuit) .slots) (roomOf g₂ (b .circuit) .slots)
 
 pub near-sym : {b : Neighbour} {s₁ s₂ : Bool} {g₁ g₂ : Gateway} → Near b s₁ s₂ g₁ g₂ → Near b s₂ s₁ g₂ g₁
 near-sym n =
@@ -68,7 +68,7 @@ lan-kind s P2p e h = absurd (false≢true (rw e at h))
 
 -- ---- what is compared
 
-abbrev sight : Neighbour → Bool → Call → Outcome → Sight
+abbrev sight : Neighbour → Bool → Call → Outcome → Observation
 sight b s c o = record { call = c; stands = still b s c (o .answer); outcome = o }
 
 pub record Kept (b : Neighbour) (s₁ s₂ : Bool) (c : Call) (x y : Outcome) : Type 0 where
@@ -100,8 +100,8 @@ kept-of-near b s₁ s₂ c x y n away there =
 -- ---- what a call that names no circuit leaves as it was, in the mode Running
 
 data Steady (c : Common) : Judged → Type 0 where
-  declined : {x : Refusal} → Steady c (Decline x)
-  sweeping : {clock : ℕ} {d : Common} {hellos : List Bool} {o : Timed} → d .timers .mode ≡ Running → d .circuits ≡ c .circuits
+  declined : {x : Refusal} → Steady c (RefusedCall x)
+  sweeping : {clock : ℕ} {d : Common} {hellos : List Bool} {o : TimerOutcome} → d .timers .mode ≡ Running → d .circuits ≡ c .circuits
       → Steady c (Sweep clock d hellos o)
   telling : {d : Common} {a : Answer} → d .timers .mode ≡ Running → d .circuits ≡ c .circuits → Steady c (Tell d a)
 
@@ -123,9 +123,9 @@ circuitOf-same c d e (suc i) = cc
 
 -- ---- a tick's sweep
 
-swept-at : (clock : ℕ) (rs : List Room) (n : ℕ) → numbered (map (swept clock) rs) n noRoom ≡ swept clock (numbered rs n noRoom)
+swept-at : (clock : ℕ) (rs : List Room) (n : ℕ) → numbered (map (sweptRoom clock) rs) n noRoom ≡ sweptRoom clock (numbered rs n noRoom)
 unfolding sweep
-swept-at clock rs n = numbered-map (swept clock) rs n noRoom
+swept-at clock rs n = numbered-map (sweptRoom clock) rs n noRoom
 
 lapsed-at : (clock : ℕ) (rs : List Room) (n : ℕ) → numbered (map (lapsed clock) rs) n false ≡ lapsed clock (numbered rs n noRoom)
 unfolding some
@@ -151,7 +151,7 @@ module _ (b : Neighbour) (s₁ s₂ : Bool) (g₁ g₂ : Gateway) (n : Near b s�
   -- one room is renewed in both
   set-near : (z₁ z₂ : Bool) → (z₁ ≡ true → s₁ ≡ true) → (z₂ ≡ true → s₂ ≡ true) → (c₁ c₂ : Common) → c₁ ≡ g₁ .common → c₂ ≡ g₂ .common
       → (i : ℕ) (r₁ r₂ : Room) → (i ≢ b .circuit → r₁ ≡ r₂)
-      → (i ≡ b .circuit → z₁ ≡ true → z₂ ≡ true → Beside (b .mac) (r₁ .slots) (r₂ .slots))
+      → (i ≡ b .circuit → z₁ ≡ true → z₂ ≡ true → ButFor (b .mac) (r₁ .slots) (r₂ .slots))
       → Near b z₁ z₂ (record { common = c₁; rooms = renew (g₁ .rooms) i r₁ }) (record { common = c₂; rooms = renew (g₂ .rooms) i r₂ })
   set-near z₁ z₂ w₁ w₂ c₁ c₂ e₁ e₂ i r₁ r₂ away there =
       record {
@@ -163,7 +163,7 @@ module _ (b : Neighbour) (s₁ s₂ : Bool) (g₁ g₂ : Gateway) (n : Near b s�
         elsewhere = λ j h.
             renew-both (λ x y. x ≡ y) noRoom r₁ r₂ refl (g₁ .rooms) (g₂ .rooms) i j (n .size) (λ q. n .elsewhere j h) (λ q. away (rw q h));
         own = λ h₁ h₂.
-            renew-both (λ x y. Beside (b .mac) (x .slots) (y .slots)) noRoom r₁ r₂ (beside-refl _ _) (g₁ .rooms) (g₂ .rooms) i (b .circuit)
+            renew-both (λ x y. ButFor (b .mac) (x .slots) (y .slots)) noRoom r₁ r₂ (beside-refl _ _) (g₁ .rooms) (g₂ .rooms) i (b .circuit)
             (n .size) (λ q. n .own (w₁ h₁) (w₂ h₂)) (λ q. there q h₁ h₂);
       }
 
@@ -244,20 +244,20 @@ module _ (b : Neighbour) (s₁ s₂ : Bool) (g₁ g₂ : Gateway) (n : Near b s�
 
   -- a call that names no circuit
   carry-kept : (w : Global) (d : Judged) → Steady (g₁ .common) d → Kept b s₁ s₂ (Over w) (carry g₁ d) (carry g₂ d)
-  unfolding carry isThere compared unmarked
+  unfolding carry isThere compared withoutLost
   carry-kept w d declined = kept-of-near b s₁ s₂ _ _ _ (same-near _ _ (and-left _ _) (and-left _ _)) (λ e. (refl, refl)) (λ h₁ h₂. (refl, refl))
   carry-kept w d (telling m q) =
       kept-of-near b s₁ s₂ _ _ _ (common-near _ _ (and-left _ _) (and-left _ _) _ _ refl m q) (λ e. (refl, refl)) (λ h₁ h₂. (refl, refl))
   carry-kept w d (sweeping {clock} m q) =
       let c = common-near _ _ (and-left s₁ _) (and-left s₂ _) _ _ refl m q in
-      let marks = marks-same clock (b .circuit) (g₁ .rooms) (g₂ .rooms) (n .size) (n .elsewhere) in
+      let lost = marks-same clock (b .circuit) (g₁ .rooms) (g₂ .rooms) (n .size) (n .elsewhere) in
       kept-of-near b s₁ s₂ _ _ _
       (record {
         common = refl;
         mode = m;
         lan₁ = c .lan₁;
         lan₂ = c .lan₂;
-        size = cc (length-map (g₁ .rooms) (swept clock), length-map (g₂ .rooms) (swept clock), n .size);
+        size = cc (length-map (g₁ .rooms) (sweptRoom clock), length-map (g₂ .rooms) (sweptRoom clock), n .size);
         elsewhere = λ i h. cc (swept-at clock (g₁ .rooms) i, swept-at clock (g₂ .rooms) i, n .elsewhere i h);
         own = λ h₁ h₂.
             rw (swept-at clock (g₁ .rooms) (b .circuit), swept-at clock (g₂ .rooms) (b .circuit))

@@ -10,16 +10,16 @@ use Rattle.basics.proofs.BoolLaws.{by-test}
 use Rattle.hello.specs.Hello.{helloRead}
 use Rattle.hello.specs.declared.read.Hello.{Hello}
 use Rattle.hello.specs.declared.read.Read.{Read}
-use Rattle.hello.specs.declared.read.Read.the-variants.{Refused as Unread, Accepted as ReadAs}
+use Rattle.hello.specs.declared.read.Read.the-variants.{Refused as RefusedRead, Accepted as ReadAs}
 use Rattle.basics.specs.declared.refusal.Refusal.{Refusal}
 use Rattle.basics.specs.declared.refusal.Refusal.the-variants.{ReplyRoom, WrongSource, NoCircuit, ClockBack, NotRestarting}
 use Rattle.adjacency.specs.Step.{wrongSource}
 use Rattle.basics.specs.Levels.{hasLevel}
 use Rattle.adjacency.specs.declared.react.Reaction.{Reaction}
-use Rattle.adjacency.specs.declared.react.Reaction.the-variants.{Refused as Declined, Accepted}
+use Rattle.adjacency.specs.declared.react.Reaction.the-variants.{Refused as RefusedReaction, Accepted}
 use Rattle.adjacency.specs.declared.record.Key.{Key}
 use Rattle.settings.specs.Mode.{isRestarting}
-use Rattle.timers.specs.declared.outcome.Outcome.{Outcome as Timed}
+use Rattle.timers.specs.declared.outcome.TimerOutcome.{TimerOutcome}
 use Rattle.settings.specs.Settings.{enabledLevels}
 use Rattle.settings.specs.declared.circuit.Circuit.{Circuit}
 use Rattle.control.specs.Common.{Common, circuitOf}
@@ -30,7 +30,7 @@ use Rattle.room.specs.Accept.{decided}
 use Rattle.model.specs.Answers.{Refused, Told, Fact}
 use Rattle.model.specs.Gateway.{Gateway, Room, withRooms, renew, noRoom, roomOf}
 use Rattle.model.specs.Receive.{Acted, refuse, hereOf, accepted, reacted, decidedIn, checked, readIn, receive}
-use Rattle.model.specs.Step.{Outcome, Local, Receive, Release, CsnpComplete, LookUp, LinkMetric, NextHello, Global, Tick, DatabaseComplete, Waiting, At, Over, told, asksLevel, csnpComplete, lookUp, linkMetricOf, nextHello, act, lent, lift, on, Judged, Decline, Sweep, Tell, noneOf, quiet, tickOf, databaseOf, judge, carry, step}
+use Rattle.model.specs.Step.{Outcome, Local, Receive, Release, CsnpComplete, LookUp, LinkMetric, NextHello, Global, Tick, DatabaseComplete, Waiting, At, Over, told, asksLevel, csnpComplete, lookUp, linkMetricOf, nextHello, act, lent, lift, on, Judged, Refused as RefusedCall, Sweep, Tell, noneOf, quiet, tickOf, databaseOf, judge, carry, step}
 use Rattle.model.specs.Refusals.{RefusalsKeep}
 use Rattle.model.proofs.Lists.{renew-numbered}
 
@@ -56,12 +56,12 @@ module _ (b : List ℕ) (c : Common) (r : Room) where
 
   settle-keeps : (n : ℕ) (s : Circuit) (h : Hello) (k : Key) (d : Reaction) → Keeps (reacted n s h k b d c r)
   unfolding reacted accepted
-  settle-keeps n s h k (Declined x) = refuse-keeps x
+  settle-keeps n s h k (RefusedReaction x) = refuse-keeps x
   settle-keeps n s h k (Accepted after reply line) = λ x e. absurd (let z : _≡_ {A = ℕ} 0 1 = cc in omega arith)
 
   read-keeps : (n : ℕ) (s : Circuit) (mac : ℕ) (d : Read) → Keeps (readIn n s mac b d c r)
   unfolding readIn checked decidedIn
-  read-keeps n s mac (Unread x) = refuse-keeps x
+  read-keeps n s mac (RefusedRead x) = refuse-keeps x
   read-keeps n s mac (ReadAs h) =
       cond-keeps (wrongSource (s .levels) (c .system) h) (refuse b WrongSource c r) (decidedIn n s mac b h c r) (refuse-keeps WrongSource)
       (settle-keeps n s h (keyIn (s .kind) mac h) (decided (hereOf c s) (keyIn (s .kind) mac h) h (r .slots)))
@@ -107,11 +107,11 @@ module _ (g : Gateway) where
   cond-carried true p q f h = f
   cond-carried false p q f h = h
 
-  declined : (x : Refusal) → Carried (Decline x)
+  declined : (x : Refusal) → Carried (RefusedCall x)
   unfolding carry
   declined x = λ y e. (refl, refl)
 
-  swept-carried : (clock : ℕ) (c : Common) (hellos : List Bool) (o : Timed) → Carried (Sweep clock c hellos o)
+  swept-carried : (clock : ℕ) (c : Common) (hellos : List Bool) (o : TimerOutcome) → Carried (Sweep clock c hellos o)
   unfolding carry
   swept-carried clock c hellos o = λ y e. absurd (let z : _≡_ {A = ℕ} 0 1 = cc in omega arith)
 

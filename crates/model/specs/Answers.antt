@@ -14,7 +14,7 @@ use Rattle.adjacency.specs.declared.record.Adjacency.the-variants.{Absent, Pres
 use Rattle.basics.specs.Mask.{bits}
 use Rattle.basics.specs.declared.mask.Lowest.{Lowest}
 use Rattle.basics.specs.declared.mask.Lowest.the-variants.{Circuit, Nothing as NoCircuit}
-use Rattle.timers.specs.declared.outcome.Outcome.{Outcome}
+use Rattle.timers.specs.declared.outcome.TimerOutcome.{TimerOutcome}
 use Rattle.model.specs.declared.answers.Orders.{Orders}
 use Rattle.model.specs.declared.answers.Received.{Received as ReceivedCode}
 use Rattle.model.specs.declared.answers.Received.the-variants.{Refused as RefusedFrame, Done as DoneFrame}
@@ -35,7 +35,7 @@ use Rattle.model.specs.declared.answers.Waiting.{Waiting}
 -- what is told by a call that asks, or that only says it was done
 pub data Fact : Type 0 where
   Done : Fact
-  Noticed : Outcome → Fact
+  Noticed : TimerOutcome → Fact
   Looked : Adjacency → Fact
   Metric : ℕ → Fact
   HelloFlags : Flags → Fact
@@ -45,7 +45,7 @@ pub data Fact : Type 0 where
 pub data Answer : Type 0 where
   Refused : Refusal → Answer
   Received : Orders → Answer
-  Ticked : (marks hellos : List Bool) → Outcome → Answer
+  Ticked : (lost hellos : List Bool) → TimerOutcome → Answer
   Told : Fact → Answer
 
 -- ---- document 01's numbers
@@ -54,7 +54,7 @@ pub data Answer : Type 0 where
 abbrev pub numberOf : Answer → ℕ
 numberOf (Refused x) = refusalNo x
 numberOf (Received o) = 0
-numberOf (Ticked marks hellos o) = 0
+numberOf (Ticked lost hellos o) = 0
 numberOf (Told f) = 0
 
 -- the flags of the reply, "RA or PA alone", 0 without one; and its Remaining Time
@@ -79,7 +79,7 @@ receivedOf (DoneFrame o) = Received o
 
 abbrev pub tickedOf : TickedCode → Answer
 tickedOf (RefusedTick x) = Refused x
-tickedOf (DoneTick marks hellos o) = Ticked (bits marks) (bits hellos) o
+tickedOf (DoneTick lost hellos o) = Ticked (bits lost) (bits hellos) o
 
 abbrev pub releasedOf : Released → Answer
 releasedOf (RefusedRelease x) = Refused x

@@ -63,7 +63,7 @@ isThere b (Over w) = false
 unfoldable pub isNine : Answer → Bool
 isNine (Refused x) = eqb (refusalNo x) 9
 isNine (Received o) = false
-isNine (Ticked marks hellos o) = false
+isNine (Ticked lost hellos o) = false
 isNine (Told f) = false
 
 -- the promise for its LAN stood before a call, and stands after it
@@ -73,13 +73,13 @@ still b s c a = s && not (isThere b c && isNine a)
 -- ---- the runs
 
 -- a shared call, whether the promise for its LAN stands, and what came of the call
-pub record Sight : Type 0 where
+pub record Observation : Type 0 where
   pub call : Call
   pub stands : Bool
   pub outcome : Outcome
 
 -- the shared calls of a run from g: "Each call gets the gateway that the last one returned or left"
-unfoldable pub run : Neighbour → Bool → Gateway → List Call → List Sight
+unfoldable pub run : Neighbour → Bool → Gateway → List Call → List Observation
 run b s g [] = []
 run b s g (c ∷ cs) =
     let o : Outcome = step g c in
@@ -89,11 +89,11 @@ run b s g (c ∷ cs) =
 -- ---- what is compared
 
 -- ".. but for a tick's mark of the bad neighbour's circuit"
-unfoldable pub unmarked : ℕ → Answer → Answer
-unmarked n (Ticked marks hellos o) = Ticked (renew marks n false) hellos o
-unmarked n (Refused x) = Refused x
-unmarked n (Received o) = Received o
-unmarked n (Told f) = Told f
+unfoldable pub withoutLost : ℕ → Answer → Answer
+withoutLost n (Ticked lost hellos o) = Ticked (renew lost n false) hellos o
+withoutLost n (Refused x) = Refused x
+withoutLost n (Received o) = Received o
+withoutLost n (Told f) = Told f
 
 -- ".. but for line 1's orders"
 abbrev pub withoutCsnps : Orders → Orders
@@ -102,7 +102,7 @@ withoutCsnps o = record { reply = o .reply; csnps = Nothing; outcome = o .outcom
 unfoldable pub unordered : Answer → Answer
 unordered (Received o) = Received (withoutCsnps o)
 unordered (Refused x) = Refused x
-unordered (Ticked marks hellos o) = Ticked marks hellos o
+unordered (Ticked lost hellos o) = Ticked lost hellos o
 unordered (Told f) = Told f
 
 -- ".. and look-ups of keys with its MAC"
@@ -116,10 +116,10 @@ comparedThere b NextHello a = a
 
 unfoldable pub compared : Neighbour → Call → Answer → Answer
 compared b (At n l) a = cond (eqb n (b .circuit)) (comparedThere b l a) a
-compared b (Over w) a = unmarked (b .circuit) a
+compared b (Over w) a = withoutLost (b .circuit) a
 
 -- after a shared call
-pub record Agree (b : Neighbour) (x y : Sight) : Type 0 where
+pub record Agree (b : Neighbour) (x y : Observation) : Type 0 where
   pub call : x .call ≡ y .call
   -- every record of every other circuit, and the answer and reply of a call that does not name its circuit
   pub records : (n : ℕ) (k : Key) → n ≢ b .circuit → recordAt (x .outcome .next) n k ≡ recordAt (y .outcome .next) n k
@@ -131,9 +131,9 @@ pub record Agree (b : Neighbour) (x y : Sight) : Type 0 where
   pub own-answer : x .stands ≡ true → y .stands ≡ true → compared b (x .call) (x .outcome .answer) ≡ compared b (y .call) (y .outcome .answer)
   pub own-reply : x .stands ≡ true → y .stands ≡ true → x .outcome .reply ≡ y .outcome .reply
 
-pub data Agreeing (b : Neighbour) : List Sight → List Sight → Type 0 where
+pub data Agreeing (b : Neighbour) : List Observation → List Observation → Type 0 where
   end : Agreeing b [] []
-  next : {x y : Sight} {xs ys : List Sight} → Agree b x y → Agreeing b xs ys → Agreeing b (x ∷ xs) (y ∷ ys)
+  next : {x y : Observation} {xs ys : List Observation} → Agree b x y → Agreeing b xs ys → Agreeing b (x ∷ xs) (y ∷ ys)
 
 -- ---- the claim
 

@@ -66,9 +66,9 @@ newGateway s = record { common = setupCommon s; rooms = map newRoom (s .circuits
 
 -- the gateway, and the circuits whose hello with RR is ordered
 pub data Setup : Type 0 where
-  Declined : Refusal → Setup
+  Refused : Refusal → Setup
   Started : Gateway → (hellos : List Bool) → Setup
 
 -- "A setting outside its range is refused (12) and no gateway results."
 unfoldable pub setup : Settings → Setup
-setup s = cond (settingsOk s) (Started (newGateway s) (startHellos (startOf s))) (Declined BadSetting)
+setup s = cond (settingsOk s) (Started (newGateway s) (startHellos (startOf s))) (Refused BadSetting)

@@ -8,7 +8,7 @@ use lib.Dec.{ltb}
 use Rattle.hello.specs.Hello.{helloRead}
 use Rattle.hello.specs.declared.read.Hello.{Hello}
 use Rattle.hello.specs.declared.read.Read.{Read}
-use Rattle.hello.specs.declared.read.Read.the-variants.{Refused as Unread, Accepted as ReadAs}
+use Rattle.hello.specs.declared.read.Read.the-variants.{Refused as RefusedRead, Accepted as ReadAs}
 use Rattle.basics.specs.declared.refusal.Refusal.{Refusal}
 use Rattle.basics.specs.declared.refusal.Refusal.the-variants.{ReplyRoom, WrongSource}
 use Rattle.adjacency.specs.Step.{wrongSource}
@@ -16,7 +16,7 @@ use Rattle.adjacency.specs.declared.duty.Rank.{Rank}
 use Rattle.adjacency.specs.declared.marks.Acknowledgement.{Acknowledgement}
 use Rattle.adjacency.specs.declared.marks.Line.{Line}
 use Rattle.adjacency.specs.declared.react.Reaction.{Reaction}
-use Rattle.adjacency.specs.declared.react.Reaction.the-variants.{Refused as Declined, Accepted}
+use Rattle.adjacency.specs.declared.react.Reaction.the-variants.{Refused as RefusedReaction, Accepted}
 use Rattle.adjacency.specs.declared.record.Adjacency.{Adjacency}
 use Rattle.adjacency.specs.declared.record.Key.{Key}
 use Rattle.adjacency.specs.declared.step.Here.{Here}
@@ -79,7 +79,7 @@ accepted n s h k b after reply line c r =
 
 -- refusals 8 and 9, or the frame's effect
 unfoldable pub reacted : ℕ → Circuit → Hello → Key → List ℕ → Reaction → Common → Room → Acted
-reacted n s h k b (Declined x) c r = refuse b x c r
+reacted n s h k b (RefusedReaction x) c r = refuse b x c r
 reacted n s h k b (Accepted after reply line) c r = accepted n s h k b after reply line c r
 
 unfoldable pub decidedIn : ℕ → Circuit → ℕ → List ℕ → Hello → Common → Room → Acted
@@ -93,7 +93,7 @@ checked n s mac b h c r =
 
 -- refusals 3 to 6
 unfoldable pub readIn : ℕ → Circuit → ℕ → List ℕ → Read → Common → Room → Acted
-readIn n s mac b (Unread x) = refuse b x
+readIn n s mac b (RefusedRead x) = refuse b x
 readIn n s mac b (ReadAs h) = checked n s mac b h
 
 -- refusal 2

@@ -9,7 +9,7 @@ use Rattle.basics.specs.declared.levels.Levels.{Levels}
 use Rattle.settings.specs.declared.mode.Mode.{Mode}
 use Rattle.settings.specs.declared.circuit.Circuit.{Circuit}
 use Rattle.settings.specs.declared.setup.Settings.{Settings}
-use Rattle.model.specs.Gateway.{Gateway, Setup, Declined, Started}
+use Rattle.model.specs.Gateway.{Gateway, Setup, Refused as RefusedSetup, Started}
 use Rattle.model.specs.Step.{Outcome, Receive, Tick, At, Over, step}
 
 -- ---- settings
@@ -74,13 +74,13 @@ unfoldable pub played : Gateway → Row → Outcome
 played g r = taken (step g (Over (Tick (r .clock))) .next) (r .frame)
 
 -- what is seen of each row, where each gets the gateway that the last one left
-unfoldable pub run : {A : Type 0} → (Outcome → A) → Gateway → List Row → List A
-run see g [] = []
-run see g (r ∷ rs) =
+unfoldable pub playedAll : {A : Type 0} → (Outcome → A) → Gateway → List Row → List A
+playedAll see g [] = []
+playedAll see g (r ∷ rs) =
     let o : Outcome = played g r in
-    see o ∷ run see (o .next) rs
+    see o ∷ playedAll see (o .next) rs
 
 -- a gateway results from setup, and this holds of it
 abbrev pub From : Setup → (Gateway → Type 0) → Type 0
-From (Declined x) P = ⊥
+From (RefusedSetup x) P = ⊥
 From (Started g hellos) P = P g

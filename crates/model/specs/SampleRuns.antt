@@ -24,13 +24,13 @@ use Rattle.timer_parts.specs.declared.t1.Freed.the-variants.{Kept}
 use Rattle.timer_parts.specs.declared.t3.T3.{T3}
 use Rattle.timer_parts.specs.declared.t3.T3.the-variants.{Runs}
 use Rattle.settings.specs.declared.mode.Mode.the-variants.{Running, Restarting}
-use Rattle.timers.specs.declared.outcome.Outcome.{Outcome as Timed}
-use Rattle.timers.specs.declared.outcome.Outcome.the-variants.{Idle, Goes}
+use Rattle.timers.specs.declared.outcome.TimerOutcome.{TimerOutcome}
+use Rattle.timers.specs.declared.outcome.TimerOutcome.the-variants.{Idle, Goes}
 use Rattle.timers.specs.declared.outcome.Overload.the-variants.{Quiet}
 use Rattle.model.specs.Answers.{Answer, Refused, Received, Told, Metric, numberOf}
 use Rattle.model.specs.Gateway.{Gateway, setup, recordAt}
 use Rattle.model.specs.Step.{Outcome, LinkMetric, At, step}
-use Rattle.model.specs.SampleFrames.{both, settings, hello, acknowledging, reversing, row, lentOctets, taken, played, run, From}
+use Rattle.model.specs.SampleFrames.{both, settings, hello, acknowledging, reversing, row, lentOctets, taken, played, playedAll, From}
 
 -- ---- what is seen of a row
 
@@ -58,7 +58,7 @@ up expiry mark = Present (Up (kept expiry) mark)
 abbrev pub octets : ℕ → ℕ → ℕ → List ℕ
 octets flag high low = 0xD3 ∷ 0x09 ∷ flag ∷ high ∷ low ∷ 0x19 ∷ 0x21 ∷ 0x68 ∷ 0x00 ∷ 0x10 ∷ 0x02 ∷ 0xFF ∷ []
 
-abbrev pub accepted : Acknowledgement → Csnps → Timed → Answer
+abbrev pub accepted : Acknowledgement → Csnps → TimerOutcome → Answer
 accepted reply csnps outcome = Received (record { reply = reply; csnps = csnps; outcome = outcome; freed = Kept })
 
 -- in the mode Running
@@ -72,7 +72,7 @@ abbrev pub C1toC6 : Type 0
 C1toC6 =
     From (setup (settings Running 10 80))
     (λ g.
-    run seen g
+    playedAll seen g
     (row 83 1 (0 ∷ 0 ∷ 0 ∷ [])
     ∷ row 100 0 (1 ∷ 0 ∷ 0 ∷ [])
     ∷ row 105 0 (1 ∷ 0 ∷ 0 ∷ [])
@@ -95,7 +95,7 @@ abbrev pub C7 : Type 0
 C7 =
     From (setup (settings Running 10 100))
     (λ g.
-    run seen g (row 100 2 (1 ∷ 0 ∷ 0 ∷ []) ∷ [])
+    playedAll seen g (row 100 2 (1 ∷ 0 ∷ 0 ∷ []) ∷ [])
     ≡ saw (Present (Init (kept 127))) (octets 0x02 0x00 0x1B) (received (Send RA 27) NoCsnps) ∷ [])
 
 -- ---- C8: lengths of the Restart TLV
@@ -144,7 +144,7 @@ abbrev pub C9 : Type 0
 C9 =
     From (setup (settings Restarting 10 0))
     (λ g.
-    run timed g (row 5 0 (acknowledging 40) ∷ row 10 0 (acknowledging 50) ∷ row 12 1 (acknowledging 20) ∷ [])
+    playedAll timed g (row 5 0 (acknowledging 40) ∷ row 10 0 (acknowledging 50) ∷ row 12 1 (acknowledging 20) ∷ [])
     ≡ (Runs 45, saw (up 32 Clear) lentOctets goesOn)
     ∷ (Runs 45, saw (up 37 Clear) lentOctets goesOn)
     ∷ (Runs 45, saw (up 39 Clear) lentOctets goesOn)

@@ -19,15 +19,15 @@ use Rattle.timer_parts.specs.T1.{helloFlags}
 use Rattle.timers.specs.Timers.{Timers, settled, ticked, toT3, csnpIn, noticeT2s, noT1, countRuns, firstRuns}
 use Rattle.settings.specs.Mode.{isRestarting}
 use Rattle.timers.specs.Outcome.{ordered, tickHellos}
-use Rattle.timers.specs.declared.outcome.Outcome.{Outcome as Timed}
-use Rattle.timers.specs.declared.outcome.Outcome.the-variants.{Idle}
+use Rattle.timers.specs.declared.outcome.TimerOutcome.{TimerOutcome}
+use Rattle.timers.specs.declared.outcome.TimerOutcome.the-variants.{Idle}
 use Rattle.settings.specs.Settings.{enabledLevels}
 use Rattle.settings.specs.declared.circuit.Circuit.{Circuit}
 use Rattle.control.specs.Common.{Common, withClock, withTimers, circuitOf}
 use Rattle.settings.specs.declared.circuit.Chosen.{Chosen}
 use Rattle.settings.specs.declared.circuit.Chosen.the-variants.{Known, Unknown}
 use Rattle.adjacency.specs.Keys.{keyOn}
-use Rattle.model.specs.Answers.{Answer, Refused, Ticked, Told, Fact, Done, Noticed, Looked, Metric, HelloFlags, Waits}
+use Rattle.model.specs.Answers.{Answer, Refused as RefusedAnswer, Ticked, Told, Fact, Done, Noticed, Looked, Metric, HelloFlags, Waits}
 use Rattle.model.specs.Gateway.{Room, Gateway, withSlots, roomOf, renew}
 use Rattle.model.specs.Receive.{Acted, refuse, receive}
 
@@ -120,7 +120,7 @@ lift g n f =
     record { answer = a .answer; reply = a .reply; next = record { common = a .common; rooms = renew (g .rooms) n (a .room) } }
 
 abbrev pub refused : Gateway → List ℕ → Refusal → Outcome
-refused g b x = record { answer = Refused x; reply = b; next = g }
+refused g b x = record { answer = RefusedAnswer x; reply = b; next = g }
 
 -- 1: "no circuit of that number"
 unfoldable pub on : Gateway → ℕ → Local → Chosen → Outcome
@@ -131,8 +131,8 @@ on g n l (Known s) = lift g n (act n s l)
 
 -- what such a call comes to, by the common part alone
 pub data Judged : Type 0 where
-  Decline : Refusal → Judged
-  Sweep : (clock : ℕ) (next : Common) (hellos : List Bool) → Timed → Judged
+  Refused : Refusal → Judged
+  Sweep : (clock : ℕ) (next : Common) (hellos : List Bool) → TimerOutcome → Judged
   Tell : (next : Common) → Answer → Judged
 
 unfoldable pub noneOf : {A : Type 0} → List A → Bool
@@ -146,7 +146,7 @@ quiet = Ticked (replicate circuits false) (replicate circuits false) Idle
 unfoldable pub tickOf : ℕ → Common → Judged
 tickOf clock c =
     cond (noneOf (c .circuits)) (Tell c quiet)
-    (cond (ltb clock (c .clock)) (Decline ClockBack)
+    (cond (ltb clock (c .clock)) (Refused ClockBack)
     (Sweep clock (withTimers (ticked (c .lengths) clock (c .timers)) (withClock clock c)) (tickHellos (c .lengths) clock (c .timers))
     (ordered (toT3 (c .lengths) clock) (c .timers))))
 
@@ -156,8 +156,8 @@ databaseOf level c =
     cond (hasLevel (enabledLevels (c .circuits)) level)
     (cond (isRestarting (c .timers .mode))
     (Tell (settledBy (noticeT2s (onlyLevel level)) c) (Told (noticeOf (noticeT2s (onlyLevel level)) c)))
-    (Decline NotRestarting))
-    (Decline NoCircuit)
+    (Refused NotRestarting))
+    (Refused NoCircuit)
 
 -- "how many circuits still wait for T1, and the lowest such circuit (or none)"
 abbrev pub waitsOf : Timers → Fact
@@ -169,19 +169,19 @@ judge c (DatabaseComplete level) = databaseOf level c
 judge c Waiting = Tell c (Told (waitsOf (c .timers)))
 
 -- "A tick removes each record with expiry at or below the clock, and marks its circuit in the answer."
-abbrev pub swept : ℕ → Room → Room
-swept clock r = withSlots r (expired clock (r .slots))
+abbrev pub sweptRoom : ℕ → Room → Room
+sweptRoom clock r = withSlots r (expired clock (r .slots))
 
 abbrev pub lapsed : ℕ → Room → Bool
 lapsed clock r = anyExpired clock (r .slots)
 
 unfoldable pub carry : Gateway → Judged → Outcome
-carry g (Decline x) = refused g [] x
+carry g (Refused x) = refused g [] x
 carry g (Sweep clock c hellos o) =
     record {
       answer = Ticked (map (lapsed clock) (g .rooms)) hellos o;
       reply = [];
-      next = record { common = c; rooms = map (swept clock) (g .rooms) };
+      next = record { common = c; rooms = map (sweptRoom clock) (g .rooms) };
     }
 carry g (Tell c a) = record { answer = a; reply = []; next = record { common = c; rooms = g .rooms } }
 

@@ -7,14 +7,14 @@ use basics::mask::Lowest;
 use basics::refusal::Refusal;
 use restart_tlv::flags::Flags;
 use timer_parts::t1::Freed;
-use timers::outcome::Outcome;
+use timers::outcome::TimerOutcome;
 
 // Of an accepted frame: the reply that was written, line 1's order, how the timers ended and what they order, and whether the circuit's
 // T1 was stopped for want of a Restart TLV.
 pub struct Orders {
     pub reply: Acknowledgement,
     pub csnps: Csnps,
-    pub outcome: Outcome,
+    pub outcome: TimerOutcome,
     pub freed: Freed,
 }
 
@@ -27,9 +27,9 @@ pub enum Received {
 pub enum Ticked {
     Refused(Refusal),
     Done {
-        marks: u8,
+        lost: u8,
         hellos: u8,
-        outcome: Outcome,
+        outcome: TimerOutcome,
     },
 }
 
@@ -42,7 +42,7 @@ pub enum Released {
 // Of a notice: how the timers ended and what they order.
 pub enum Noticed {
     Refused(Refusal),
-    Done(Outcome),
+    Done(TimerOutcome),
 }
 
 // Of a look up: the state of the record with the key, or that there is none.

@@ -16,30 +16,30 @@ use Rattle.adjacency.specs.declared.place.Slot.{Slot}
 use Rattle.adjacency.specs.declared.place.Slot.the-variants.{Free}
 use Rattle.basics.proofs.ListLaws.{length-tabulate, getD-tabulate}
 use Rattle.slots.proofs.SlotLaws.{length-table}
-use Rattle.room.specs.Table.{swept, sweep, emptyPlace, emptyRoom}
+use Rattle.room.specs.Table.{sweptPlace, sweep, emptyPlace, emptyRoom}
 use Rattle.basics.specs.Lists.{some}
 
 -- a sweep
 
 module _ (p : State → Bool) (t : List Slot) (i : ℕ) (lt : i < length t) where
-  pub sweep-step : take (i + 1) (set t i (swept p (getD t i Free))) ++ sweep p (drop (i + 1) (set t i (swept p (getD t i Free))))
+  pub sweep-step : take (i + 1) (set t i (sweptPlace p (getD t i Free))) ++ sweep p (drop (i + 1) (set t i (sweptPlace p (getD t i Free))))
       ≡ take i t ++ sweep p (drop i t)
   unfolding sweep
   sweep-step =
       rw (
         add-one i,
-        take-suc-set t i (swept p (getD t i Free)) lt,
-        drop-set-lt (suc i) t i (swept p (getD t i Free)) (omega arith),
+        take-suc-set t i (sweptPlace p (getD t i Free)) lt,
+        drop-set-lt (suc i) t i (sweptPlace p (getD t i Free)) (omega arith),
         drop-cons t i Free lt,
       )
-      (append-snoc (take i t) (swept p (getD t i Free)) (map (swept p) (drop (suc i) t)))
+      (append-snoc (take i t) (sweptPlace p (getD t i Free)) (map (sweptPlace p) (drop (suc i) t)))
 
-  pub any-step : (a : Bool) → (a || meets p (getD t i Free)) || some (meets p) (drop (i + 1) (set t i (swept p (getD t i Free))))
+  pub any-step : (a : Bool) → (a || meets p (getD t i Free)) || some (meets p) (drop (i + 1) (set t i (sweptPlace p (getD t i Free))))
       ≡ a || some (meets p) (drop i t)
   unfolding some
   any-step true = refl
   any-step false =
-      rw (add-one i, drop-set-lt (suc i) t i (swept p (getD t i Free)) (omega arith), drop-cons t i Free lt) refl
+      rw (add-one i, drop-set-lt (suc i) t i (sweptPlace p (getD t i Free)) (omega arith), drop-cons t i Free lt) refl
 
 module _ (p : State → Bool) (t : List Slot) (i : ℕ) (le : length t ≤ i) where
   pub sweep-end : t ≡ take i t ++ sweep p (drop i t)
@@ -51,10 +51,10 @@ module _ (p : State → Bool) (t : List Slot) (i : ℕ) (le : length t ≤ i) wh
   any-end true = refl
   any-end false = rw (drop-of-length-le t le) refl
 
-pub swept-gone : (p : State → Bool) (s : Slot) → meets p s ≡ true → Free ≡ swept p s
+pub swept-gone : (p : State → Bool) (s : Slot) → meets p s ≡ true → Free ≡ sweptPlace p s
 swept-gone p s e = rw e refl
 
-pub swept-kept : (p : State → Bool) (s : Slot) → meets p s ≡ false → s ≡ swept p s
+pub swept-kept : (p : State → Bool) (s : Slot) → meets p s ≡ false → s ≡ sweptPlace p s
 swept-kept p s e = rw e refl
 
 -- where the test is true of no place, all stay

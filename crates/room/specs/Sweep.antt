@@ -15,6 +15,6 @@ testOf (Expired clock) = expiredBy clock
 testOf Planned = plannedState
 
 -- t is what stood before, t′ what is left, r whether any record went
-pub record Swept (p : State → Bool) (t t′ : List Slot) (r : Bool) : Type 0 where
+pub record Sweeps (p : State → Bool) (t t′ : List Slot) (r : Bool) : Type 0 where
   pub any : r ≡ some (meets p) t
   pub left : t′ ≡ sweep p t

@@ -59,11 +59,11 @@ unfoldable pub put : Key → State → List Slot → List Slot
 put k v t = cond (has k t) (replace k v t) (insert k v t)
 
 -- the place without its record where the test is true of it
-abbrev pub swept : (State → Bool) → Slot → Slot
-swept p s = cond (meets p s) Free s
+abbrev pub sweptPlace : (State → Bool) → Slot → Slot
+sweptPlace p s = cond (meets p s) Free s
 
 unfoldable pub sweep : (State → Bool) → List Slot → List Slot
-sweep p t = map (swept p) t
+sweep p t = map (sweptPlace p) t
 
 -- a tick removes each record with expiry at or below the clock ..
 abbrev pub expired : ℕ → List Slot → List Slot

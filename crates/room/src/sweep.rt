@@ -11,8 +11,8 @@ ghost use lib.ListN.{length, getD, set};
 ghost use Rattle.slots.specs.Slots.{tableOf, roomWords, places};
 ghost use Rattle.adjacency.specs.Place.{meets, expiredBy};
 ghost use Rattle.adjacency.specs.declared.place.Slot.the-variants.{Free};
-ghost use Rattle.room.specs.Table.{swept, anyExpired, released};
-ghost use Rattle.room.specs.Sweep.{testOf, Swept};
+ghost use Rattle.room.specs.Table.{sweptPlace, anyExpired, released};
+ghost use Rattle.room.specs.Sweep.{testOf, Sweeps};
 
 // Which records go: at a clock, those whose expiry is at or below it; or those marked Planned.
 enum Sweep {
@@ -33,7 +33,7 @@ fn is_swept_at(words: &[u64], i: usize, which: Sweep) -> bool
 fn sweep_at(words: &mut [u64], i: usize, which: Sweep) -> bool
     requires { ⌜ (length (now words) ≡ roomWords) × (i < places) ⌝ }
     ensures { λ r. ⌜ r ≡ meets (testOf which) (getD (tableOf (now (words .entry))) i Free) ⌝ }
-    ensures { λ _. ⌜ tableOf (now (words .exit)) ≡ set (tableOf (now (words .entry))) i (swept (testOf which) (getD (tableOf (now (words .entry))) i Free)) ⌝ }
+    ensures { λ _. ⌜ tableOf (now (words .exit)) ≡ set (tableOf (now (words .entry))) i (sweptPlace (testOf which) (getD (tableOf (now (words .entry))) i Free)) ⌝ }
 {
     if is_swept_at(words, i, which) {
         clear(words, i);
@@ -50,7 +50,7 @@ fn either(a: bool, b: bool) -> bool
 
 fn sweep_in(words: &mut [u64], which: Sweep) -> bool
     requires { ⌜ length (now words) ≡ roomWords ⌝ }
-    ensures { λ r. ⌜ Swept (testOf which) (tableOf (now (words .entry))) (tableOf (now (words .exit))) r ⌝ }
+    ensures { λ r. ⌜ Sweeps (testOf which) (tableOf (now (words .entry))) (tableOf (now (words .exit))) r ⌝ }
 {
     let mut any = false;
     let mut i = 0;
@@ -79,7 +79,7 @@ fn is_due(words: &[u64], clock: u64) -> bool
 // A tick: whether any record went.
 pub fn expire(words: &mut [u64], clock: u64) -> bool
     requires { ⌜ length (now words) ≡ roomWords ⌝ }
-    ensures { λ r. ⌜ Swept (expiredBy clock) (tableOf (now (words .entry))) (tableOf (now (words .exit))) r ⌝ }
+    ensures { λ r. ⌜ Sweeps (expiredBy clock) (tableOf (now (words .entry))) (tableOf (now (words .exit))) r ⌝ }
 {
     if !is_due(words, clock) {
         return false;

@@ -12,8 +12,8 @@ use gateway::calls::receive;
 use gateway::calls::tick;
 use model::answers::Ticked;
 use settings::mode::Mode;
-use timers::outcome::Outcome;
 use timers::outcome::Overload;
+use timers::outcome::TimerOutcome;
 
 fn is_set(overload: Overload) -> bool {
     match overload {
@@ -24,11 +24,11 @@ fn is_set(overload: Overload) -> bool {
     }
 }
 
-fn orders_overload(outcome: Outcome) -> bool {
+fn orders_overload(outcome: TimerOutcome) -> bool {
     match outcome {
-        Outcome::Idle => false,
-        Outcome::Goes { spf: _, overload } => is_set(overload),
-        Outcome::Ended { spf: _, overload } => is_set(overload),
+        TimerOutcome::Idle => false,
+        TimerOutcome::Goes { spf: _, overload } => is_set(overload),
+        TimerOutcome::Ended { spf: _, overload } => is_set(overload),
     }
 }
 
@@ -36,7 +36,7 @@ fn is_overload(t: Ticked) -> bool {
     match t {
         Ticked::Refused(_) => false,
         Ticked::Done {
-            marks: _,
+            lost: _,
             hellos: _,
             outcome,
         } => orders_overload(outcome),

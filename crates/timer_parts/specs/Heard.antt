@@ -9,25 +9,25 @@ use Rattle.restart_tlv.specs.declared.reader.Neighbor.{Neighbor}
 use Rattle.restart_tlv.specs.declared.reader.Neighbor.the-variants.{Unnamed, Named}
 use Rattle.restart_tlv.specs.declared.reader.RestartTlv.{RestartTlv}
 use Rattle.restart_tlv.specs.declared.reader.RestartTlv.the-variants.{Absent, Ignored, Present}
-use Rattle.hello.specs.declared.three_way.State.{State}
-use Rattle.hello.specs.declared.three_way.State.the-variants.{Up, Initializing, Down}
+use Rattle.hello.specs.declared.three_way.ThreeWayState.{ThreeWayState}
+use Rattle.hello.specs.declared.three_way.ThreeWayState.the-variants.{Up, Initializing, Down}
 use Rattle.hello.specs.declared.three_way.Identifiers.{Identifiers}
 use Rattle.hello.specs.declared.three_way.Identifiers.the-variants.{Absent as NoIdentifiers, Own, Neighbor as NeighborOnly, Whole}
 use Rattle.hello.specs.declared.read.Link.{Link}
 use Rattle.hello.specs.declared.read.Link.the-variants.{Lan, P2p}
 use Rattle.hello.specs.declared.read.Hello.{Hello}
 use Rattle.timer_parts.specs.declared.heard.Heard.{Heard}
-use Rattle.timer_parts.specs.declared.heard.Heard.the-variants.{Bare, Acknowledged, Plain}
+use Rattle.timer_parts.specs.declared.heard.Heard.the-variants.{WithoutTlv, Acknowledged, Plain}
 
-abbrev pub isUp : State → Bool
-isUp Up = true
-isUp Initializing = false
-isUp Down = false
+abbrev pub saysUp : ThreeWayState → Bool
+saysUp Up = true
+saysUp Initializing = false
+saysUp Down = false
 
 -- "showing us Up (three-way state 0, or our MAC listed)"
 abbrev pub showsUp : Link → Bool
 showsUp (Lan level priority listed) = listed
-showsUp (P2p said) = isUp (said .state)
+showsUp (P2p said) = saysUp (said .state)
 
 -- the Restarting Neighbor System ID is ours
 abbrev pub namesSystem : ℕ → Neighbor → Bool
@@ -55,9 +55,9 @@ namesCircuit circuit (Whole theirs system named) = eqb named circuit
 
 -- No Restart TLV. RFC 8706, 3.3.1: on a LAN this is unremarkable; on P2P the neighbour is not restart capable, and will
 -- reinitialise the adjacency but where its three-way state is Up and the Neighbor Extended Circuit ID is our own.
-unfoldable pub heardBare : ℕ → Link → Heard
-heardBare circuit (Lan level priority listed) = Plain
-heardBare circuit (P2p said) = Bare (isUp (said .state) && namesCircuit circuit (said .ids))
+unfoldable pub heardWithoutTlv : ℕ → Link → Heard
+heardWithoutTlv circuit (Lan level priority listed) = Plain
+heardWithoutTlv circuit (P2p said) = WithoutTlv (saysUp (said .state) && namesCircuit circuit (said .ids))
 
 -- a hello on a circuit, with our own System ID and our own extended circuit ID there. RFC 8706, 3.2: a TLV with flags that may
 -- not stand together is ignored, but it came.
@@ -65,6 +65,6 @@ unfoldable pub heardOf : ℕ → ℕ → Hello → Heard
 heardOf system circuit hello = by (hello .restart)
   where
     by : RestartTlv → Heard
-    by Absent = heardBare circuit (hello .link)
+    by Absent = heardWithoutTlv circuit (hello .link)
     by Ignored = Plain
     by (Present flags time neighbor) = heardTlv system (hello .link) flags time neighbor

@@ -7,7 +7,7 @@ use Rattle.restart_tlv.specs.declared.flags.Flags.{Flags}
 use Rattle.basics.specs.declared.levels.Levels.{Levels}
 use Rattle.basics.specs.Levels.{within, union}
 use Rattle.timer_parts.specs.declared.heard.Heard.{Heard}
-use Rattle.timer_parts.specs.declared.heard.Heard.the-variants.{Bare, Acknowledged, Plain}
+use Rattle.timer_parts.specs.declared.heard.Heard.the-variants.{WithoutTlv, Acknowledged, Plain}
 use Rattle.settings.specs.declared.lengths.Lengths.{Lengths}
 use Rattle.timer_parts.specs.declared.t1.Entry.{Entry}
 use Rattle.timer_parts.specs.declared.t1.T1.{T1}
@@ -70,14 +70,14 @@ noted n t =
 
 -- ".. on P2P a frame with no Restart TLV stops it at once."
 unfoldable pub heardT1 : Levels → Heard → T1 → T1
-heardT1 l (Bare ours) t = stopT1 t
+heardT1 l (WithoutTlv ours) t = stopT1 t
 heardT1 l (Acknowledged up remaining) t = satisfied l (acknowledged t)
 heardT1 l Plain t = t
 
 -- such a frame stopped a running T1. RFC 8706, 3.3.1: with the three-way state Up and our own extended circuit ID, the adjacency
 -- must be made to reinitialise; the three-way state is the daemon's to send.
 unfoldable pub freedBy : Heard → T1 → Freed
-freedBy (Bare ours) t = cond (t .runs) (cond ours Reinitialise Stopped) Kept
+freedBy (WithoutTlv ours) t = cond (t .runs) (cond ours Reinitialise Stopped) Kept
 freedBy (Acknowledged up remaining) t = Kept
 freedBy Plain t = Kept
 

@@ -4,7 +4,7 @@ use mathlib.Core.Bool.{Bool, true, false, cond, _&&_}
 use lib.Dec.{leb, ltb}
 use Rattle.timer_parts.specs.T2.{anyAfter}
 use Rattle.timer_parts.specs.declared.heard.Heard.{Heard}
-use Rattle.timer_parts.specs.declared.heard.Heard.the-variants.{Bare, Acknowledged, Plain}
+use Rattle.timer_parts.specs.declared.heard.Heard.the-variants.{WithoutTlv, Acknowledged, Plain}
 use Rattle.timer_parts.specs.declared.t2.T2s.{T2s}
 use Rattle.timer_parts.specs.declared.t3.T3.{T3}
 use Rattle.timer_parts.specs.declared.t3.T3.the-variants.{Idle, Runs, Expired}
@@ -17,7 +17,7 @@ lowerT3 at Expired = Expired
 
 -- "An acknowledgement showing us Up .."
 unfoldable pub heardT3 : ℕ → Heard → T3 → T3
-heardT3 clock (Bare ours) t = t
+heardT3 clock (WithoutTlv ours) t = t
 heardT3 clock (Acknowledged up remaining) t = cond up (lowerT3 (clock + remaining) t) t
 heardT3 clock Plain t = t
 

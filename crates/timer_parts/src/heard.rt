@@ -2,28 +2,28 @@
 use hello::read::Hello;
 use hello::read::Link;
 use hello::three_way::Identifiers;
-use hello::three_way::State;
+use hello::three_way::ThreeWayState;
 use restart_tlv::flags::Flags;
 use restart_tlv::reader::Neighbor;
 use restart_tlv::reader::RestartTlv;
 ghost use mathlib.Core.Path.{_≡_};
-ghost use Rattle.timer_parts.specs.Heard.{isUp, namesCircuit, namesSystem, addressed, showsUp, acknowledges, heardBare, heardTlv, heardOf};
+ghost use Rattle.timer_parts.specs.Heard.{saysUp, namesCircuit, namesSystem, addressed, showsUp, acknowledges, heardWithoutTlv, heardTlv, heardOf};
 
-// Bare: a P2P hello with no Restart TLV; true where it shows us Up with our own extended circuit ID. Acknowledged: whether it
+// WithoutTlv: a P2P hello with no Restart TLV; true where it shows us Up with our own extended circuit ID. Acknowledged: whether it
 // shows us Up, and its Remaining Time. Plain: any other.
 pub enum Heard {
-    Bare(bool),
+    WithoutTlv(bool),
     Acknowledged { up: bool, remaining: u16 },
     Plain,
 }
 
-fn is_up(state: State) -> bool
-    ensures { λ r. ⌜ r ≡ isUp state ⌝ }
+fn says_up(state: ThreeWayState) -> bool
+    ensures { λ r. ⌜ r ≡ saysUp state ⌝ }
 {
     match state {
-        State::Up => true,
-        State::Initializing => false,
-        State::Down => false,
+        ThreeWayState::Up => true,
+        ThreeWayState::Initializing => false,
+        ThreeWayState::Down => false,
     }
 }
 
@@ -58,7 +58,7 @@ fn shows_up(link: Link) -> bool
         } => listed,
         Link::P2p(said) => {
             let state = said.state;
-            is_up(state)
+            says_up(state)
         }
     }
 }
@@ -85,18 +85,18 @@ fn is_acknowledgement(link: Link, flags: Flags, neighbor: Neighbor, system: u64)
     false
 }
 
-fn hear_bare(link: Link, circuit: u32) -> Heard
-    ensures { λ r. ⌜ r ≡ heardBare circuit link ⌝ }
+fn hear_without_tlv(link: Link, circuit: u32) -> Heard
+    ensures { λ r. ⌜ r ≡ heardWithoutTlv circuit link ⌝ }
 {
     let Link::P2p(said) = link else {
         return Heard::Plain;
     };
     let state = said.state;
     let ids = said.ids;
-    if is_up(state) {
-        return Heard::Bare(names_circuit(ids, circuit));
+    if says_up(state) {
+        return Heard::WithoutTlv(names_circuit(ids, circuit));
     }
-    Heard::Bare(false)
+    Heard::WithoutTlv(false)
 }
 
 fn hear_tlv(link: Link, flags: Flags, time: u16, neighbor: Neighbor, system: u64) -> Heard
@@ -118,7 +118,7 @@ pub fn heard_of(hello: Hello, system: u64, circuit: u32) -> Heard
     let tlv = hello.restart;
     let link = hello.link;
     match tlv {
-        RestartTlv::Absent => hear_bare(link, circuit),
+        RestartTlv::Absent => hear_without_tlv(link, circuit),
         RestartTlv::Ignored => Heard::Plain,
         RestartTlv::Present {
             flags,

@@ -164,7 +164,7 @@ pub fn hear_t1(l: Levels, h: Heard, t: T1) -> T1
     ensures { λ r. ⌜ r ≡ heardT1 l h t ⌝ }
 {
     match h {
-        Heard::Bare(_) => stop_t1(t),
+        Heard::WithoutTlv(_) => stop_t1(t),
         Heard::Acknowledged {
             up: _,
             remaining: _,
@@ -188,7 +188,7 @@ pub fn freed_by(h: Heard, t: T1) -> Freed
 {
     let runs = t.runs;
     match h {
-        Heard::Bare(ours) => if runs { freed_from(ours) } else { Freed::Kept },
+        Heard::WithoutTlv(ours) => if runs { freed_from(ours) } else { Freed::Kept },
         Heard::Acknowledged {
             up: _,
             remaining: _,

@@ -26,7 +26,7 @@ pub fn hear_t3(clock: u32, h: Heard, t: T3) -> T3
     ensures { λ r. ⌜ r ≡ heardT3 clock h t ⌝ }
 {
     match h {
-        Heard::Bare(_) => t,
+        Heard::WithoutTlv(_) => t,
         Heard::Acknowledged { up, remaining } => if up {
             lower_t3(clock as u64 + remaining as u64, t)
         } else {

@@ -20,8 +20,8 @@ use Rattle.settings.specs.declared.mode.Mode.{Mode}
 use Rattle.settings.specs.declared.mode.Mode.the-variants.{Running, Restarting}
 use Rattle.timers.specs.declared.head.Head.{Head}
 use Rattle.timers.specs.declared.events.Start.{Start}
-use Rattle.timers.specs.declared.outcome.Outcome.{Outcome}
-use Rattle.timers.specs.declared.outcome.Outcome.the-variants.{Idle, Goes, Ended}
+use Rattle.timers.specs.declared.outcome.TimerOutcome.{TimerOutcome}
+use Rattle.timers.specs.declared.outcome.TimerOutcome.the-variants.{Idle, Goes, Ended}
 use Rattle.timers.specs.declared.outcome.Overload.{Overload}
 use Rattle.timers.specs.Timers.{Timers, withT1s, withT3, countRuns, firstRuns, noT1, atT1, tickT1s, expireT2s, cancelT2s, tickT3, finish, closed, settled, toT3, ticked, heardIn, heard, csnpIn, csnpNoticed, noticeT2s, databaseNoticed}
 use Rattle.settings.specs.Mode.{isRunning}
@@ -95,7 +95,7 @@ module _ (t : Timers) (run : t .mode ≡ Running) where
   mode-running f = ap (λ (u : Timers). u .mode) (settled-running f .0) ∙ run
 
 -- the outcome is Idle only where the mode was Running
-isIdle : Outcome → Bool
+isIdle : TimerOutcome → Bool
 isIdle Idle = true
 isIdle (Goes spf overload) = false
 isIdle (Ended spf overload) = false
@@ -105,7 +105,7 @@ unfolding outcomeWith isIdle
 not-idle true spf overload = refl
 not-idle false spf overload = refl
 
-by-mode : (m : Mode) (o : Outcome) → isIdle o ≡ false → cond (isRunning m) Idle o ≡ Idle → m ≡ Running
+by-mode : (m : Mode) (o : TimerOutcome) → isIdle o ≡ false → cond (isRunning m) Idle o ≡ Idle → m ≡ Running
 unfolding isIdle
 by-mode Running o h e = refl
 by-mode Restarting o h e = absurd (true≢false (sym (ap isIdle e) ∙ h))
@@ -116,7 +116,7 @@ idle-running f t h = by-mode (t .mode) (outcomeOf t (f t) (closed f t)) (not-idl
 
 -- ---- the steps of a call
 
-pub closes : (f : Timers → Timers) (t mid after : Timers) (o : Outcome) → mid ≡ f t
+pub closes : (f : Timers → Timers) (t mid after : Timers) (o : TimerOutcome) → mid ≡ f t
     → (after ≡ finish (cancelT2s mid)) × (o ≡ outcomeOf t mid (finish (cancelT2s mid))) → Closes f t after o
 unfolding closed
 closes f t mid after o p q =
@@ -125,13 +125,13 @@ closes f t mid after o p q =
       outcome = q .1 ∙ ap (λ (x : Timers). outcomeOf t x (finish (cancelT2s x))) p;
     }
 
-pub ticks : (s : Lengths) (clock : ℕ) (h : Head) (e : ℕ → Entry) (after : Timers) (o : Outcome) (hs : List Bool)
+pub ticks : (s : Lengths) (clock : ℕ) (h : Head) (e : ℕ → Entry) (after : Timers) (o : TimerOutcome) (hs : List Bool)
     → Closes (toT3 s clock) (timersOf h e) after o → hs ≡ map (helloDue s clock) (joined (bits (h .mask)) e)
     → Ticks s clock (timersOf h e) after o hs
 unfolding timersOf
 ticks s clock h e after o hs c d = record { closes = c; hellos = d }
 
-pub hears : (clock i : ℕ) (l : Levels) (d : Heard) (h : Head) (e : ℕ → Entry) (after : Timers) (o : Outcome) (r : Freed)
+pub hears : (clock i : ℕ) (l : Levels) (d : Heard) (h : Head) (e : ℕ → Entry) (after : Timers) (o : TimerOutcome) (r : Freed)
     → Closes (heardIn clock i l d) (timersOf h e) after o → r ≡ freedBy d (getD (joined (bits (h .mask)) e) i noT1)
     → Hears clock i l d (timersOf h e) after o r
 unfolding timersOf

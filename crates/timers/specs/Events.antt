@@ -16,7 +16,7 @@ use Rattle.timer_parts.specs.declared.t3.T3.the-variants.{Idle, Runs}
 use Rattle.settings.specs.declared.mode.Mode.the-variants.{Running, Restarting}
 use Rattle.timers.specs.declared.head.Head.{Head}
 use Rattle.timers.specs.declared.events.Start.{Start}
-use Rattle.timers.specs.declared.outcome.Outcome.{Outcome}
+use Rattle.timers.specs.declared.outcome.TimerOutcome.{TimerOutcome}
 use Rattle.settings.specs.Mode.{isRestarting}
 use Rattle.timers.specs.Timers.{Timers, noT1, closed, toT3, heardIn}
 use Rattle.timers.specs.Outcome.{outcomeOf}
@@ -50,16 +50,16 @@ pub record Starts (s : Start) (after : Timers) (h : List Bool) : Type 0 where
   pub hellos : h ≡ startHellos s
 
 -- Of a gateway whose mode is not Running: a call whose own step is f, of the timers t before it
-pub record Closes (f : Timers → Timers) (t after : Timers) (o : Outcome) : Type 0 where
+pub record Closes (f : Timers → Timers) (t after : Timers) (o : TimerOutcome) : Type 0 where
   pub timers : after ≡ closed f t
   pub outcome : o ≡ outcomeOf t (f t) (closed f t)
 
 -- a tick, and the hellos that it orders
-pub record Ticks (s : Lengths) (clock : ℕ) (t after : Timers) (o : Outcome) (h : List Bool) : Type 0 where
+pub record Ticks (s : Lengths) (clock : ℕ) (t after : Timers) (o : TimerOutcome) (h : List Bool) : Type 0 where
   pub closes : Closes (toT3 s clock) t after o
   pub hellos : h ≡ map (helloDue s clock) (t .t1s)
 
 -- an accepted hello, and whether it stopped the circuit's T1 for want of a Restart TLV
-pub record Hears (clock i : ℕ) (l : Levels) (d : Heard) (t after : Timers) (o : Outcome) (r : Freed) : Type 0 where
+pub record Hears (clock i : ℕ) (l : Levels) (d : Heard) (t after : Timers) (o : TimerOutcome) (r : Freed) : Type 0 where
   pub closes : Closes (heardIn clock i l d) t after o
   pub freed : r ≡ freedBy d (getD (t .t1s) i noT1)

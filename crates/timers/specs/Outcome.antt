@@ -14,8 +14,8 @@ use Rattle.timer_parts.specs.declared.t1.Freed.{Freed}
 use Rattle.timer_parts.specs.declared.t1.Freed.the-variants.{Kept}
 use Rattle.timers.specs.declared.outcome.Overload.{Overload}
 use Rattle.timers.specs.declared.outcome.Overload.the-variants.{Quiet, Set, Clear, Both}
-use Rattle.timers.specs.declared.outcome.Outcome.{Outcome}
-use Rattle.timers.specs.declared.outcome.Outcome.the-variants.{Idle, Goes, Ended}
+use Rattle.timers.specs.declared.outcome.TimerOutcome.{TimerOutcome}
+use Rattle.timers.specs.declared.outcome.TimerOutcome.the-variants.{Idle, Goes, Ended}
 use Rattle.settings.specs.Mode.{isRunning}
 use Rattle.timers.specs.Timers.{Timers, closed, noT1}
 
@@ -29,14 +29,14 @@ overloadOf true true = Both
 unfoldable pub overloadDue : Timers → Timers → Timers → Overload
 overloadDue before mid after = overloadOf (not (expiredT3 (before .t3)) && expiredT3 (mid .t3)) (isRunning (after .mode) && expiredT3 (mid .t3))
 
-unfoldable pub outcomeWith : Bool → Levels → Overload → Outcome
+unfoldable pub outcomeWith : Bool → Levels → Overload → TimerOutcome
 outcomeWith ended spf overload = cond ended (Ended spf overload) (Goes spf overload)
 
-unfoldable pub outcomeOf : Timers → Timers → Timers → Outcome
+unfoldable pub outcomeOf : Timers → Timers → Timers → TimerOutcome
 outcomeOf before mid after = outcomeWith (isRunning (after .mode)) (spfDue (before .t2s) (after .t2s)) (overloadDue before mid after)
 
 -- of a call whose own step is f
-unfoldable pub ordered : (Timers → Timers) → Timers → Outcome
+unfoldable pub ordered : (Timers → Timers) → Timers → TimerOutcome
 ordered f t = cond (isRunning (t .mode)) Idle (outcomeOf t (f t) (closed f t))
 
 -- the hellos that a tick orders, circuit by circuit

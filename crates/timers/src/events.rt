@@ -9,7 +9,7 @@ use crate::head::notice_t2s;
 use crate::head::tick_head;
 use crate::head::with_mask;
 use crate::head::with_t3;
-use crate::outcome::Outcome;
+use crate::outcome::TimerOutcome;
 use crate::outcome::settle;
 use basics::levels::Levels;
 use restart_tlv::flags::Flags;
@@ -45,26 +45,26 @@ pub struct Start {
     pub levels: Levels,
 }
 
-pub struct Started {
+pub struct AfterStart {
     pub head: Head,
     pub hellos: u8,
 }
 
-pub struct Ticked {
+pub struct AfterTick {
     pub head: Head,
     pub hellos: u8,
-    pub outcome: Outcome,
+    pub outcome: TimerOutcome,
 }
 
-pub struct Handled {
+pub struct AfterHello {
     pub head: Head,
-    pub outcome: Outcome,
+    pub outcome: TimerOutcome,
     pub freed: Freed,
 }
 
-pub struct Noticed {
+pub struct AfterNotice {
     pub head: Head,
-    pub outcome: Outcome,
+    pub outcome: TimerOutcome,
 }
 
 fn start_head(s: Start) -> Head
@@ -101,7 +101,7 @@ fn start_head(s: Start) -> Head
 }
 
 // The timers as setup leaves them, and the hellos that it orders.
-pub fn start_timers(words: &mut [u64], s: Start) -> Started
+pub fn start_timers(words: &mut [u64], s: Start) -> AfterStart
     requires { ⌜ length (now words) ≡ wordCount ⌝ }
     ensures { λ r. ⌜ Starts s (timersAt (r .head) (now (words .exit))) (bits (r .hellos)) ⌝ }
 {
@@ -109,14 +109,14 @@ pub fn start_timers(words: &mut [u64], s: Start) -> Started
     let clock = s.clock;
     fill_entries(words, clock as u64 + lengths.t1 as u64);
     let head = start_head(s);
-    Started {
+    AfterStart {
         head,
         hellos: head.mask,
     }
 }
 
 // A tick, after its records.
-pub fn tick_timers(words: &mut [u64], h: Head, s: Lengths, clock: u32) -> Ticked
+pub fn tick_timers(words: &mut [u64], h: Head, s: Lengths, clock: u32) -> AfterTick
     requires { ⌜ length (now words) ≡ wordCount ⌝ }
     ensures { λ r. ⌜ Ticks s clock (timersAt h (now (words .entry))) (timersAt (r .head) (now (words .exit))) (r .outcome) (bits (r .hellos)) ⌝ }
 {
@@ -127,7 +127,7 @@ pub fn tick_timers(words: &mut [u64], h: Head, s: Lengths, clock: u32) -> Ticked
     let end = settle(h, mid);
     let head = end.head;
     let outcome = end.outcome;
-    Ticked {
+    AfterTick {
         head,
         hellos,
         outcome,
@@ -135,7 +135,14 @@ pub fn tick_timers(words: &mut [u64], h: Head, s: Lengths, clock: u32) -> Ticked
 }
 
 // An accepted hello on circuit i, which has the levels `l`.
-pub fn hear_hello(words: &mut [u64], h: Head, clock: u32, i: usize, l: Levels, d: Heard) -> Handled
+pub fn hear_hello(
+    words: &mut [u64],
+    h: Head,
+    clock: u32,
+    i: usize,
+    l: Levels,
+    d: Heard,
+) -> AfterHello
     requires { ⌜ (length (now words) ≡ wordCount) × (i < circuits) ⌝ }
     ensures { λ r. ⌜ Hears clock i l d (timersAt h (now (words .entry))) (timersAt (r .head) (now (words .exit))) (r .outcome) (r .freed) ⌝ }
 {
@@ -149,7 +156,7 @@ pub fn hear_hello(words: &mut [u64], h: Head, clock: u32, i: usize, l: Levels, d
     let end = settle(h, with_t3(with_mask(h, mask), t3));
     let head = end.head;
     let outcome = end.outcome;
-    Handled {
+    AfterHello {
         head,
         outcome,
         freed,
@@ -157,7 +164,7 @@ pub fn hear_hello(words: &mut [u64], h: Head, clock: u32, i: usize, l: Levels, d
 }
 
 // The CSNP sets of the levels `n` are complete on circuit i, which has the levels `l`.
-pub fn notice_csnp(words: &mut [u64], h: Head, i: usize, l: Levels, n: Levels) -> Noticed
+pub fn notice_csnp(words: &mut [u64], h: Head, i: usize, l: Levels, n: Levels) -> AfterNotice
     requires { ⌜ (length (now words) ≡ wordCount) × (i < circuits) ⌝ }
     ensures { λ r. ⌜ Closes (csnpIn i l n) (timersAt h (now (words .entry))) (timersAt (r .head) (now (words .exit))) (r .outcome) ⌝ }
 {
@@ -168,17 +175,17 @@ pub fn notice_csnp(words: &mut [u64], h: Head, i: usize, l: Levels, n: Levels) -
     let end = settle(h, with_mask(h, mask));
     let head = end.head;
     let outcome = end.outcome;
-    Noticed { head, outcome }
+    AfterNotice { head, outcome }
 }
 
 // The databases of the levels `n` are complete. No entry changes.
-pub fn notice_database(h: Head, n: Levels) -> Noticed
+pub fn notice_database(h: Head, n: Levels) -> AfterNotice
     ensures { λ r. ⌜ ((e : ℕ → Entry) → Closes (noticeT2s n) (timersOf h e) (timersOf (r .head) e) (r .outcome)) ⌝ }
 {
     let end = settle(h, notice_t2s(n, h));
     let head = end.head;
     let outcome = end.outcome;
-    Noticed { head, outcome }
+    AfterNotice { head, outcome }
 }
 
 // The flags of the next hello on circuit i.

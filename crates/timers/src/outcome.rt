@@ -24,7 +24,7 @@ pub enum Overload {
 
 // Idle: the mode was Running. Goes: it is Restarting still. Ended: it is Running from this call on. With the levels whose SPF is
 // ordered, and the overload order.
-pub enum Outcome {
+pub enum TimerOutcome {
     Idle,
     Goes { spf: Levels, overload: Overload },
     Ended { spf: Levels, overload: Overload },
@@ -33,7 +33,7 @@ pub enum Outcome {
 // What a call leaves, where the mode was Restarting.
 pub struct Settled {
     pub head: Head,
-    pub outcome: Outcome,
+    pub outcome: TimerOutcome,
 }
 
 fn overload_of(set: bool, clear: bool) -> Overload
@@ -69,17 +69,17 @@ fn both(a: bool, b: bool) -> bool
     false
 }
 
-fn outcome_with(ended: bool, spf: Levels, overload: Overload) -> Outcome
+fn outcome_with(ended: bool, spf: Levels, overload: Overload) -> TimerOutcome
     ensures { λ r. ⌜ r ≡ outcomeWith ended spf overload ⌝ }
 {
     if ended {
-        return Outcome::Ended { spf, overload };
+        return TimerOutcome::Ended { spf, overload };
     }
-    Outcome::Goes { spf, overload }
+    TimerOutcome::Goes { spf, overload }
 }
 
 // From the timers before a call, after its own step, and after all of it.
-fn outcome_of(before: Head, mid: Head, after: Head) -> Outcome
+fn outcome_of(before: Head, mid: Head, after: Head) -> TimerOutcome
     ensures { λ r. ⌜ ((d e f : ℕ → Entry) → r ≡ outcomeOf (timersOf before d) (timersOf mid e) (timersOf after f)) ⌝ }
 {
     let old = before.t3;

@@ -7,8 +7,8 @@ use hello::read::Read;
 use hello::read::read_hello;
 use hello::reverse::ReverseMetric;
 use hello::three_way::Identifiers;
-use hello::three_way::State;
 use hello::three_way::ThreeWay;
+use hello::three_way::ThreeWayState;
 use libc::STDOUT_FILENO;
 use restart_tlv::flags::Flags;
 use restart_tlv::reader::Neighbor;
@@ -48,11 +48,11 @@ fn neighbor_id(n: u64) {
     system_id(n);
 }
 
-fn state(s: State) {
+fn state(s: ThreeWayState) {
     match s {
-        State::Up => text(b"up"),
-        State::Initializing => text(b"initializing"),
-        State::Down => text(b"down"),
+        ThreeWayState::Up => text(b"up"),
+        ThreeWayState::Initializing => text(b"initializing"),
+        ThreeWayState::Down => text(b"down"),
     }
 }
 

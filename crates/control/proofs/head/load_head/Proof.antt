@@ -5,8 +5,8 @@ use borrow.Author.Needs.{needs}
 use Rattle.control.proofs.head.load_head.Statement.{statement}
 use Rattle.control.proofs.head.load_head.Tie as tie
 
-marked-at-requires : tie.Need-marked-at-requires
-marked-at-requires c κs = search needs
+sealed-at-requires : tie.Need-sealed-at-requires
+sealed-at-requires c κs = search needs
 
 add-head-in : tie.Need-add-head-in
 add-head-in c = search needs
@@ -39,13 +39,13 @@ head-in-requires : tie.Need-head-in-requires
 head-in-requires c κs = search needs
 
 returns : tie.Need-returns
-returns c = c .head-in .ensures ∙ head-at _ _ (c .before .before .before .before .marked-at .ensures)
+returns c = c .head-in .ensures ∙ head-at _ _ (c .before .before .before .before .sealed-at .ensures)
 
 pub load-head-spec : {M : Type 1} → statement M
 load-head-spec =
     tie.close
     (tie.spec
-    marked-at-requires
+    sealed-at-requires
     add-head-in
     mul-head-in
     shared-slice-read-head-in

@@ -2,7 +2,7 @@
 use mathlib.Core.Path.{refl, _∙_}
 use native.Mathlib.Omega.{arith}
 use borrow.Rule.Slice.PartMut.{mid-len}
-use Rattle.control.proofs.TimingLaws.{length-put, mark-put, put-stored}
+use Rattle.control.proofs.TimingLaws.{length-put, seal-put, put-stored}
 use Rattle.control.proofs.SetupLaws.{all-set, sets-up}
 use Rattle.control.specs.Words.{entriesPlace, entriesEnd}
 use borrow.Author.Needs.{needs}
@@ -34,7 +34,7 @@ start-timers-requires : tie.Need-start-timers-requires
 start-timers-requires c κs = search needs
 
 store-head-requires : tie.Need-store-head-requires
-store-head-requires c κs = let m = c .before .before .before .before .before .before .before .before .before .before .before .store-settings in let len = m .kept .0 ∙ c .before .before .before .before .before .before .before .before .before .before .before .before .before .before .before .store-circuits .kept .0 ∙ c .before .before .before .before .before .before .before .before .before .before .before .before .before .before .before .before .before .before .before .before .pre .0 in let x = c .before .before .before .before .start-timers in let t = x .kept .0 ∙ mid-len entriesPlace entriesEnd (m .last .0) (omega (arith, len)) in (length-put (m .last .0) (x .last .0) len t, mark-put (m .last .0) (x .last .0) len t (m .ensures .marked))
+store-head-requires c κs = let m = c .before .before .before .before .before .before .before .before .before .before .before .store-settings in let len = m .kept .0 ∙ c .before .before .before .before .before .before .before .before .before .before .before .before .before .before .before .store-circuits .kept .0 ∙ c .before .before .before .before .before .before .before .before .before .before .before .before .before .before .before .before .before .before .before .before .pre .0 in let x = c .before .before .before .before .start-timers in let t = x .kept .0 ∙ mid-len entriesPlace entriesEnd (m .last .0) (omega (arith, len)) in (length-put (m .last .0) (x .last .0) len t, seal-put (m .last .0) (x .last .0) len t (m .ensures .sealed))
 
 same-length : tie.Need-same-length
 same-length c = search needs

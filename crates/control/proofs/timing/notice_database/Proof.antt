@@ -1,7 +1,7 @@
 -- The head alone is stored.
 use Rattle.control.specs.Words.{entriesOf}
 use Rattle.timers.specs.Memory.{entryAt}
-use Rattle.control.proofs.TimingLaws.{on-marked, settles-here}
+use Rattle.control.proofs.TimingLaws.{on-sealed, settles-here}
 use borrow.Author.Needs.{needs}
 use Rattle.control.proofs.timing.notice_database.Statement.{statement}
 use Rattle.control.proofs.timing.notice_database.Tie as tie
@@ -13,7 +13,7 @@ notice-database-requires : tie.Need-notice-database-requires
 notice-database-requires c κs = search needs
 
 store-head-requires : tie.Need-store-head-requires
-store-head-requires c κs = let s = c .before .before .before .before .before .before in (s .pre .0, on-marked (s .args .words .now) (s .pre .1))
+store-head-requires c κs = let s = c .before .before .before .before .before .before in (s .pre .0, on-sealed (s .args .words .now) (s .pre .1))
 
 same-length : tie.Need-same-length
 same-length c = search needs

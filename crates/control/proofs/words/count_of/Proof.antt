@@ -7,16 +7,16 @@ use Rattle.control.specs.Words.{countOf}
 use Rattle.control.proofs.words.count_of.Statement.{statement}
 use Rattle.control.proofs.words.count_of.Tie as tie
 
-marked-at-requires : tie.Need-marked-at-requires
-marked-at-requires c κs = search needs
+sealed-at-requires : tie.Need-sealed-at-requires
+sealed-at-requires c κs = search needs
 
 returns : tie.Need-returns
 unfolding countOf
-returns c = (rw (← c .before .marked-at .ensures, lt-ltb 8 _ (c .if1 .taken)) refl, omega arith)
+returns c = (rw (← c .before .sealed-at .ensures, lt-ltb 8 _ (c .if1 .taken)) refl, omega arith)
 
 returns-2 : tie.Need-returns-2
 unfolding countOf
-returns-2 c = (rw (← c .before .marked-at .ensures, le-ltb 8 _ (c .if1 .left)) refl, omega arith)
+returns-2 c = (rw (← c .before .sealed-at .ensures, le-ltb 8 _ (c .if1 .left)) refl, omega arith)
 
 pub count-of-spec : {M : Type 1} → statement M
-count-of-spec = tie.close (tie.spec marked-at-requires returns returns-2)
+count-of-spec = tie.close (tie.spec sealed-at-requires returns returns-2)

@@ -1,4 +1,4 @@
--- No circuit, refusal 10, or the rooms swept and the common words put back.
+-- No circuit, refusal 10, or the rooms sweptRoom and the common words put back.
 use Rattle.basics.specs.Mask.{bitsOf}
 use Rattle.gateway.proofs.CallLaws.{tick-none, tick-back, tick-took}
 use native.Mathlib.Omega.{arith}

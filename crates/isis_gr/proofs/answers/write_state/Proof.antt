@@ -1,5 +1,5 @@
 -- Both words are written.
-use Rattle.isis_gr.proofs.TellsLaws.{set-both}
+use Rattle.isis_gr.proofs.EncodesLaws.{set-both}
 use borrow.Author.Needs.{needs}
 use Rattle.isis_gr.proofs.answers.write_state.Statement.{statement}
 use Rattle.isis_gr.proofs.answers.write_state.Tie as tie

@@ -1,5 +1,5 @@
 -- The call's answer, told by its number and by the record's two words.
-use Rattle.isis_gr.proofs.TellsLaws.{tells-found}
+use Rattle.isis_gr.proofs.EncodesLaws.{encodes-found}
 use borrow.Author.Needs.{needs}
 use Rattle.isis_gr.proofs.exports.isis_gr_raw_look_up.Statement.{statement}
 use Rattle.isis_gr.proofs.exports.isis_gr_raw_look_up.Tie as tie
@@ -14,7 +14,7 @@ looked-word-requires : tie.Need-looked-word-requires
 looked-word-requires c κs = search needs
 
 returns : tie.Need-returns
-returns c = tells-found (c .before .before .before .look-up .ensures) (c .looked-word .ensures) (c .before .write-found .ensures)
+returns c = encodes-found (c .before .before .before .look-up .ensures) (c .looked-word .ensures) (c .before .write-found .ensures)
 
 pub isis-gr-raw-look-up-spec : {M : Type 1} → statement M
 isis-gr-raw-look-up-spec =

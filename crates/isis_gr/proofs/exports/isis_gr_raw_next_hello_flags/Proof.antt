@@ -1,5 +1,5 @@
 -- The call's answer, told by its number.
-use Rattle.isis_gr.proofs.TellsLaws.{tells}
+use Rattle.isis_gr.proofs.EncodesLaws.{encodes}
 use borrow.Author.Needs.{needs}
 use Rattle.isis_gr.proofs.exports.isis_gr_raw_next_hello_flags.Statement.{statement}
 use Rattle.isis_gr.proofs.exports.isis_gr_raw_next_hello_flags.Tie as tie
@@ -11,7 +11,7 @@ flags-word-requires : tie.Need-flags-word-requires
 flags-word-requires c κs = search needs
 
 returns : tie.Need-returns
-returns c = tells (c .before .next-hello-flags .ensures) (c .flags-word .ensures)
+returns c = encodes (c .before .next-hello-flags .ensures) (c .flags-word .ensures)
 
 pub isis-gr-raw-next-hello-flags-spec : {M : Type 1} → statement M
 isis-gr-raw-next-hello-flags-spec =

@@ -1,5 +1,5 @@
 -- The call's answer, told by its number.
-use Rattle.isis_gr.proofs.TellsLaws.{tells}
+use Rattle.isis_gr.proofs.EncodesLaws.{encodes}
 use borrow.Author.Needs.{needs}
 use Rattle.isis_gr.proofs.exports.isis_gr_raw_receive.Statement.{statement}
 use Rattle.isis_gr.proofs.exports.isis_gr_raw_receive.Tie as tie
@@ -14,7 +14,7 @@ same-length : tie.Need-same-length
 same-length c = search needs
 
 returns : tie.Need-returns
-returns c = tells (c .before .before .before .receive .ensures) (c .received-word .ensures)
+returns c = encodes (c .before .before .before .receive .ensures) (c .received-word .ensures)
 
 pub isis-gr-raw-receive-spec : {M : Type 1} → statement M
 isis-gr-raw-receive-spec =

@@ -1,5 +1,5 @@
 -- Known settings are set up as crate gateway does; others are refused 12, and nothing is written.
-use Rattle.isis_gr.proofs.SettingsLaws.{tells-known, tells-unknown}
+use Rattle.isis_gr.proofs.SettingsLaws.{encodes-known, encodes-unknown}
 use mathlib.Core.Path.{sym, _∙_}
 use borrow.Author.Needs.{needs}
 use Rattle.isis_gr.proofs.exports.isis_gr_raw_set_up.Statement.{statement}
@@ -18,13 +18,13 @@ set-up-word-requires : tie.Need-set-up-word-requires
 set-up-word-requires c κs = search needs
 
 returns : tie.Need-returns
-returns c = tells-known (c .before .before .before .before .before .before .before .before .args .settings .now) (sym (c .before .before .before .before .before .before .are-settings-known .ensures) ∙ c .before .before .before .before .before .if1 .taken) (c .before .before .settings-in .ensures) (c .before .set-up .ensures) (c .set-up-word .ensures)
+returns c = encodes-known (c .before .before .before .before .before .before .before .before .args .settings .now) (sym (c .before .before .before .before .before .before .are-settings-known .ensures) ∙ c .before .before .before .before .before .if1 .taken) (c .before .before .settings-in .ensures) (c .before .set-up .ensures) (c .set-up-word .ensures)
 
 set-up-word-requires-2 : tie.Need-set-up-word-requires-2
 set-up-word-requires-2 c κs = search needs
 
 returns-2 : tie.Need-returns-2
-returns-2 c = tells-unknown (c .before .before .before .before .args .settings .now) (sym (c .before .before .are-settings-known .ensures) ∙ c .before .if1 .left) (c .set-up-word2 .ensures)
+returns-2 c = encodes-unknown (c .before .before .before .before .args .settings .now) (sym (c .before .before .are-settings-known .ensures) ∙ c .before .if1 .left) (c .set-up-word2 .ensures)
 
 pub isis-gr-raw-set-up-spec : {M : Type 1} → statement M
 isis-gr-raw-set-up-spec =

@@ -1,5 +1,5 @@
 -- The call's answer, told by its number: at most all eight circuits wait.
-use Rattle.isis_gr.proofs.TellsLaws.{tells, waiting-le}
+use Rattle.isis_gr.proofs.EncodesLaws.{encodes, waiting-le}
 use borrow.Author.Needs.{needs}
 use Rattle.isis_gr.proofs.exports.isis_gr_raw_waiting.Statement.{statement}
 use Rattle.isis_gr.proofs.exports.isis_gr_raw_waiting.Tie as tie
@@ -11,7 +11,7 @@ waiting-word-requires : tie.Need-waiting-word-requires
 waiting-word-requires c κs = waiting-le (c .waiting-circuits .ensures)
 
 returns : tie.Need-returns
-returns c = tells (c .before .waiting-circuits .ensures) (c .waiting-word .ensures)
+returns c = encodes (c .before .waiting-circuits .ensures) (c .waiting-word .ensures)
 
 pub isis-gr-raw-waiting-spec : {M : Type 1} → statement M
 isis-gr-raw-waiting-spec =

@@ -1,4 +1,4 @@
--- The test decides `swept`.
+-- The test decides `sweptPlace`.
 use Rattle.room.specs.Sweep.{testOf}
 use Rattle.adjacency.specs.declared.place.Slot.the-variants.{Free}
 use Rattle.slots.specs.Slots.{tableOf}

@@ -1,4 +1,4 @@
--- The invariant: what is swept, joined with the sweep of what is left, is the sweep of the whole.
+-- The invariant: what is sweptPlace, joined with the sweep of what is left, is the sweep of the whole.
 use Rattle.room.specs.Sweep.{testOf}
 use Rattle.room.specs.Table.{sweep}
 use Rattle.basics.specs.Lists.{some}

@@ -7,8 +7,8 @@ use Rattle.timer_parts.proofs.heard.heard_of.Tie as tie
 enum-told : tie.Need-enum-told
 enum-told c = search needs
 
-hear-bare-requires : tie.Need-hear-bare-requires
-hear-bare-requires c κs = search needs
+hear-without-tlv-requires : tie.Need-hear-without-tlv-requires
+hear-without-tlv-requires c κs = search needs
 
 enum-told-2 : tie.Need-enum-told-2
 enum-told-2 c = search needs
@@ -21,7 +21,7 @@ hear-tlv-requires c κs = search needs
 
 returns : tie.Need-returns
 unfolding heardOf
-returns c = rw (c .before .enum-told .given .1) (c .hear-bare .ensures)
+returns c = rw (c .before .enum-told .given .1) (c .hear-without-tlv .ensures)
 
 returns-2 : tie.Need-returns-2
 unfolding heardOf
@@ -36,7 +36,7 @@ heard-of-spec =
     tie.close
     (tie.spec
     enum-told
-    hear-bare-requires
+    hear-without-tlv-requires
     enum-told-2
     enum-known-tlv
     hear-tlv-requires

@@ -14,7 +14,7 @@ use Rattle.hello.specs.Hello.{helloRead}
 use Rattle.basics.specs.declared.kind.CircuitKind.the-variants.{Lan}
 use Rattle.hello.specs.declared.read.Hello.{Hello}
 use Rattle.hello.specs.declared.read.Read.{Read}
-use Rattle.hello.specs.declared.read.Read.the-variants.{Refused as Unread, Accepted as ReadAs}
+use Rattle.hello.specs.declared.read.Read.the-variants.{Refused as RefusedRead, Accepted as ReadAs}
 use Rattle.basics.specs.declared.refusal.Refusal.{Refusal}
 use Rattle.basics.specs.declared.refusal.Refusal.the-variants.{NoCircuit, ReplyRoom, WrongSource, NoRoom, NotRestarting}
 use Rattle.adjacency.specs.React.{reactOf}
@@ -23,7 +23,7 @@ use Rattle.adjacency.specs.Step.{wrongSource}
 use Rattle.adjacency.specs.declared.marks.Acknowledgement.{Acknowledgement}
 use Rattle.adjacency.specs.declared.marks.Line.{Line}
 use Rattle.adjacency.specs.declared.react.Reaction.{Reaction}
-use Rattle.adjacency.specs.declared.react.Reaction.the-variants.{Refused as Declined, Accepted}
+use Rattle.adjacency.specs.declared.react.Reaction.the-variants.{Refused as RefusedReaction, Accepted}
 use Rattle.adjacency.specs.declared.record.Adjacency.{Adjacency}
 use Rattle.adjacency.specs.declared.record.Adjacency.the-variants.{Absent, Present}
 use Rattle.adjacency.specs.declared.record.Key.{Key}
@@ -47,27 +47,27 @@ use Rattle.model.specs.Step.{Local, Receive, Release, CsnpComplete, Look
 use Rattle.model.specs.Claim.{Neighbour, isSent, isNine, unordered, comparedThere}
 
 -- the records of every MAC but m are the same
-pub record Beside (m : ℕ) (t₁ t₂ : List Slot) : Type 0 where
+pub record ButFor (m : ℕ) (t₁ t₂ : List Slot) : Type 0 where
   pub at : (k : Key) → k .mac ≢ m → gather k t₁ ≡ gather k t₂
 
-pub beside-refl : (m : ℕ) (t : List Slot) → Beside m t t
+pub beside-refl : (m : ℕ) (t : List Slot) → ButFor m t t
 beside-refl m t = record { at = λ k h. refl }
 
-pub beside-sym : {m : ℕ} {t₁ t₂ : List Slot} → Beside m t₁ t₂ → Beside m t₂ t₁
+pub beside-sym : {m : ℕ} {t₁ t₂ : List Slot} → ButFor m t₁ t₂ → ButFor m t₂ t₁
 beside-sym b = record { at = λ k h. sym (b .at k h) }
 
-pub beside-trans : {m : ℕ} {t₁ t₂ t₃ : List Slot} → Beside m t₁ t₂ → Beside m t₂ t₃ → Beside m t₁ t₃
+pub beside-trans : {m : ℕ} {t₁ t₂ t₃ : List Slot} → ButFor m t₁ t₂ → ButFor m t₂ t₃ → ButFor m t₁ t₃
 beside-trans b c = record { at = λ k h. b .at k h ∙ c .at k h }
 
-pub beside-find : {m : ℕ} {t₁ t₂ : List Slot} → Beside m t₁ t₂ → (k : Key) → k .mac ≢ m → find k t₁ ≡ find k t₂
+pub beside-find : {m : ℕ} {t₁ t₂ : List Slot} → ButFor m t₁ t₂ → (k : Key) → k .mac ≢ m → find k t₁ ≡ find k t₂
 beside-find {t₁} {t₂} b k h = cc (find-is k t₁, find-is k t₂, b .at k h)
 
-pub beside-sweep : {m : ℕ} {t₁ t₂ : List Slot} (p : State → Bool) → Beside m t₁ t₂ → Beside m (sweep p t₁) (sweep p t₂)
+pub beside-sweep : {m : ℕ} {t₁ t₂ : List Slot} (p : State → Bool) → ButFor m t₁ t₂ → ButFor m (sweep p t₁) (sweep p t₂)
 beside-sweep {t₁} {t₂} p b = record { at = λ k h. cc (gather-sweep p k t₁, gather-sweep p k t₂, b .at k h) }
 
 -- the same record is kept in both
-beside-kept : {m : ℕ} {t₁ t₂ : List Slot} (k : Key) (a : Adjacency) → crowded k t₁ ≡ false → crowded k t₂ ≡ false → Beside m t₁ t₂
-    → Beside m (kept k a t₁) (kept k a t₂)
+beside-kept : {m : ℕ} {t₁ t₂ : List Slot} (k : Key) (a : Adjacency) → crowded k t₁ ≡ false → crowded k t₂ ≡ false → ButFor m t₁ t₂
+    → ButFor m (kept k a t₁) (kept k a t₂)
 unfolding kept
 beside-kept k Absent e₁ e₂ b = b
 beside-kept {t₁} {t₂} k (Present s) e₁ e₂ b =
@@ -79,7 +79,7 @@ beside-kept {t₁} {t₂} k (Present s) e₁ e₂ b =
     }
 
 -- a record of the MAC m is kept: nothing is changed beside it
-kept-beside : {m : ℕ} (k : Key) (a : Adjacency) (t : List Slot) → k .mac ≡ m → Beside m (kept k a t) t
+kept-beside : {m : ℕ} (k : Key) (a : Adjacency) (t : List Slot) → k .mac ≡ m → ButFor m (kept k a t) t
 unfolding kept
 kept-beside {m} k Absent t e = beside-refl m t
 kept-beside k (Present s) t e =
@@ -87,7 +87,7 @@ kept-beside k (Present s) t e =
 
 -- what two calls on the circuit must have in common
 pub record Same (b : Neighbour) (l : Local) (x y : Acted) : Type 0 where
-  pub room : Beside (b .mac) (x .room .slots) (y .room .slots)
+  pub room : ButFor (b .mac) (x .room .slots) (y .room .slots)
   pub answer : comparedThere b l (x .answer) ≡ comparedThere b l (y .answer)
   pub reply : x .reply ≡ y .reply
 
@@ -99,30 +99,30 @@ key-mac s mac h lan = rw (lan, keyOn)
 -- ---- the bad neighbour's frame, in one run
 
 module _ (n : ℕ) (s : Circuit) (mac : ℕ) (lan : s .kind ≡ Lan) (buf : List ℕ) (c : Common) (r : Room) where
-  settle-its : (h : Hello) (k : Key) (a : Reaction) → k .mac ≡ mac → Beside mac (reacted n s h k buf a c r .room .slots) (r .slots)
+  settle-its : (h : Hello) (k : Key) (a : Reaction) → k .mac ≡ mac → ButFor mac (reacted n s h k buf a c r .room .slots) (r .slots)
   unfolding reacted refuse accepted
-  settle-its h k (Declined x) e = beside-refl mac (r .slots)
+  settle-its h k (RefusedReaction x) e = beside-refl mac (r .slots)
   settle-its h k (Accepted after reply line) e = kept-beside k after (r .slots) e
 
-  checked-its : (h : Hello) → Beside mac (checked n s mac buf h c r .room .slots) (r .slots)
+  checked-its : (h : Hello) → ButFor mac (checked n s mac buf h c r .room .slots) (r .slots)
   unfolding checked decidedIn refuse
   checked-its h =
       by-test (wrongSource (s .levels) (c .system) h) (λ e. rw e (beside-refl mac (r .slots)))
       (λ e. rw e (settle-its h _ _ (key-mac s mac h lan)))
 
-  read-its : (d : Read) → Beside mac (readIn n s mac buf d c r .room .slots) (r .slots)
+  read-its : (d : Read) → ButFor mac (readIn n s mac buf d c r .room .slots) (r .slots)
   unfolding readIn refuse
-  read-its (Unread x) = beside-refl mac (r .slots)
+  read-its (RefusedRead x) = beside-refl mac (r .slots)
   read-its (ReadAs h) = checked-its h
 
-  receive-its : (frame : List ℕ) → Beside mac (receive n s mac frame buf c r .room .slots) (r .slots)
+  receive-its : (frame : List ℕ) → ButFor mac (receive n s mac frame buf c r .room .slots) (r .slots)
   unfolding receive refuse
   receive-its frame =
       by-test (ltb (length buf) 11) (λ e. rw e (beside-refl mac (r .slots)))
       (λ e. rw e (read-its (helloRead (s .kind) (s .mac) frame)))
 
 pub act-its : (b : Neighbour) (n : ℕ) (s : Circuit) (l : Local) (c : Common) (r : Room) → s .kind ≡ Lan → isSent b l ≡ true
-    → Beside (b .mac) (act n s l c r .room .slots) (r .slots)
+    → ButFor (b .mac) (act n s l c r .room .slots) (r .slots)
 unfolding act isSent
 act-its b n s (Receive mac frame buf) c r lan e = rw (← eqb-true mac (b .mac) e) (receive-its n s mac lan buf c r frame)
 act-its b n s Release c r lan e = absurd (false≢true e)
@@ -139,7 +139,7 @@ unfolding refuse isNine
 not-nine buf c r e = true≢false e
 
 module _ (b : Neighbour) (n : ℕ) (s : Circuit) (mac : ℕ) (frame buf : List ℕ) (c : Common) (r₁ r₂ : Room)
-    (near : Beside (b .mac) (r₁ .slots) (r₂ .slots)) where
+    (near : ButFor (b .mac) (r₁ .slots) (r₂ .slots)) where
   abbrev Both : Acted → Acted → Type 0
   Both x y = isNine (x .answer) ≡ false → isNine (y .answer) ≡ false → Same b (Receive mac frame buf) x y
 
@@ -156,7 +156,7 @@ module _ (b : Neighbour) (n : ℕ) (s : Circuit) (mac : ℕ) (frame buf : List �
   settle-both : (h : Hello) (k : Key) (a : Reaction)
       → Both (reacted n s h k buf (ifRoom (crowded k (r₁ .slots)) a) c r₁) (reacted n s h k buf (ifRoom (crowded k (r₂ .slots)) a) c r₂)
   unfolding reacted ifRoom
-  settle-both h k (Declined x) = both-refuse x
+  settle-both h k (RefusedReaction x) = both-refuse x
   settle-both h k (Accepted after reply line) =
       by-test (crowded k (r₁ .slots)) (λ e₁. rw e₁ (λ h₁ h₂. absurd (not-nine buf c r₁ h₁)))
       (λ e₁.
@@ -171,7 +171,7 @@ module _ (b : Neighbour) (n : ℕ) (s : Circuit) (mac : ℕ) (frame buf : List �
 
   read-both : s .kind ≡ Lan → mac ≢ b .mac → (d : Read) → Both (readIn n s mac buf d c r₁) (readIn n s mac buf d c r₂)
   unfolding readIn checked
-  read-both lan other (Unread x) = both-refuse x
+  read-both lan other (RefusedRead x) = both-refuse x
   read-both lan other (ReadAs h) =
       by-test (wrongSource (s .levels) (c .system) h) (λ e. rw e (both-refuse WrongSource)) (λ e. rw e (decided-both lan other h))
 
@@ -187,7 +187,7 @@ csnp-refused : (n : ℕ) (s : Circuit) (level : ℕ) (c : Common) (r : Room) →
 unfolding csnpComplete
 csnp-refused n s level c r run = by-test (hasLevel (s .levels) level) (λ e. cc) (λ e. cc)
 
-look-both : (b : Neighbour) (s : Circuit) (k : Key) (c : Common) (r₁ r₂ : Room) → s .kind ≡ Lan → Beside (b .mac) (r₁ .slots) (r₂ .slots)
+look-both : (b : Neighbour) (s : Circuit) (k : Key) (c : Common) (r₁ r₂ : Room) → s .kind ≡ Lan → ButFor (b .mac) (r₁ .slots) (r₂ .slots)
     → Same b (LookUp k) (lookUp s k c r₁) (lookUp s k c r₂)
 unfolding lookUp refuse comparedThere keyOn
 look-both b s k c r₁ r₂ lan near =
@@ -202,7 +202,7 @@ look-both b s k c r₁ r₂ lan near =
     (λ e. rw e (record { room = near; answer = refl; reply = refl }))
 
 pub act-both : (b : Neighbour) (n : ℕ) (s : Circuit) (l : Local) (c : Common) (r₁ r₂ : Room) → c .timers .mode ≡ Running → s .kind ≡ Lan
-    → isSent b l ≡ false → Beside (b .mac) (r₁ .slots) (r₂ .slots) → isNine (act n s l c r₁ .answer) ≡ false
+    → isSent b l ≡ false → ButFor (b .mac) (r₁ .slots) (r₂ .slots) → isNine (act n s l c r₁ .answer) ≡ false
     → isNine (act n s l c r₂ .answer) ≡ false → Same b l (act n s l c r₁) (act n s l c r₂)
 unfolding act isSent comparedThere refuse linkMetricOf nextHello
 act-both b n s (Receive mac frame buf) c r₁ r₂ run lan e near h₁ h₂ =
@@ -219,13 +219,13 @@ act-both b n s NextHello c r₁ r₂ run lan e near h₁ h₂ = record { room = 
 module _ (n : ℕ) (s : Circuit) (c : Common) (r : Room) (run : c .timers .mode ≡ Running) where
   settle-common : (h : Hello) (k : Key) (buf : List ℕ) (a : Reaction) → reacted n s h k buf a c r .common ≡ c
   unfolding reacted refuse accepted
-  settle-common h k buf (Declined x) = refl
+  settle-common h k buf (RefusedReaction x) = refl
   settle-common h k buf (Accepted after reply line) =
       ap (λ (t : Timers). withTimers t c) (heard-running (c .timers) run (c .clock) (n - 1) (s .levels) (saidOf c s h) .0)
 
   read-common : (mac : ℕ) (buf : List ℕ) (d : Read) → readIn n s mac buf d c r .common ≡ c
   unfolding readIn checked decidedIn refuse
-  read-common mac buf (Unread x) = refl
+  read-common mac buf (RefusedRead x) = refl
   read-common mac buf (ReadAs h) =
       by-test (wrongSource (s .levels) (c .system) h) (λ e. rw e) (λ e. rw e (settle-common h _ buf _))
 

@@ -10,13 +10,13 @@ use Rattle.isis_gr.specs.Numbers.{answerNo, foundWords}
 
 -- The number w of a call on the words ws with the outcome o: reply buffer and gateway at exit are the outcome's, and a refusal leaves
 -- every word as it was.
-pub record Tells (w : ℕ) (o : Outcome) (ws ws′ b′ : List ℕ) : Type 0 where
+pub record Encodes (w : ℕ) (o : Outcome) (ws ws′ b′ : List ℕ) : Type 0 where
   pub number : w ≡ answerNo (o .answer)
   pub reply : b′ ≡ o .reply
   pub next : gatewayOf ws′ ≡ o .next
   pub kept : (x : Refusal) → o .answer ≡ Refused x → ws′ ≡ ws
 
 -- The same of a look up, which writes a record's two words where it found one, and else leaves them as they were.
-pub record TellsFound (w : ℕ) (o : Outcome) (ws d d′ : List ℕ) : Type 0 where
-  pub tells : Tells w o ws ws []
+pub record EncodesFound (w : ℕ) (o : Outcome) (ws d d′ : List ℕ) : Type 0 where
+  pub encodes : Encodes w o ws ws []
   pub found : d′ ≡ foundWords (o .answer) d

@@ -18,14 +18,14 @@ use Rattle.model.specs.Step.{Waiting as WaitingCall}
 use Rattle.gateway.specs.Words.{gatewayOf, Meets}
 use Rattle.gateway.proofs.CallLaws.{length-bits}
 use Rattle.isis_gr.specs.Numbers.{answerNo, foundWords}
-use Rattle.isis_gr.specs.Tells.{Tells, TellsFound}
+use Rattle.isis_gr.specs.Encodes.{Encodes, EncodesFound}
 
-pub tells : {w : ℕ} {a : Answer} {o : Outcome} {ws ws′ b′ : List ℕ} → Meets a o ws ws′ b′ → w ≡ answerNo a → Tells w o ws ws′ b′
-tells m e = record { number = e ∙ ap answerNo (m .answer); reply = m .reply; next = m .next; kept = λ x q. m .kept x (m .answer ∙ q) }
+pub encodes : {w : ℕ} {a : Answer} {o : Outcome} {ws ws′ b′ : List ℕ} → Meets a o ws ws′ b′ → w ≡ answerNo a → Encodes w o ws ws′ b′
+encodes m e = record { number = e ∙ ap answerNo (m .answer); reply = m .reply; next = m .next; kept = λ x q. m .kept x (m .answer ∙ q) }
 
-pub tells-found : {w : ℕ} {a : Answer} {o : Outcome} {ws d d′ : List ℕ} → Meets a o ws ws [] → w ≡ answerNo a → d′ ≡ foundWords a d
-    → TellsFound w o ws d d′
-tells-found {d = d} m e f = record { tells = tells m e; found = f ∙ ap (λ (x : Answer). foundWords x d) (m .answer) }
+pub encodes-found : {w : ℕ} {a : Answer} {o : Outcome} {ws d d′ : List ℕ} → Meets a o ws ws [] → w ≡ answerNo a → d′ ≡ foundWords a d
+    → EncodesFound w o ws d d′
+encodes-found {d = d} m e f = record { encodes = encodes m e; found = f ∙ ap (λ (x : Answer). foundWords x d) (m .answer) }
 
 -- two words, both written
 pub set-both : (l : List ℕ) {x y y′ : ℕ} → length l ≡ 2 → y ≡ y′ → set (set l 0 x) 1 y ≡ x ∷ y′ ∷ []

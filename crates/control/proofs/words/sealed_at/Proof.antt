@@ -1,10 +1,10 @@
--- The mark is there or not.
+-- The seal is there or not.
 use mathlib.Core.Path.{refl}
 use borrow.Author.Tests.{eq-eqb, ne-eqb}
-use Rattle.control.specs.Words.{marked}
+use Rattle.control.specs.Words.{sealed}
 use borrow.Author.Needs.{needs}
-use Rattle.control.proofs.words.marked_at.Statement.{statement}
-use Rattle.control.proofs.words.marked_at.Tie as tie
+use Rattle.control.proofs.words.sealed_at.Statement.{statement}
+use Rattle.control.proofs.words.sealed_at.Tie as tie
 
 shared-slice-read-if1 : tie.Need-shared-slice-read-if1
 shared-slice-read-if1 c = search needs
@@ -16,14 +16,14 @@ shared-slice-read-result : tie.Need-shared-slice-read-result
 shared-slice-read-result c = search needs
 
 returns : tie.Need-returns
-unfolding marked
+unfolding sealed
 returns c = rw (eq-eqb _ _ (c .before .if1 .taken)) refl
 
 returns-2 : tie.Need-returns-2
-unfolding marked
+unfolding sealed
 returns-2 c = rw (ne-eqb _ _ (c .if1 .left)) refl
 
-pub marked-at-spec : {M : Type 1} → statement M
-marked-at-spec =
+pub sealed-at-spec : {M : Type 1} → statement M
+sealed-at-spec =
     tie.close
     (tie.spec shared-slice-read-if1 mul-result shared-slice-read-result returns returns-2)
