@@ -26,7 +26,7 @@ extern "C" {
 
 /* a changed number or layout raises the major version */
 #define ISIS_GR_VERSION_MAJOR 0
-#define ISIS_GR_VERSION_MINOR 3
+#define ISIS_GR_VERSION_MINOR 5
 
 #define ISIS_GR_GATEWAY_WORDS 640 /* equal to isis_gr_gateway_words(): compare the two at start-up */
 #define ISIS_GR_SETTINGS_OCTETS 169

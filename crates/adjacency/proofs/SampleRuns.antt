@@ -17,7 +17,7 @@ use Rattle.hello.specs.declared.three_way.ThreeWayState.{ThreeWayState}
 use Rattle.hello.specs.declared.three_way.ThreeWayState.the-variants.{Up as UpState, Down}
 use Rattle.hello.specs.declared.three_way.Identifiers.the-variants.{Absent as NoIdentifiers}
 use Rattle.adjacency.specs.Step.{wrongId, wrongNeighbor, linkStep, keptUp, stepOf}
-use Rattle.adjacency.specs.Marks.{planned, lineOf}
+use Rattle.adjacency.specs.Marks.{planned, lineBy, lineOf}
 use Rattle.adjacency.specs.React.{dataBy, acceptedBy, lineIn, reactOf}
 use Rattle.adjacency.specs.Duty.{csnpsOf}
 use Rattle.adjacency.specs.declared.record.Data.{Data}
@@ -67,5 +67,5 @@ pub c1-to-c7 : (reactOf (at 100) (frame RR 0 UpState) (up 110 Clear) ≡ Accepte
     × (reactOf (at 130) (frame RR 0 UpState) (up 410 Planned) ≡ Accepted (up 160 Restart) (Send RA 30) One)
     × (reactOf (at 100) (frame RR 0 Down) Absent ≡ Accepted (Present (Init (kept 127))) (Send RA 27) Two)
     × (csnpsOf Two both (link Down) false ≡ NoCsnps)
-unfolding reactOf lineIn acceptedBy dataBy lineOf planned stepOf keptUp linkStep wrongNeighbor wrongId csnpsOf hasBits
+unfolding reactOf lineIn acceptedBy dataBy lineBy lineOf planned stepOf keptUp linkStep wrongNeighbor wrongId csnpsOf hasBits
 c1-to-c7 = (refl, refl, refl, refl, refl, refl, refl, refl, refl)

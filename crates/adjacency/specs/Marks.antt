@@ -13,6 +13,7 @@ use Rattle.adjacency.specs.declared.record.Mark.the-variants.{Clear, Res
 use Rattle.adjacency.specs.declared.record.Phase.{Phase}
 use Rattle.adjacency.specs.declared.marks.Line.{Line}
 use Rattle.adjacency.specs.declared.marks.Line.the-variants.{Ordinary, One, Two, Three, Four, Five}
+use Rattle.adjacency.specs.declared.marks.Road.{Road}
 use Rattle.adjacency.specs.declared.marks.Times.{Times}
 use Rattle.adjacency.specs.declared.marks.Acknowledgement.{Acknowledgement}
 use Rattle.adjacency.specs.declared.marks.Acknowledgement.the-variants.{Nothing, Send}
@@ -28,12 +29,15 @@ planned f before after = hasBits (f .bits) PR && (isUp before && isUp after)
 
 -- 1: RR, record UP before. 2: RR, otherwise. 3: PR, record UP before and after (house). A frame with no Restart TLV takes the ordinary
 -- road at once, and so does one whose TLV is ignored (RFC 8706, 3.2).
+unfoldable pub lineBy : Flags → Mark → Phase → Phase → Line
+lineBy f mark before after =
+    cond (hasBits (f .bits) RR) (cond (isUp before) One Two)
+    (cond (planned f before after) Three (lastLine mark))
+
 unfoldable pub lineOf : RestartTlv → Mark → Phase → Phase → Line
 lineOf Absent mark before after = Ordinary
 lineOf Ignored mark before after = Ordinary
-lineOf (Present f time n) mark before after =
-    cond (hasBits (f .bits) RR) (cond (isUp before) One Two)
-    (cond (planned f before after) Three (lastLine mark))
+lineOf (Present f time n) mark before after = lineBy f mark before after
 
 -- "Holding" means expiry = clock + Holding Time
 abbrev pub holding : Times → ℕ
@@ -75,6 +79,16 @@ abbrev pub suppressedBy : RestartTlv → Bool → Bool
 suppressedBy Absent was = was
 suppressedBy Ignored was = was
 suppressedBy (Present f time n) was = hasBits (f .bits) SA
+
+-- the frame's Remaining Time
+abbrev pub timeIn : RestartTlv → ℕ
+timeIn Absent = 0
+timeIn Ignored = 0
+timeIn (Present f time n) = time
+
+-- all three, as a frame's TLV gives them
+abbrev pub roadOf : RestartTlv → Mark → Bool → Phase → Phase → Road
+roadOf tlv mark was before after = record { line = lineOf tlv mark before after; time = timeIn tlv; suppressed = suppressedBy tlv was }
 
 -- Remaining Time = expiry less clock, as far as its two octets go
 abbrev pub remainingOf : ℕ → ℕ → ℕ

@@ -1,6 +1,7 @@
 -- One frame's whole effect on the one record with its key (document 01, "The state step" and "Marks and holding time"), in this order: step,
 -- last-frame data, lines 1 to 5, loss of Restart and Planned where the record is not UP, SA, reply.
 use Prim.Native.Nat.{ℕ}
+use mathlib.Core.Path.{_≡_}
 use mathlib.Core.Bool.{Bool, true, false, cond}
 use Rattle.restart_tlv.specs.declared.reader.RestartTlv.{RestartTlv}
 use Rattle.restart_tlv.specs.declared.reader.RestartTlv.the-variants.{Absent as NoTlv, Ignored, Present as SomeTlv}
@@ -10,7 +11,7 @@ use Rattle.hello.specs.declared.read.Link.the-variants.{Lan, P2p}
 use Rattle.basics.specs.declared.refusal.Refusal.the-variants.{WrongNeighbor}
 use Rattle.adjacency.specs.Record.{phaseOf, markOf, suppressedOf, expiryOf}
 use Rattle.adjacency.specs.Step.{wrongNeighbor, stepOf}
-use Rattle.adjacency.specs.Marks.{lineOf, expiryBy, markBy, suppressedBy, remainingOf, replyBy}
+use Rattle.adjacency.specs.Marks.{timeIn, lineOf, expiryBy, markBy, suppressedBy, remainingOf, replyBy}
 use Rattle.adjacency.specs.declared.record.Mark.{Mark}
 use Rattle.adjacency.specs.declared.record.Last.{Last}
 use Rattle.adjacency.specs.declared.record.Data.{Data}
@@ -21,6 +22,7 @@ use Rattle.adjacency.specs.declared.record.Phase.{Phase}
 use Rattle.adjacency.specs.declared.record.Phase.the-variants.{Gone, Init as InitPhase, Up as UpPhase}
 use Rattle.adjacency.specs.declared.step.Here.{Here}
 use Rattle.adjacency.specs.declared.marks.Line.{Line}
+use Rattle.adjacency.specs.declared.marks.Road.{Road}
 use Rattle.adjacency.specs.declared.marks.Times.{Times}
 use Rattle.adjacency.specs.declared.react.Reaction.{Reaction}
 use Rattle.adjacency.specs.declared.react.Reaction.the-variants.{Refused, Accepted}
@@ -34,11 +36,6 @@ abbrev pub hasTlv : RestartTlv → Bool
 hasTlv NoTlv = false
 hasTlv Ignored = true
 hasTlv (SomeTlv f time n) = true
-
-abbrev pub timeIn : RestartTlv → ℕ
-timeIn NoTlv = 0
-timeIn Ignored = 0
-timeIn (SomeTlv f time n) = time
 
 abbrev pub lastOf : Hello → Last
 lastOf h = record { priority = priorityOf (h .link); tlv = hasTlv (h .restart); reverse = h .reverse }
@@ -93,3 +90,7 @@ unfoldable pub reactOf : Here → Hello → Adjacency → Reaction
 reactOf here h before =
     cond (wrongNeighbor here (phaseOf before) h (h .link)) (Refused WrongNeighbor)
     (acceptedBy (lineIn here h before) (stepOf here (phaseOf before) h) here h before)
+
+-- what the code says of a road: its time and its mark Suppressed are the frame's
+abbrev pub OwnRoad : Road → Hello → Adjacency → Type 0
+OwnRoad road h before = (road .time ≡ timeIn (h .restart)) × (road .suppressed ≡ suppressedBy (h .restart) (suppressedOf before))

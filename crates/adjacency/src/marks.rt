@@ -7,7 +7,7 @@ use restart_tlv::reader::RestartTlv;
 use restart_tlv::writer::Ack;
 ghost use mathlib.Core.Path.{_≡_};
 ghost use Prim.Native.Nat.{_+_};
-ghost use Rattle.adjacency.specs.Marks.{planned, lastLine, lineOf, firstExpiry, thirdExpiry, expiryBy, markBy, suppressedBy, remainingOf, replyBy};
+ghost use Rattle.adjacency.specs.Marks.{planned, lastLine, lineBy, firstExpiry, thirdExpiry, expiryBy, markBy, roadOf, remainingOf, replyBy};
 
 // The line of document 01 that fits a frame; Ordinary is the road of a frame with no Restart TLV.
 pub enum Line {
@@ -17,6 +17,13 @@ pub enum Line {
     Three,
     Four,
     Five,
+}
+
+// What a frame's Restart TLV says of its record: the line that fits, its Remaining Time, and whether the record is Suppressed.
+pub struct Road {
+    pub line: Line,
+    pub time: u16,
+    pub suppressed: bool,
 }
 
 // What an expiry is made of: the clock, the frame's Holding Time, the configured time, the frame's Remaining Time, and the expiry before.
@@ -57,18 +64,10 @@ fn is_planned(flags: Flags, phase: Phase, after: Phase) -> bool
     false
 }
 
-// A frame with no Restart TLV leaves at once.
-pub fn line_of(tlv: RestartTlv, mark: Mark, phase: Phase, after: Phase) -> Line
-    ensures { λ r. ⌜ r ≡ lineOf tlv mark phase after ⌝ }
+// The line that fits a frame whose Restart TLV has these flags.
+fn line_by(flags: Flags, mark: Mark, phase: Phase, after: Phase) -> Line
+    ensures { λ r. ⌜ r ≡ lineBy flags mark phase after ⌝ }
 {
-    let RestartTlv::Present {
-        flags,
-        time: _,
-        neighbor: _,
-    } = tlv
-    else {
-        return Line::Ordinary;
-    };
     if flags.has(Flags::RR) {
         if is_up(phase) {
             return Line::One;
@@ -79,6 +78,31 @@ pub fn line_of(tlv: RestartTlv, mark: Mark, phase: Phase, after: Phase) -> Line
         return Line::Three;
     }
     last_line(mark)
+}
+
+// A frame with no Restart TLV takes the ordinary road at once; the record is Suppressed after it where it was before.
+pub fn road_of(tlv: RestartTlv, mark: Mark, was: bool, phase: Phase, after: Phase) -> Road
+    ensures { λ r. ⌜ r ≡ roadOf tlv mark was phase after ⌝ }
+{
+    let RestartTlv::Present {
+        flags,
+        time,
+        neighbor: _,
+    } = tlv
+    else {
+        return Road {
+            line: Line::Ordinary,
+            time: 0,
+            suppressed: was,
+        };
+    };
+    let line = line_by(flags, mark, phase, after);
+    let suppressed = flags.has(Flags::SA);
+    Road {
+        line,
+        time,
+        suppressed,
+    }
 }
 
 fn from_clock(clock: u32, time: u16) -> u64
@@ -107,6 +131,7 @@ fn third_expiry(times: Times, mark: Mark) -> u64
     }
 }
 
+// The record's expiry by the line that fitted.
 pub fn expiry_by(line: Line, times: Times, mark: Mark) -> u64
     ensures { λ r. ⌜ r ≡ expiryBy line times mark ⌝ }
 {
@@ -120,6 +145,7 @@ pub fn expiry_by(line: Line, times: Times, mark: Mark) -> u64
     }
 }
 
+// The record's mark by the line that fitted.
 pub fn mark_by(line: Line, mark: Mark) -> Mark
     ensures { λ r. ⌜ r ≡ markBy line mark ⌝ }
 {
@@ -133,20 +159,7 @@ pub fn mark_by(line: Line, mark: Mark) -> Mark
     }
 }
 
-pub fn suppressed_by(tlv: RestartTlv, was: bool) -> bool
-    ensures { λ r. ⌜ r ≡ suppressedBy tlv was ⌝ }
-{
-    let RestartTlv::Present {
-        flags,
-        time: _,
-        neighbor: _,
-    } = tlv
-    else {
-        return was;
-    };
-    flags.has(Flags::SA)
-}
-
+// Expiry less clock, as far as the two octets of a Remaining Time go.
 pub fn remaining_of(expiry: u64, clock: u32) -> u16
     ensures { λ r. ⌜ r ≡ remainingOf expiry clock ⌝ }
 {
@@ -160,6 +173,7 @@ pub fn remaining_of(expiry: u64, clock: u32) -> u16
     (expiry - now) as u16
 }
 
+// The reply by the line that fitted.
 pub fn reply_by(line: Line, time: u16) -> Acknowledgement
     ensures { λ r. ⌜ r ≡ replyBy line time ⌝ }
 {

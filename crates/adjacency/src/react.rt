@@ -1,13 +1,13 @@
 // One frame's whole effect on the one record with its key.
 use crate::marks::Acknowledgement;
 use crate::marks::Line;
+use crate::marks::Road;
 use crate::marks::Times;
 use crate::marks::expiry_by;
-use crate::marks::line_of;
 use crate::marks::mark_by;
 use crate::marks::remaining_of;
 use crate::marks::reply_by;
-use crate::marks::suppressed_by;
+use crate::marks::road_of;
 use crate::record::Adjacency;
 use crate::record::Data;
 use crate::record::Last;
@@ -26,7 +26,8 @@ use hello::read::Hello;
 use hello::read::Link;
 use restart_tlv::reader::RestartTlv;
 ghost use mathlib.Core.Path.{_≡_};
-ghost use Rattle.adjacency.specs.React.{priorityOf, hasTlv, timeIn, lastOf, expiryIn, timesOf, stateAs, dataBy, remainingIn, acceptedBy, reactOf};
+ghost use Rattle.adjacency.specs.React.{priorityOf, hasTlv, lastOf, expiryIn, timesOf, stateAs, dataBy, remainingIn, acceptedBy, reactOf, OwnRoad};
+ghost use Rattle.adjacency.specs.Marks.{timeIn};
 
 // Refused (8), or the record afterwards, the reply, and the line that fitted.
 pub enum Reaction {
@@ -61,20 +62,6 @@ fn has_tlv(tlv: RestartTlv) -> bool
     }
 }
 
-fn time_in(tlv: RestartTlv) -> u16
-    ensures { λ r. ⌜ r ≡ timeIn tlv ⌝ }
-{
-    let RestartTlv::Present {
-        flags: _,
-        time,
-        neighbor: _,
-    } = tlv
-    else {
-        return 0;
-    };
-    time
-}
-
 fn last_of(frame: Hello) -> Last
     ensures { λ r. ⌜ r ≡ lastOf frame ⌝ }
 {
@@ -97,15 +84,15 @@ fn expiry_in(adjacency: Adjacency) -> u64
     state_expiry(state)
 }
 
-fn times_of(here: Here, frame: Hello, adjacency: Adjacency) -> Times
+fn times_of(here: Here, frame: Hello, remaining: u16, adjacency: Adjacency) -> Times
+    requires { ⌜ remaining ≡ timeIn (frame .restart) ⌝ }
     ensures { λ r. ⌜ r ≡ timesOf here frame adjacency ⌝ }
 {
-    let tlv = frame.restart;
     Times {
         clock: here.clock,
         hold: frame.hold,
         configured: here.hold,
-        remaining: time_in(tlv),
+        remaining,
         expiry: expiry_in(adjacency),
     }
 }
@@ -120,13 +107,15 @@ fn state_as(after: Phase, kept: Data, mark: Mark) -> Adjacency
     }
 }
 
-fn data_by(line: Line, here: Here, frame: Hello, adjacency: Adjacency) -> Data
-    ensures { λ r. ⌜ r ≡ dataBy line here frame adjacency ⌝ }
+// The road is that of the frame's own TLV.
+fn data_by(road: Road, here: Here, frame: Hello, adjacency: Adjacency) -> Data
+    requires { ⌜ OwnRoad road frame adjacency ⌝ }
+    ensures { λ r. ⌜ r ≡ dataBy (road .line) here frame adjacency ⌝ }
 {
-    let tlv = frame.restart;
-    let times = times_of(here, frame, adjacency);
+    let line = road.line;
+    let suppressed = road.suppressed;
+    let times = times_of(here, frame, road.time, adjacency);
     let expiry = expiry_by(line, times, mark_of(adjacency));
-    let suppressed = suppressed_by(tlv, is_suppressed(adjacency));
     let last = last_of(frame);
     Data {
         expiry,
@@ -145,16 +134,19 @@ fn remaining_in(after: Phase, expiry: u64, clock: u32) -> u16
     }
 }
 
-fn accept(line: Line, after: Phase, here: Here, frame: Hello, adjacency: Adjacency) -> Reaction
-    ensures { λ r. ⌜ r ≡ acceptedBy line after here frame adjacency ⌝ }
+fn accept(road: Road, after: Phase, here: Here, frame: Hello, adjacency: Adjacency) -> Reaction
+    requires { ⌜ OwnRoad road frame adjacency ⌝ }
+    ensures { λ r. ⌜ r ≡ acceptedBy (road .line) after here frame adjacency ⌝ }
 {
-    let data = data_by(line, here, frame, adjacency);
+    let line = road.line;
+    let data = data_by(road, here, frame, adjacency);
     let expiry = data.expiry;
     let state = state_as(after, data, mark_by(line, mark_of(adjacency)));
     let reply = reply_by(line, remaining_in(after, expiry, here.clock));
     Reaction::Accepted(state, reply, line)
 }
 
+// Refusal 8, or the frame's effect on the record with its key.
 pub fn react_to(here: Here, frame: Hello, adjacency: Adjacency) -> Reaction
     ensures { λ r. ⌜ r ≡ reactOf here frame adjacency ⌝ }
 {
@@ -165,6 +157,12 @@ pub fn react_to(here: Here, frame: Hello, adjacency: Adjacency) -> Reaction
         return Reaction::Refused(Refusal::WrongNeighbor);
     }
     let after = step_of(here, phase, frame);
-    let line = line_of(tlv, mark_of(adjacency), phase, after);
-    accept(line, after, here, frame, adjacency)
+    let road = road_of(
+        tlv,
+        mark_of(adjacency),
+        is_suppressed(adjacency),
+        phase,
+        after,
+    );
+    accept(road, after, here, frame, adjacency)
 }

@@ -54,6 +54,7 @@ pub enum Phase {
     Up,
 }
 
+// UP and not Suppressed.
 pub fn is_advertised(state: State) -> bool
     ensures { λ r. ⌜ r ≡ advertised state ⌝ }
 {
@@ -63,6 +64,7 @@ pub fn is_advertised(state: State) -> bool
     }
 }
 
+// No record, INIT or UP.
 pub fn phase_of(adjacency: Adjacency) -> Phase
     ensures { λ r. ⌜ r ≡ phaseOf adjacency ⌝ }
 {
@@ -75,6 +77,7 @@ pub fn phase_of(adjacency: Adjacency) -> Phase
     }
 }
 
+// The expiry of either state.
 pub fn state_expiry(state: State) -> u64
     ensures { λ r. ⌜ r ≡ expiryOf state ⌝ }
 {
@@ -84,6 +87,7 @@ pub fn state_expiry(state: State) -> u64
     }
 }
 
+// The mark; of no record and of INIT none.
 pub fn mark_of(adjacency: Adjacency) -> Mark
     ensures { λ r. ⌜ r ≡ markOf adjacency ⌝ }
 {
@@ -96,6 +100,7 @@ pub fn mark_of(adjacency: Adjacency) -> Mark
     }
 }
 
+// Whether Suppressed is marked; of no record it is not.
 pub fn is_suppressed(adjacency: Adjacency) -> bool
     ensures { λ r. ⌜ r ≡ suppressedOf adjacency ⌝ }
 {

@@ -48,6 +48,7 @@ pub fn is_wrong_source(levels: Levels, own: u64, frame: Hello) -> bool
     system == own
 }
 
+// No record counts as not UP.
 pub fn is_up(phase: Phase) -> bool
     ensures { λ r. ⌜ r ≡ isUp phase ⌝ }
 {

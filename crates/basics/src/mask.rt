@@ -21,6 +21,7 @@ fn bit_of(i: usize) -> u8
     1u8 << i
 }
 
+// The mask with the digit of circuit i set or cleared.
 pub fn put_bit(m: u8, i: usize, on: bool) -> u8
     requires { ⌜ i < circuits ⌝ }
     ensures { λ r. ⌜ bits r ≡ set (bits m) i on ⌝ }
@@ -29,6 +30,7 @@ pub fn put_bit(m: u8, i: usize, on: bool) -> u8
     if on { m | b } else { m & !b }
 }
 
+// The digit of circuit i.
 pub fn has_bit(m: u8, i: usize) -> bool
     requires { ⌜ i < circuits ⌝ }
     ensures { λ r. ⌜ r ≡ getD (bits m) i false ⌝ }
@@ -36,18 +38,21 @@ pub fn has_bit(m: u8, i: usize) -> bool
     (m >> i) % 2 == 1
 }
 
+// Whether any digit is set.
 pub fn any_bit(m: u8) -> bool
     ensures { λ r. ⌜ r ≡ anyTrue (bits m) ⌝ }
 {
     m != 0
 }
 
+// How many digits are set.
 pub fn count_bits(m: u8) -> u32
     ensures { λ r. ⌜ r ≡ countTrue (bits m) ⌝ }
 {
     u8::count_ones(m)
 }
 
+// The lowest digit that is set.
 pub fn lowest_bit(m: u8) -> Lowest
     ensures { λ r. ⌜ r ≡ firstTrue (bits m) 1 ⌝ }
 {

@@ -39,6 +39,7 @@ pub fn word(s: &[u8], at: usize) -> usize
     wide(s[at]) + wide(s[at + 1]) * 256 + wide(s[at + 2]) * 65536 + wide(s[at + 3]) * 16777216
 }
 
+// Two octets as a number, the first highest.
 pub fn two(s: &[u8], at: usize) -> u16
     requires { ⌜ at + 1 < length (now s) ⌝ }
     ensures { λ r. ⌜ r ≡ big 2 (now (s .entry)) at ⌝ }
@@ -47,6 +48,7 @@ pub fn two(s: &[u8], at: usize) -> u16
     (x % 256 * 256 + x / 256) as u16
 }
 
+// Three octets so.
 pub fn three(s: &[u8], at: usize) -> u32
     requires { ⌜ at + 2 < length (now s) ⌝ }
     ensures { λ r. ⌜ r ≡ big 3 (now (s .entry)) at ⌝ }
@@ -54,6 +56,7 @@ pub fn three(s: &[u8], at: usize) -> u32
     (two(s, at) as u32) * 256 + wide(s[at + 2]) as u32
 }
 
+// Four octets so.
 pub fn four(s: &[u8], at: usize) -> u32
     requires { ⌜ at + 3 < length (now s) ⌝ }
     ensures { λ r. ⌜ r ≡ big 4 (now (s .entry)) at ⌝ }

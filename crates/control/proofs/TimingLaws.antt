@@ -11,7 +11,6 @@ use borrow.Author.Tests.{eqb-true}
 use borrow.Rule.Slice.PartMut.{putMid}
 use Rattle.basics.proofs.BoolLaws.{by-test}
 use Rattle.basics.specs.declared.levels.Levels.{Levels}
-use Rattle.basics.specs.Mask.{bits}
 use Rattle.timer_parts.specs.declared.heard.Heard.{Heard}
 use Rattle.timer_parts.specs.declared.t1.Freed.{Freed}
 use Rattle.timer_parts.specs.declared.t1.Freed.the-variants.{Kept}
@@ -20,7 +19,7 @@ use Rattle.timers.specs.Timers.{Timers, settled, toT3, heardIn}
 use Rattle.timers.specs.Memory.{wordCount, entryAt, timersOf, timersAt}
 use Rattle.settings.specs.Mode.{isRunning}
 use Rattle.timers.specs.Outcome.{ordered, tickHellos}
-use Rattle.timers.specs.Events.{Closes, Ticks, Hears}
+use Rattle.timers.specs.Events.{Closes, Ticks, Hears, helloBits}
 use Rattle.settings.specs.declared.mode.Mode.the-variants.{Running}
 use Rattle.timers.specs.declared.head.Head.{Head}
 use Rattle.timers.specs.declared.outcome.TimerOutcome.{TimerOutcome}
@@ -119,11 +118,11 @@ module _ (ws : List ℕ) (m : isRunning (commonOf ws .timers .mode) ≡ true) wh
   hears-still i l d =
       record { settles = settles-still (heardIn (commonOf ws .clock) i l d); freed = freed-off (commonOf ws .timers) m i d }
 
-  no-hellos : bits 0 ≡ map (λ x. false) (commonOf ws .timers .t1s)
+  no-hellos : helloBits 0 ≡ map (λ x. false) (commonOf ws .timers .t1s)
   unfolding commonOf timersOf
   no-hellos = bits-none (headOf ws .mask) (entryAt (entriesOf ws))
 
-  pub ticks-still : (clock : ℕ) → CommonTicksOn clock ws ws Idle (bits 0)
+  pub ticks-still : (clock : ℕ) → CommonTicksOn clock ws ws Idle (helloBits 0)
   ticks-still clock =
       record {
         settles = settles-still (toT3 (commonOf ws .lengths) clock);

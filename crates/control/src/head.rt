@@ -77,6 +77,7 @@ fn head_in(w: u64, a: u64, b: u64, e: u64) -> Head
     }
 }
 
+// The mode; Running in memory that was never set up.
 pub fn mode_of(words: &[u64]) -> Mode
     requires { ⌜ length (now words) ≡ controlWords ⌝ }
     ensures { λ r. ⌜ r ≡ commonOf (now (words .entry)) .timers .mode ⌝ }
@@ -84,6 +85,7 @@ pub fn mode_of(words: &[u64]) -> Mode
     mode_in(sealed_at(words, HEAD_AT) % 4)
 }
 
+// The timers' head.
 pub fn load_head(words: &[u64]) -> Head
     requires { ⌜ length (now words) ≡ controlWords ⌝ }
     ensures { λ r. ⌜ r ≡ headOf (now (words .entry)) ⌝ }

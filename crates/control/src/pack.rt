@@ -36,6 +36,7 @@ pub fn circuit_word(s: Circuit) -> u64
         + 4294967296 * (metric as u64)
 }
 
+// The word of the lengths.
 pub fn lengths_word(s: Lengths) -> u64
     ensures { λ r. ⌜ lengthsIn r ≡ s ⌝ }
 {

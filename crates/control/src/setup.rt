@@ -22,7 +22,8 @@ ghost use mathlib.Core.Path.{_≡_};
 ghost use mathlib.Core.Logic.{_≢_};
 ghost use Prim.Native.Nat.{ℕ, _<_, _≤_};
 ghost use lib.ListN.{length};
-ghost use Rattle.basics.specs.Mask.{bits, circuits};
+ghost use Rattle.timers.specs.Events.{helloBits};
+ghost use Rattle.basics.specs.Mask.{circuits};
 ghost use Rattle.control.specs.Words.{controlWords, circuitAt, circuitsFrom};
 ghost use Rattle.control.specs.Common.{presentOf};
 ghost use Rattle.control.specs.Setup.{Stores, SetsControl};
@@ -75,7 +76,7 @@ fn present_of(count: u8) -> u8
 // The common part of a new gateway; the answer is the mask of the circuits whose hello is ordered.
 pub fn set_up(words: &mut [u64], s: Settings) -> u8
     requires { ⌜ (length (now words) ≡ controlWords) × (s .count ≤ circuits) ⌝ }
-    ensures { λ r. ⌜ SetsControl s (now (words .exit)) (bits r) ⌝ }
+    ensures { λ r. ⌜ SetsControl s (now (words .exit)) (helloBits r) ⌝ }
 {
     let lengths = s.lengths;
     let mode = s.mode;

@@ -18,7 +18,8 @@ use timers::outcome::TimerOutcome;
 ghost use mathlib.Core.Path.{_≡_};
 ghost use Prim.Native.Nat.{_<_};
 ghost use lib.ListN.{length, getD};
-ghost use Rattle.basics.specs.Mask.{circuits, bits};
+ghost use Rattle.timers.specs.Events.{helloBits};
+ghost use Rattle.basics.specs.Mask.{circuits};
 ghost use Rattle.timer_parts.specs.T1.{helloFlags};
 ghost use Rattle.timers.specs.Timers.{noT1, csnpIn, noticeT2s, countRuns, firstRuns};
 ghost use Rattle.control.specs.Words.{controlWords, commonOf};
@@ -90,7 +91,7 @@ pub fn notice_database(words: &mut [u64], n: Levels) -> TimerOutcome
 
 fn tick_in(words: &mut [u64], clock: u32) -> TickOrders
     requires { ⌜ (length (now words) ≡ controlWords) × On (now words) ⌝ }
-    ensures { λ r. ⌜ CommonTicksOn clock (now (words .entry)) (now (words .exit)) (r .outcome) (bits (r .hellos)) ⌝ }
+    ensures { λ r. ⌜ CommonTicksOn clock (now (words .entry)) (now (words .exit)) (r .outcome) (helloBits (r .hellos)) ⌝ }
 {
     let h = load_head(words);
     let s = lengths_of(words);
@@ -104,7 +105,7 @@ fn tick_in(words: &mut [u64], clock: u32) -> TickOrders
 
 fn tick_on(words: &mut [u64], clock: u32) -> TickOrders
     requires { ⌜ length (now words) ≡ controlWords ⌝ }
-    ensures { λ r. ⌜ CommonTicksOn clock (now (words .entry)) (now (words .exit)) (r .outcome) (bits (r .hellos)) ⌝ }
+    ensures { λ r. ⌜ CommonTicksOn clock (now (words .entry)) (now (words .exit)) (r .outcome) (helloBits (r .hellos)) ⌝ }
 {
     if is_running(mode_of(words)) {
         return TickOrders {
@@ -118,7 +119,7 @@ fn tick_on(words: &mut [u64], clock: u32) -> TickOrders
 // The clock, and then the timers at it.
 pub fn tick(words: &mut [u64], clock: u32) -> TickOrders
     requires { ⌜ length (now words) ≡ controlWords ⌝ }
-    ensures { λ r. ⌜ CommonTicks clock (now (words .entry)) (now (words .exit)) (r .outcome) (bits (r .hellos)) ⌝ }
+    ensures { λ r. ⌜ CommonTicks clock (now (words .entry)) (now (words .exit)) (r .outcome) (helloBits (r .hellos)) ⌝ }
 {
     move_clock(words, clock);
     tick_on(words, clock)

@@ -55,6 +55,7 @@ pub fn sealed_at(words: &[u64], i: usize) -> u64
     0
 }
 
+// How many circuits there are.
 pub fn count_of(words: &[u64]) -> usize
     requires { ⌜ length (now words) ≡ controlWords ⌝ }
     ensures { λ r. ⌜ (r ≡ countOf (now (words .entry))) × (r ≤ circuits) ⌝ }
@@ -121,6 +122,7 @@ pub fn circuit_of(words: &[u64], n: u8) -> Chosen
     Chosen::Known(circuit)
 }
 
+// The held clock.
 pub fn clock_of(words: &[u64]) -> u32
     requires { ⌜ length (now words) ≡ controlWords ⌝ }
     ensures { λ r. ⌜ r ≡ commonOf (now (words .entry)) .clock ⌝ }
@@ -128,6 +130,7 @@ pub fn clock_of(words: &[u64]) -> u32
     (words[CLOCK_AT] % 4294967296) as u32
 }
 
+// Our own System ID.
 pub fn system_of(words: &[u64]) -> u64
     requires { ⌜ length (now words) ≡ controlWords ⌝ }
     ensures { λ r. ⌜ r ≡ commonOf (now (words .entry)) .system ⌝ }
@@ -145,6 +148,7 @@ fn lengths_in(w: u64) -> Lengths
     }
 }
 
+// The timers' lengths.
 pub fn lengths_of(words: &[u64]) -> Lengths
     requires { ⌜ length (now words) ≡ controlWords ⌝ }
     ensures { λ r. ⌜ r ≡ commonOf (now (words .entry)) .lengths ⌝ }
@@ -172,6 +176,7 @@ pub fn levels_of(words: &[u64]) -> Levels
     found
 }
 
+// The clock is moved, and nothing else.
 pub fn move_clock(words: &mut [u64], clock: u32)
     requires { ⌜ length (now words) ≡ controlWords ⌝ }
     ensures { λ _. ⌜ commonOf (now (words .exit)) ≡ withClock clock (commonOf (now (words .entry))) ⌝ }

@@ -9,6 +9,7 @@ use lib.ListN.{length, getD, set, take, drop, drop-of-length-le}
 use lib.Seq.{take-suc-set, drop-set-lt, drop-cons, append-snoc, take-all}
 use borrow.Author.Tests.{lt-ltb, le-ltb}
 use borrow.Rule.Slice.PartMut.{putMid}
+use Rattle.gateway.specs.Tick.{tickedCommon, SweepsAll}
 use Rattle.basics.specs.declared.refusal.Refusal.the-variants.{NoCircuit, ClockBack, NotRestarting}
 use Rattle.basics.specs.Levels.{hasLevel, onlyLevel}
 use Rattle.adjacency.specs.declared.record.Adjacency.{Adjacency}
@@ -23,21 +24,21 @@ use Rattle.restart_tlv.specs.declared.flags.Flags.{Flags}
 use Rattle.basics.specs.declared.levels.Levels.{Levels}
 use Rattle.basics.specs.declared.kind.CircuitKind.{CircuitKind}
 use Rattle.basics.specs.declared.kind.CircuitKind.the-variants.{Lan}
-use Rattle.basics.specs.Mask.{bits, bitsOf, circuits}
+use Rattle.basics.specs.Mask.{bitsOf, circuits}
 use Rattle.timer_parts.specs.T1.{helloFlags}
 use Rattle.basics.specs.declared.mask.Lowest.{Lowest}
-use Rattle.timers.specs.Timers.{Timers, ticked, toT3, csnpIn, noticeT2s, noT1, countRuns, firstRuns}
+use Rattle.timers.specs.Timers.{Timers, toT3, csnpIn, noticeT2s, noT1, countRuns, firstRuns}
 use Rattle.settings.specs.Mode.{isRestarting}
 use Rattle.timers.specs.Outcome.{ordered, tickHellos}
 use Rattle.timers.specs.declared.outcome.TimerOutcome.{TimerOutcome}
 use Rattle.settings.specs.Settings.{enabledLevels}
 use Rattle.settings.specs.declared.circuit.Circuit.{Circuit}
 use Rattle.control.specs.Words.{countOf, commonOf, controlWords}
-use Rattle.control.specs.Common.{Common, withClock, withTimers}
+use Rattle.control.specs.Common.{Common}
 use Rattle.control.proofs.CommonLaws.{circuits-length}
 use Rattle.control.specs.Timing.{CommonSettles, CommonTicks}
 use Rattle.adjacency.specs.Keys.{keyOn}
-use Rattle.model.specs.Answers.{Answer, Refused, Ticked, Told, Fact, Done, Noticed, Looked, Metric, HelloFlags, Waits}
+use Rattle.model.specs.Answers.{Answer, Refused, Ticked, Told, Fact, Done, Noticed, Looked, Metric, HelloFlags, Waits, lostBits}
 use Rattle.model.specs.Gateway.{Gateway, Room, withRooms, withCommon, noRoom, renew, roomOf}
 use Rattle.model.specs.Receive.{Acted, refuse}
 use Rattle.model.specs.Step.{Call, Judged, Refused as RefusedCall, Tell, Release, CsnpComplete, LookUp, LinkMetric, NextHello, Tick, DatabaseComplete, Waiting, Over, act, asksLevel, csnpComplete, lookUp, linkMetricOf, nextHello, noticeOf, settledBy, lift, noneOf, quiet, tickOf, databaseOf, judge, carry, sweptRoom, lapsed, step}
@@ -178,25 +179,33 @@ module _ (ws : List ℕ) where
       tick-back c e lt =
           rw (is-some, lt-ltb clock (cs .clock) (rw (← e) lt)) (record { answer = refl; reply = refl; next = refl; kept = λ x y. refl })
 
-      pub tick-took : (c : ℕ) (ws1 u : List ℕ) (lost hellos : List Bool) (o : TimerOutcome) → c ≡ cs .clock → c ≤ clock → length ws1 ≡ gatewayWords → length u ≡ controlWords
-          → lost ≡ map (lapsed clock) (gw .rooms) → gatewayOf ws1 ≡ withRooms gw (map (sweptRoom clock) (gw .rooms))
-          → CommonTicks clock (part 0 controlWords ws1) u o hellos
-          → Meets (Ticked lost hellos o) (step gw (Over (Tick clock))) ws (putMid 0 controlWords ws1 u) []
+      pub tick-took : (c : ℕ) (ws′ : List ℕ) (a : Answer) → c ≡ cs .clock → c ≤ clock → SweepsAll clock ws ws′ a
+          → Meets a (step gw (Over (Tick clock))) ws ws′ []
       unfolding step judge tickOf carry
-      tick-took c ws1 u lost hellos o e le l1 lu m r h =
-          let c1 : commonOf (part 0 controlWords ws1) ≡ gw .common = common-at ws1 ∙ ap (λ (x : Gateway). x .common) r in
+      tick-took c ws′ a e le h =
           let s : noneOf (gw .common .circuits) ≡ false = rw (← common-at ws) is-some in
           let w : gw .common .clock ≤ clock = rw (← common-at ws, ← e) le in
-          let hc = subst (λ (x : Common). commonOf u ≡ withTimers (ticked (x .lengths) clock (x .timers)) (withClock clock x)) c1 (h .common) in
-          let ho = subst (λ (x : Common). o ≡ ordered (toT3 (x .lengths) clock) (x .timers)) c1 (h .outcome) in
-          let hh = subst (λ (x : Common). hellos ≡ tickHellos (x .lengths) clock (x .timers)) c1 (h .hellos) in
           rw (s, le-ltb clock (gw .common .clock) w)
           (record {
-            answer = λ i. Ticked (m i) (hh i) (ho i);
+            answer = h .answer;
             reply = refl;
-            next = common-put ws1 u l1 lu ∙ ap (λ (x : Gateway). withCommon x (commonOf u)) r ∙ ap (withCommon (withRooms gw (map (sweptRoom clock) (gw .rooms)))) hc;
-            kept = λ x z. absurd (let y : _≡_ {A = ℕ} 0 1 = cc in omega arith);
+            next = h .next;
+            kept = λ x z. absurd (let y : _≡_ {A = ℕ} 0 1 = cc (h .answer, z) in omega arith);
           })
+
+  -- the rooms first, and then the control words put back
+  pub swept-all : (clock : ℕ) (ws1 u : List ℕ) (lost hellos : List Bool) (o : TimerOutcome) → length ws1 ≡ gatewayWords → length u ≡ controlWords
+      → lost ≡ map (lapsed clock) (gw .rooms) → gatewayOf ws1 ≡ withRooms gw (map (sweptRoom clock) (gw .rooms))
+      → CommonTicks clock (part 0 controlWords ws1) u o hellos → SweepsAll clock ws (putMid 0 controlWords ws1 u) (Ticked lost hellos o)
+  swept-all clock ws1 u lost hellos o l1 lu m r h =
+      let c1 : commonOf (part 0 controlWords ws1) ≡ gw .common = common-at ws1 ∙ ap (λ (x : Gateway). x .common) r in
+      let hc = subst (λ (x : Common). commonOf u ≡ tickedCommon clock x) c1 (h .common) in
+      let ho = subst (λ (x : Common). o ≡ ordered (toT3 (x .lengths) clock) (x .timers)) c1 (h .outcome) in
+      let hh = subst (λ (x : Common). hellos ≡ tickHellos (x .lengths) clock (x .timers)) c1 (h .hellos) in
+      record {
+        answer = λ i. Ticked (m i) (hh i) (ho i);
+        next = common-put ws1 u l1 lu ∙ ap (λ (x : Gateway). withCommon x (commonOf u)) r ∙ ap (withCommon (withRooms gw (map (sweptRoom clock) (gw .rooms)))) hc;
+      }
 
   -- database complete
   module _ (level : ℕ) (l : Levels) (le : l ≡ enabledLevels (cs .circuits)) where
@@ -254,7 +263,7 @@ lapsed-at ws clock i lt any t s len lt64 =
       room-put ws t len i lt lt64 ∙ ap (λ (x : List Slot). withRooms (gatewayOf ws) (set (gatewayOf ws .rooms) i (record { slots = x }))) (s .left ∙ ap (expired clock) e),
     )
 
-pub length-bits : (m : ℕ) → length (bits m) ≡ circuits
+pub length-bits : (m : ℕ) → length (lostBits m) ≡ circuits
 unfolding bitsOf
 length-bits m = refl
 

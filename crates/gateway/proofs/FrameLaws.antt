@@ -36,7 +36,8 @@ use Rattle.control.specs.Common.{Common}
 use Rattle.control.specs.Words.{commonOf, controlWords}
 use Rattle.control.specs.Timing.{CommonHears}
 use Rattle.adjacency.specs.Keys.{keyIn}
-use Rattle.room.specs.Accept.{decided, kept, csnpsIn, Accepts}
+use Rattle.room.specs.Accept.{decided, kept, csnpsIn}
+use Rattle.room.specs.AcceptWords.{Accepts}
 use Rattle.model.specs.declared.answers.Orders.{Orders}
 use Rattle.model.specs.Answers.{Refused, Received}
 use Rattle.model.specs.Gateway.{Gateway, Room, withRooms, withCommon, renew, roomOf}
@@ -91,9 +92,9 @@ module _ (ws : List ℕ) (n : ℕ) (s : Circuit) (mac : ℕ) (h : Hello) (b : Li
   abbrev k : Key
   k = keyIn (s .kind) mac h
 
-  declined-is : (x : Refusal) → RefusedReaction x ≡ decided (hereOf (g .common) s) k h (roomOf g n .slots) → lift g n (refuse b x) ≡ lift g n (decidedIn n s mac b h)
+  refused-is : (x : Refusal) → RefusedReaction x ≡ decided (hereOf (g .common) s) k h (roomOf g n .slots) → lift g n (refuse b x) ≡ lift g n (decidedIn n s mac b h)
   unfolding lift decidedIn reacted
-  declined-is x e = rw (← e) refl
+  refused-is x e = rw (← e) refl
 
   accepted-is : (after : Adjacency) (reply : Acknowledgement) (line : Line)
       → Accepted after reply line ≡ decided (hereOf (g .common) s) k h (roomOf g n .slots)
@@ -113,7 +114,7 @@ module _ (ws : List ℕ) (n : ℕ) (s : Circuit) (mac : ℕ) (h : Hello) (b : Li
         → Meets (Refused x) (lift g n (decidedIn n s mac b h)) ws (putMid a (a + roomWords - a) ws t) b′
     left x t b′ l =
         let w : putMid a (a + roomWords - a) ws t ≡ ws = ap (putMid a (a + roomWords - a) ws) (l .did .0) ∙ put-same a (a + roomWords - a) ws in
-        rw (w, l .did .1) (along (declined-is x (decided-at (RefusedReaction x) (l .is))) (refuses ws n b x))
+        rw (w, l .did .1) (along (refused-is x (decided-at (RefusedReaction x) (l .is))) (refuses ws n b x))
 
     module _ (t b′ : List ℕ) (after : Adjacency) (reply : Acknowledgement) (line : Line) (lt : length t ≡ a + roomWords - a) where
       abbrev ws1 : List ℕ

@@ -6,12 +6,13 @@ use mathlib.Core.Bool.{true, false}
 use mathlib.Core.List.{List, map}
 use lib.ListN.{length, set}
 use borrow.Rule.Slice.PartMut.{putMid}
+use Rattle.timers.specs.Events.{helloBits}
 use Rattle.control.specs.Words.{controlWords}
 use Rattle.basics.specs.declared.refusal.Refusal.the-variants.{BadSetting}
 use Rattle.slots.specs.Slots.{tableOf, roomWords}
 use Rattle.adjacency.specs.declared.place.Slot.{Slot}
 use Rattle.room.specs.Table.{emptyRoom}
-use Rattle.basics.specs.Mask.{bits, circuits}
+use Rattle.basics.specs.Mask.{circuits}
 use Rattle.settings.specs.Settings.{settingsOk}
 use Rattle.settings.specs.declared.circuit.Circuit.{Circuit}
 use Rattle.settings.specs.declared.setup.Settings.{Settings}
@@ -36,7 +37,7 @@ module _ (ws : List ℕ) (s : Settings) where
   set-up-refused e = rw e (record { answer = refl; next = refl; kept = λ x y. refl })
 
   pub set-up-done : (u ws′ : List ℕ) (hellos : ℕ) → settingsOk s ≡ true → length ws ≡ gatewayWords → length u ≡ controlWords
-      → StoresAll s u (bits hellos) → gatewayOf ws′ ≡ withRooms (gatewayOf (putMid 0 controlWords ws u)) (map newRoom (s .circuits))
+      → StoresAll s u (helloBits hellos) → gatewayOf ws′ ≡ withRooms (gatewayOf (putMid 0 controlWords ws u)) (map newRoom (s .circuits))
       → SetsUp (setup s) ws ws′ (Done hellos)
   unfolding setup newGateway
   set-up-done u ws′ hellos e len lu h r =

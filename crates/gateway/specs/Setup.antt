@@ -4,9 +4,10 @@ use Prim.Native.Nat.{ℕ}
 use mathlib.Core.Path.{_≡_}
 use mathlib.Core.Bool.{Bool}
 use mathlib.Core.List.{List, map}
+use Rattle.timers.specs.Events.{helloBits}
 use Rattle.basics.specs.Octets.{big}
 use Rattle.basics.specs.declared.refusal.Refusal.{Refusal}
-use Rattle.basics.specs.Mask.{bits, circuits}
+use Rattle.basics.specs.Mask.{circuits}
 use Rattle.settings.specs.declared.circuit.Circuit.{Circuit}
 use Rattle.settings.specs.declared.setup.Settings.{Settings}
 use Rattle.model.specs.declared.answers.SetUp.{SetUp}
@@ -46,7 +47,7 @@ pub data Report : Type 0 where
 
 abbrev pub reportOf : SetUp → Report
 reportOf (RefusedAnswer x) = Refused x
-reportOf (Done hellos) = Begun (bits hellos)
+reportOf (Done hellos) = Begun (helloBits hellos)
 
 abbrev pub reportIn : Setup → Report
 reportIn (RefusedSetup x) = Refused x

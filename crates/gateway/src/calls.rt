@@ -61,6 +61,7 @@ pub fn receive(
     receive_in(gateway, circuit, source, frame, reply)
 }
 
+// The clock: records whose expiry is reached go, and the timers move.
 pub fn tick(gateway: &mut [u64; GATEWAY_WORDS], clock: u32) -> Ticked
     ensures { λ r. ⌜ Meets (tickedOf r) (step (gatewayOf (now (gateway .entry))) (Over (Tick clock))) (now (gateway .entry)) (now (gateway .exit)) [] ⌝ }
 {
@@ -112,6 +113,7 @@ pub fn look_up(
     look_in(gateway, circuit, key_given(level, system, mac))
 }
 
+// The metric of a circuit's link, with a P2P neighbour's reverse metric.
 pub fn link_metric(gateway: &[u64; GATEWAY_WORDS], circuit: u8) -> Metric
     ensures { λ r. ⌜ Meets (metricOf r) (step (gatewayOf (now (gateway .entry))) (At circuit LinkMetric)) (now (gateway .entry)) (now (gateway .entry)) [] ⌝ }
 {

@@ -2,6 +2,7 @@
 use basics::mask::CIRCUITS;
 use basics::mask::put_bit;
 use basics::refusal::Refusal;
+use control::timing::tick;
 use control::words::CONTROL_WORDS;
 use control::words::circuit_of;
 use control::words::clock_of;
@@ -17,11 +18,12 @@ ghost use mathlib.Core.Path.{_≡_};
 ghost use mathlib.Core.List.{[], map};
 ghost use Prim.Native.Nat.{_<_};
 ghost use lib.ListN.{length, getD, set};
-ghost use Rattle.basics.specs.Mask.{bits, circuits};
-ghost use Rattle.model.specs.Answers.{tickedOf, releasedOf};
+ghost use Rattle.basics.specs.Mask.{circuits};
+ghost use Rattle.model.specs.Answers.{tickedOf, releasedOf, lostBits};
 ghost use Rattle.model.specs.Gateway.{withRooms, noRoom};
 ghost use Rattle.model.specs.Step.{sweptRoom, lapsed, step, At, Over, Tick, Release};
 ghost use Rattle.gateway.specs.Words.{gatewayWords, gatewayOf, Meets};
+ghost use Rattle.gateway.specs.Tick.{SweepsAll};
 
 // Circuit i (from 0): whether a record went.
 fn sweep_room(gateway: &mut [u64], i: usize, clock: u32) -> bool
@@ -35,7 +37,7 @@ fn sweep_room(gateway: &mut [u64], i: usize, clock: u32) -> bool
 // Every circuit: the mask of those that lost a record.
 fn sweep_rooms(gateway: &mut [u64], clock: u32) -> u8
     requires { ⌜ length (now gateway) ≡ gatewayWords ⌝ }
-    ensures { λ r. ⌜ (bits r ≡ map (lapsed clock) (gatewayOf (now (gateway .entry)) .rooms)) × (gatewayOf (now (gateway .exit)) ≡ withRooms (gatewayOf (now (gateway .entry))) (map (sweptRoom clock) (gatewayOf (now (gateway .entry)) .rooms))) ⌝ }
+    ensures { λ r. ⌜ (lostBits r ≡ map (lapsed clock) (gatewayOf (now (gateway .entry)) .rooms)) × (gatewayOf (now (gateway .exit)) ≡ withRooms (gatewayOf (now (gateway .entry))) (map (sweptRoom clock) (gatewayOf (now (gateway .entry)) .rooms))) ⌝ }
 {
     let mut lost = 0u8;
     let mut i = 0;
@@ -45,6 +47,22 @@ fn sweep_rooms(gateway: &mut [u64], clock: u32) -> u8
         i += 1;
     }
     lost
+}
+
+// The rooms, and then the clock and the timers.
+fn sweep_all(gateway: &mut [u64], clock: u32) -> Ticked
+    requires { ⌜ length (now gateway) ≡ gatewayWords ⌝ }
+    ensures { λ r. ⌜ SweepsAll clock (now (gateway .entry)) (now (gateway .exit)) (tickedOf r) ⌝ }
+{
+    let lost = sweep_rooms(gateway, clock);
+    let x = tick(&mut gateway[0..CONTROL_WORDS], clock);
+    let hellos = x.hellos;
+    let outcome = x.outcome;
+    Ticked::Done {
+        lost,
+        hellos,
+        outcome,
+    }
 }
 
 // Refusal 10, or the tick. Memory that was never set up has no circuit: there a tick does nothing.
@@ -62,15 +80,7 @@ pub(crate) fn tick_in(gateway: &mut [u64], clock: u32) -> Ticked
     if clock < clock_of(&gateway[0..CONTROL_WORDS]) {
         return Ticked::Refused(Refusal::ClockBack);
     }
-    let lost = sweep_rooms(gateway, clock);
-    let x = control::timing::tick(&mut gateway[0..CONTROL_WORDS], clock);
-    let hellos = x.hellos;
-    let outcome = x.outcome;
-    Ticked::Done {
-        lost,
-        hellos,
-        outcome,
-    }
+    sweep_all(gateway, clock)
 }
 
 // Refusal 1, or the circuit's Planned records go.

@@ -29,15 +29,15 @@ use Rattle.model.specs.Gateway.{Room, Gateway, numbered, renew, noRoom, roomOf,
 use Rattle.model.specs.Step.{sweptRoom}
 use Rattle.invariants.specs.Invariants.{Each, end, Quiet, roomFor}
 use Rattle.invariants.proofs.QuietLaws.{started-quiet}
-use Rattle.invariants.proofs.RoomLaws.{each-put, each-sweep, Bare, bare-each, bare-gather, empty-bare, places, empty-places, places-put, places-sweep, single-sweep, single-put}
+use Rattle.invariants.proofs.RoomLaws.{each-put, each-sweep, NoRecords, no-records-each, no-records-gather, empty-no-records, openPlaces, empty-places, places-put, places-sweep, single-sweep, single-put}
 use Rattle.invariants.proofs.ReactLaws.{Span}
 
 -- ---- a room
 
--- a circuit's places, and no record where there is no circuit
+-- a circuit's openPlaces, and no record where there is no circuit
 pub data Size : Chosen → List Slot → Type 0 where
-  places-of : {s : Circuit} {t : List Slot} → places t ≡ roomFor (s .kind) → Size (Known s) t
-  none-of : {t : List Slot} → Bare t → Size Unknown t
+  places-of : {s : Circuit} {t : List Slot} → openPlaces t ≡ roomFor (s .kind) → Size (Known s) t
+  none-of : {t : List Slot} → NoRecords t → Size Unknown t
 
 pub record RoomOk (x : Chosen) (clock : ℕ) (t : List Slot) : Type 0 where
   pub spans : Each (λ s. Span clock (expiryOf s)) t
@@ -45,12 +45,12 @@ pub record RoomOk (x : Chosen) (clock : ℕ) (t : List Slot) : Type 0 where
   pub size : Size x t
 
 -- no record: any clock
-module _ (t : List Slot) (b : Bare t) where
-  single-bare : (k : Key) → length (gather k t) ≤ 1
-  single-bare k = rw (bare-gather k t b) (omega arith)
+module _ (t : List Slot) (b : NoRecords t) where
+  single-no-records : (k : Key) → length (gather k t) ≤ 1
+  single-no-records k = rw (no-records-gather k t b) (omega arith)
 
-  bare-ok : (x : Chosen) (clock : ℕ) → Size x t → RoomOk x clock t
-  bare-ok x clock z = record { spans = bare-each t b; single = single-bare; size = z }
+  no-records-ok : (x : Chosen) (clock : ℕ) → Size x t → RoomOk x clock t
+  no-records-ok x clock z = record { spans = no-records-each t b; single = single-no-records; size = z }
 
 -- a record put
 pub room-put : (s : Circuit) (clock : ℕ) (t : List Slot) (k : Key) (v : State) → RoomOk (Known s) clock t → crowded k t ≡ false
@@ -105,14 +105,14 @@ renew-all P l (suc i) v h p zero = h zero
 renew-all P l (suc i) v h p (suc m) = set-all (λ k. P (suc k)) l i v (λ k. h (suc k)) p m
 
 -- a room with a place is there
-set-same : (l : List Room) (i : ℕ) (v : Room) → 0 < places (getD l i noRoom .slots) → getD (set l i v) i noRoom ≡ v
-unfolding places
+set-same : (l : List Room) (i : ℕ) (v : Room) → 0 < openPlaces (getD l i noRoom .slots) → getD (set l i v) i noRoom ≡ v
+unfolding openPlaces
 set-same [] i v h = absurd (omega arith)
 set-same (x ∷ l) zero v h = refl
 set-same (x ∷ l) (suc i) v h = set-same l i v h
 
-pub renew-same : (l : List Room) (n : ℕ) (v : Room) → 0 < places (numbered l n noRoom .slots) → numbered (renew l n v) n noRoom ≡ v
-unfolding numbered renew places
+pub renew-same : (l : List Room) (n : ℕ) (v : Room) → 0 < openPlaces (numbered l n noRoom .slots) → numbered (renew l n v) n noRoom ≡ v
+unfolding numbered renew openPlaces
 renew-same l zero v h = absurd (omega arith)
 renew-same l (suc i) v h = set-same l i v h
 
@@ -149,10 +149,10 @@ new-at [] i d lt = absurd (omega arith)
 new-at (c ∷ l) zero d lt = refl
 new-at (c ∷ l) (suc i) d lt = new-at l i d (omega arith)
 
-new-bare : (l : List Circuit) (i : ℕ) → Bare (getD (map newRoom l) i noRoom .slots)
-new-bare [] i = end
-new-bare (c ∷ l) zero = empty-bare (c .kind)
-new-bare (c ∷ l) (suc i) = new-bare l i
+new-no-records : (l : List Circuit) (i : ℕ) → NoRecords (getD (map newRoom l) i noRoom .slots)
+new-no-records [] i = end
+new-no-records (c ∷ l) zero = empty-no-records (c .kind)
+new-no-records (c ∷ l) (suc i) = new-no-records l i
 
 module _ (s : Settings) (ok : settingsOk s ≡ true) where
   circuits-ok : every circuitOk (circuitsOf s) ≡ true
@@ -172,7 +172,7 @@ module _ (s : Settings) (ok : settingsOk s ≡ true) where
       (λ a. absurd (let z : _≡_ {A = ℕ} 0 1 = cc in omega arith))
 
   new-places : (i : ℕ) → i < length (circuitsOf s)
-      → places (getD (map newRoom (s .circuits)) i noRoom .slots) ≡ roomFor (getD (circuitsOf s) i (noCircuit) .kind)
+      → openPlaces (getD (map newRoom (s .circuits)) i noRoom .slots) ≡ roomFor (getD (circuitsOf s) i (noCircuit) .kind)
   new-places i lt =
       let below : (i < s .count) × (i < length (s .circuits)) = (omega (arith, length-take (s .count) (s .circuits)), omega (arith, length-take (s .count) (s .circuits))) in
       rw (new-at (s .circuits) i (noCircuit) (below .1), getD-take (s .count) (s .circuits) i (noCircuit) (below .0))
@@ -180,12 +180,12 @@ module _ (s : Settings) (ok : settingsOk s ≡ true) where
 
   new-room : (n : ℕ) → RoomOk (circuitOf (setupCommon s) n) (s .clock) (numbered (map newRoom (s .circuits)) n noRoom .slots)
   unfolding circuitOf setupCommon numbered
-  new-room zero = bare-ok [] end Unknown (s .clock) (none-of end)
+  new-room zero = no-records-ok [] end Unknown (s .clock) (none-of end)
   new-room (suc i) =
-      let b = new-bare (s .circuits) i in
+      let b = new-no-records (s .circuits) i in
       by-test (ltb i (length (circuitsOf s)))
-      (λ a. rw a (bare-ok _ b (Known (getD (circuitsOf s) i (noCircuit))) (s .clock) (places-of (new-places i (ltb-true _ _ a)))))
-      (λ a. rw a (bare-ok _ b Unknown (s .clock) (none-of b)))
+      (λ a. rw a (no-records-ok _ b (Known (getD (circuitsOf s) i (noCircuit))) (s .clock) (places-of (new-places i (ltb-true _ _ a)))))
+      (λ a. rw a (no-records-ok _ b Unknown (s .clock) (none-of b)))
 
   pub new-holds : Holds (newGateway s)
   unfolding newGateway setupCommon

@@ -31,7 +31,7 @@ use Rattle.model.specs.Gateway.{Gateway, roomOf, recordAt}
 use Rattle.model.specs.Receive.{receive}
 use Rattle.model.specs.Step.{Call, At, Over, Receive, Tick, act, lift, on, noneOf, tickOf, judge, carry, step}
 use Rattle.invariants.specs.Invariants.{after, Octets, AllFit, none, more, Each, records, roomFor, TrueTime, TrueReplies, AboveClock, TickSweeps, Bounded, Invariant, Invariants}
-use Rattle.invariants.proofs.RoomLaws.{each-sweep, bare-each, bare-records, places, records-places}
+use Rattle.invariants.proofs.RoomLaws.{each-sweep, no-records-each, no-records-records, openPlaces, records-places}
 use Rattle.invariants.proofs.GatewayLaws.{Size, places-of, none-of, RoomOk, Holds, renew-same, swept-at, setup-holds}
 use Rattle.invariants.proofs.ReceiveLaws.{ActOk, receive-ok, receive-reply}
 use Rattle.invariants.proofs.StepLaws.{step-holds}
@@ -42,16 +42,16 @@ known-records : (s : Circuit) (t : List Slot) → Size (Known s) t → records t
 known-records s t (places-of e) = omega (arith, records-places t)
 
 unknown-records : (t : List Slot) → Size Unknown t → records t ≡ 0
-unknown-records t (none-of b) = bare-records t b
+unknown-records t (none-of b) = no-records-records t b
 
 unknown-each : {P : State → Type 0} (t : List Slot) → Size Unknown t → Each P t
-unknown-each t (none-of b) = bare-each t b
+unknown-each t (none-of b) = no-records-each t b
 
 room-for : (kind : CircuitKind) → 0 < roomFor kind
 room-for Lan = omega arith
 room-for P2p = omega arith
 
-known-places : (s : Circuit) (t : List Slot) → Size (Known s) t → 0 < places t
+known-places : (s : Circuit) (t : List Slot) → Size (Known s) t → 0 < openPlaces t
 known-places s t (places-of e) = rw e (room-for (s .kind))
 
 none-length : (l : List Circuit) → noneOf l ≡ true → length l ≡ 0

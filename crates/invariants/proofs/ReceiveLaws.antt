@@ -18,7 +18,8 @@ use Rattle.hello.specs.declared.read.Read.{Read}
 use Rattle.hello.specs.declared.read.Read.the-variants.{Refused as RefusedRead, Accepted as ReadAs}
 use Rattle.basics.specs.declared.refusal.Refusal.{Refusal}
 use Rattle.adjacency.specs.Step.{wrongSource}
-use Rattle.adjacency.specs.React.{timeIn, reactOf}
+use Rattle.adjacency.specs.Marks.{timeIn}
+use Rattle.adjacency.specs.React.{reactOf}
 use Rattle.adjacency.specs.declared.marks.Acknowledgement.{Acknowledgement}
 use Rattle.adjacency.specs.declared.marks.Acknowledgement.the-variants.{Send}
 use Rattle.adjacency.specs.declared.marks.Line.{Line}
@@ -44,7 +45,7 @@ use Rattle.invariants.specs.Invariants.{Quiet, Tells, Octets}
 use Rattle.invariants.proofs.QuietLaws.{settled-quiet, heardIn-mode}
 use Rattle.invariants.proofs.RoomLaws.{each-find}
 use Rattle.invariants.proofs.ReactLaws.{SpanIn, Replies, Fair, refused as unfair, accepted as fair, react-fair}
-use Rattle.invariants.proofs.HelloBounds.{Brief, refused as unread, accepted as brief, brief-read}
+use Rattle.invariants.proofs.HelloBounds.{Brief, refused as refused-read, accepted as brief, brief-read}
 use Rattle.invariants.proofs.GatewayLaws.{RoomOk, room-put}
 
 -- ---- what a call on a circuit leaves
@@ -129,10 +130,10 @@ module _ (c : Common) (s : Circuit) (r : Room) (hold : s .hold ≤ 65535) (ok : 
           room = kept-ok k after free span;
         }
 
-    settle-ok : (a : Reaction) → Sound (c .clock) k (r .slots) a → ActOk c s (reacted n s h k b a c r)
+    reacted-ok : (a : Reaction) → Sound (c .clock) k (r .slots) a → ActOk c s (reacted n s h k b a c r)
     unfolding reacted
-    settle-ok (RefusedReaction x) refused = refuse-ok b x
-    settle-ok (Accepted after reply line) (sound free span told gone) = accepted-ok after reply line free span
+    reacted-ok (RefusedReaction x) refused = refuse-ok b x
+    reacted-ok (Accepted after reply line) (sound free span told gone) = accepted-ok after reply line free span
 
   module _ (n mac : ℕ) (b : List ℕ) where
     checked-ok : (h : Hello) → h .hold ≤ 65535 → timeIn (h .restart) ≤ 65535 → ActOk c s (checked n s mac b h c r)
@@ -140,11 +141,11 @@ module _ (c : Common) (s : Circuit) (r : Room) (hold : s .hold ≤ 65535) (ok : 
     checked-ok h p q =
         let k = keyIn (s .kind) mac h in
         by-test (wrongSource (s .levels) (c .system) h) (λ e. rw e (refuse-ok b _))
-        (λ e. rw e (settle-ok n h k b (decided (hereOf c s) k h (r .slots)) (decided-sound k h p q)))
+        (λ e. rw e (reacted-ok n h k b (decided (hereOf c s) k h (r .slots)) (decided-sound k h p q)))
 
     read-ok : (x : Read) → Brief x → ActOk c s (readIn n s mac b x c r)
     unfolding readIn
-    read-ok (RefusedRead x) unread = refuse-ok b x
+    read-ok (RefusedRead x) refused-read = refuse-ok b x
     read-ok (ReadAs h) (brief p q) = checked-ok h p q
 
     pub receive-ok : (frame : List ℕ) → Octets frame → ActOk c s (receive n s mac frame b c r)
@@ -178,10 +179,10 @@ module _ (c : Common) (s : Circuit) (r : Room) (hold : s .hold ≤ 65535) (ok : 
               record { octets = rw w (written-time (h .system) ack time b (z .0)); fits = z .0; tells = rw found (z .1) };
         }
 
-    settle-reply : (a : Reaction) → Sound (c .clock) k (r .slots) a → ReplyOk (c .clock) k (reacted n s h k b a c r)
+    reacted-reply : (a : Reaction) → Sound (c .clock) k (r .slots) a → ReplyOk (c .clock) k (reacted n s h k b a c r)
     unfolding reacted
-    settle-reply (RefusedReaction x) refused = refuse-reply k b x
-    settle-reply (Accepted after reply line) (sound free span told gone) =
+    reacted-reply (RefusedReaction x) refused = refuse-reply k b x
+    reacted-reply (Accepted after reply line) (sound free span told gone) =
         accepted-reply after reply line told (kept-found k after free gone)
 
   module _ (n mac : ℕ) (b : List ℕ) where
@@ -190,11 +191,11 @@ module _ (c : Common) (s : Circuit) (r : Room) (hold : s .hold ≤ 65535) (ok : 
     checked-reply h p q =
         let k = keyIn (s .kind) mac h in
         by-test (wrongSource (s .levels) (c .system) h) (λ e. rw e (refuse-reply k b _))
-        (λ e. rw e (settle-reply n h k b (decided (hereOf c s) k h (r .slots)) (decided-sound k h p q)))
+        (λ e. rw e (reacted-reply n h k b (decided (hereOf c s) k h (r .slots)) (decided-sound k h p q)))
 
     read-reply : (h : Hello) (x : Read) → x ≡ ReadAs h → Brief x → ReplyOk (c .clock) (keyIn (s .kind) mac h) (readIn n s mac b x c r)
     unfolding readIn
-    read-reply h (RefusedRead x) e unread = absurd (let z : _≡_ {A = ℕ} 0 1 = cc in omega arith)
+    read-reply h (RefusedRead x) e refused-read = absurd (let z : _≡_ {A = ℕ} 0 1 = cc in omega arith)
     read-reply h (ReadAs j) e (brief p q) = let z : j ≡ h = cc in rw (← z) (checked-reply j p q)
 
     pub receive-reply : (h : Hello) (frame : List ℕ) → Octets frame → helloRead (s .kind) (s .mac) frame ≡ ReadAs h

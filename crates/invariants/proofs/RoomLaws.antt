@@ -1,4 +1,4 @@
--- What a record put into a room and a sweep of a room keep: a property of each record, the number of places, and one record to a key.
+-- What a record put into a room and a sweep of a room keep: a property of each record, the number of openPlaces, and one record to a key.
 use Prim.Native.Nat.{ℕ, zero, suc, _≤_}
 use native.Mathlib.Omega.{arith}
 use mathlib.Core.Path.{_≡_, refl, ap}
@@ -73,84 +73,84 @@ each-find k s (Closed ∷ t) (closed h) e = each-find k s t h e
 
 -- ---- no record
 
-abbrev pub Bare : List Slot → Type 0
-Bare t = Each (λ s. ⊥) t
+abbrev pub NoRecords : List Slot → Type 0
+NoRecords t = Each (λ s. ⊥) t
 
-pub bare-each : {P : State → Type 0} (t : List Slot) → Bare t → Each P t
-bare-each t e = each-map (λ s x. absurd x) t e
+pub no-records-each : {P : State → Type 0} (t : List Slot) → NoRecords t → Each P t
+no-records-each t e = each-map (λ s x. absurd x) t e
 
-pub bare-records : (t : List Slot) → Bare t → records t ≡ 0
+pub no-records-records : (t : List Slot) → NoRecords t → records t ≡ 0
 unfolding records
-bare-records [] end = refl
-bare-records (Free ∷ t) (free e) = bare-records t e
-bare-records (Held r ∷ t) (held q e) = absurd q
-bare-records (Closed ∷ t) (closed e) = bare-records t e
+no-records-records [] end = refl
+no-records-records (Free ∷ t) (free e) = no-records-records t e
+no-records-records (Held r ∷ t) (held q e) = absurd q
+no-records-records (Closed ∷ t) (closed e) = no-records-records t e
 
-pub bare-gather : (k : Key) (t : List Slot) → Bare t → gather k t ≡ []
+pub no-records-gather : (k : Key) (t : List Slot) → NoRecords t → gather k t ≡ []
 unfolding gather
-bare-gather k [] end = refl
-bare-gather k (Free ∷ t) (free e) = bare-gather k t e
-bare-gather k (Held r ∷ t) (held q e) = absurd q
-bare-gather k (Closed ∷ t) (closed e) = bare-gather k t e
+no-records-gather k [] end = refl
+no-records-gather k (Free ∷ t) (free e) = no-records-gather k t e
+no-records-gather k (Held r ∷ t) (held q e) = absurd q
+no-records-gather k (Closed ∷ t) (closed e) = no-records-gather k t e
 
-bare-tabulate : (f : ℕ → Slot) → ((i : ℕ) → isHeld (f i) ≡ false) → (n : ℕ) → Bare (tabulate f n)
-bare-tabulate f h zero = end
-bare-tabulate f h (suc n) = by (f zero) (h zero) (bare-tabulate (λ i. f (suc i)) (λ i. h (suc i)) n)
+no-records-tabulate : (f : ℕ → Slot) → ((i : ℕ) → isHeld (f i) ≡ false) → (n : ℕ) → NoRecords (tabulate f n)
+no-records-tabulate f h zero = end
+no-records-tabulate f h (suc n) = by (f zero) (h zero) (no-records-tabulate (λ i. f (suc i)) (λ i. h (suc i)) n)
   where
-    by : (s : Slot) → isHeld s ≡ false → {t : List Slot} → Bare t → Bare (s ∷ t)
+    by : (s : Slot) → isHeld s ≡ false → {t : List Slot} → NoRecords t → NoRecords (s ∷ t)
     by Free e b = free b
     by (Held r) e b = absurd (let z : _≡_ {A = ℕ} 0 1 = cc in omega arith)
     by Closed e b = closed b
 
-place-bare : (kind : CircuitKind) (i : ℕ) → isHeld (emptyPlace kind i) ≡ false
-place-bare Lan i = refl
-place-bare P2p i = by-test (eqb i 0) (λ a. rw a refl) (λ a. rw a refl)
+place-no-records : (kind : CircuitKind) (i : ℕ) → isHeld (emptyPlace kind i) ≡ false
+place-no-records Lan i = refl
+place-no-records P2p i = by-test (eqb i 0) (λ a. rw a refl) (λ a. rw a refl)
 
-pub empty-bare : (kind : CircuitKind) → Bare (emptyRoom kind)
+pub empty-no-records : (kind : CircuitKind) → NoRecords (emptyRoom kind)
 unfolding emptyRoom
-empty-bare kind = bare-tabulate (emptyPlace kind) (place-bare kind) 16
+empty-no-records kind = no-records-tabulate (emptyPlace kind) (place-no-records kind) 16
 
--- ---- the places that are not closed
+-- ---- the openPlaces that are not closed
 
-unfoldable pub places : List Slot → ℕ
-places [] = 0
-places (Free ∷ t) = suc (places t)
-places (Held r ∷ t) = suc (places t)
-places (Closed ∷ t) = places t
+unfoldable pub openPlaces : List Slot → ℕ
+openPlaces [] = 0
+openPlaces (Free ∷ t) = suc (openPlaces t)
+openPlaces (Held r ∷ t) = suc (openPlaces t)
+openPlaces (Closed ∷ t) = openPlaces t
 
-pub records-places : (t : List Slot) → records t ≤ places t
-unfolding records places
+pub records-places : (t : List Slot) → records t ≤ openPlaces t
+unfolding records openPlaces
 records-places [] = omega arith
 records-places (Free ∷ t) = omega (arith, records-places t)
 records-places (Held r ∷ t) = omega (arith, records-places t)
 records-places (Closed ∷ t) = records-places t
 
-pub empty-places : (kind : CircuitKind) → places (emptyRoom kind) ≡ roomFor kind
-unfolding emptyRoom places
+pub empty-places : (kind : CircuitKind) → openPlaces (emptyRoom kind) ≡ roomFor kind
+unfolding emptyRoom openPlaces
 empty-places Lan = refl
 empty-places P2p = refl
 
 module _ (k : Key) (v : State) where
-  places-replace : (t : List Slot) → places (replace k v t) ≡ places t
-  unfolding places replace
+  places-replace : (t : List Slot) → openPlaces (replace k v t) ≡ openPlaces t
+  unfolding openPlaces replace
   places-replace [] = refl
   places-replace (Free ∷ t) = ap suc (places-replace t)
   places-replace (Held r ∷ t) = let z = places-replace t in by-test (sameKey k (r .key)) (λ a. cc) (λ a. cc)
   places-replace (Closed ∷ t) = places-replace t
 
-  places-insert : (t : List Slot) → places (insert k v t) ≡ places t
-  unfolding places insert
+  places-insert : (t : List Slot) → openPlaces (insert k v t) ≡ openPlaces t
+  unfolding openPlaces insert
   places-insert [] = refl
   places-insert (Free ∷ t) = refl
   places-insert (Held r ∷ t) = ap suc (places-insert t)
   places-insert (Closed ∷ t) = places-insert t
 
-  pub places-put : (t : List Slot) → places (put k v t) ≡ places t
+  pub places-put : (t : List Slot) → openPlaces (put k v t) ≡ openPlaces t
   unfolding put
   places-put t = by-test (has k t) (λ a. rw a (places-replace t)) (λ a. rw a (places-insert t))
 
-pub places-sweep : (p : State → Bool) (t : List Slot) → places (sweep p t) ≡ places t
-unfolding places sweep
+pub places-sweep : (p : State → Bool) (t : List Slot) → openPlaces (sweep p t) ≡ openPlaces t
+unfolding openPlaces sweep
 places-sweep p [] = refl
 places-sweep p (Free ∷ t) = ap suc (places-sweep p t)
 places-sweep p (Held r ∷ t) = let z = places-sweep p t in by-test (p (r .state)) (λ a. cc) (λ a. cc)

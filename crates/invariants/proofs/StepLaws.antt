@@ -100,7 +100,7 @@ module _ (g : Gateway) (h : Holds g) where
 -- ---- a call that names no circuit
 
 data JudgedOk (c : Common) : Judged → Type 0 where
-  decline : {x : Refusal} → JudgedOk c (RefusedCall x)
+  refusing : {x : Refusal} → JudgedOk c (RefusedCall x)
   sweep : {clock : ℕ} {d : Common} {hellos : List Bool} {o : TimerOutcome} → c .clock ≤ clock → Keeps (withClock clock c) d
       → JudgedOk c (Sweep clock d hellos o)
   tell : {d : Common} {a : Answer} → Keeps c d → JudgedOk c (Tell d a)
@@ -110,7 +110,7 @@ module _ (c : Common) where
   unfolding tickOf
   tick-ok clock =
       by-test (noneOf (c .circuits)) (λ e. rw e (tell (keeps-same c)))
-      (λ e. by-test (ltb clock (c .clock)) (λ b. rw (e, b) decline)
+      (λ e. by-test (ltb clock (c .clock)) (λ b. rw (e, b) refusing)
       (λ b. rw (e, b) (sweep (ltb-false _ _ b) (keeps-settled (withClock clock c) (toT3 (c .lengths) clock) (toT3-mode (c .lengths) clock (c .timers))))))
 
   judged-mode : (b : Bool) (x y : Judged) → JudgedOk c x → JudgedOk c y → JudgedOk c (cond b x y)
@@ -122,8 +122,8 @@ module _ (c : Common) where
   database-ok level =
       by-test (hasLevel (enabledLevels (c .circuits)) level)
       (λ e. rw e (judged-mode (isRestarting (c .timers .mode)) _ _
-      (tell (keeps-settled c (noticeT2s (onlyLevel level)) (noticeT2s-mode (onlyLevel level) (c .timers)))) decline))
-      (λ e. rw e decline)
+      (tell (keeps-settled c (noticeT2s (onlyLevel level)) (noticeT2s-mode (onlyLevel level) (c .timers)))) refusing))
+      (λ e. rw e refusing)
 
   judge-ok : (w : Global) → JudgedOk c (judge c w)
   unfolding judge
@@ -140,7 +140,7 @@ left-span old clock le s e q =
 module _ (g : Gateway) (h : Holds g) where
   carry-holds : (j : Judged) → JudgedOk (g .common) j → Holds (carry g j .next)
   unfolding carry
-  carry-holds (RefusedCall x) decline = h
+  carry-holds (RefusedCall x) refusing = h
   carry-holds (Sweep clock d hellos o) (sweep le k) =
       record {
         quiet = k .quiet (h .quiet);

@@ -6,9 +6,8 @@ use mathlib.Core.List.{List, [], _∷_}
 use lib.ListN.{length, set}
 use Rattle.basics.proofs.BitLaws.{bit-le}
 use Rattle.timer_parts.specs.declared.t1.T1.{T1}
-use Rattle.basics.specs.Mask.{bits}
 use Rattle.timers.specs.Timers.{countRuns}
-use Rattle.timers.specs.Memory.{timersOf}
+use Rattle.timers.specs.Memory.{timersOf, t1Bits}
 use Rattle.timers.proofs.T1sLaws.{length-joined}
 use Rattle.control.specs.Words.{commonOf}
 use Rattle.model.specs.Answers.{Answer, waitingOf}
@@ -41,7 +40,7 @@ countRuns-le (t ∷ l) = omega (arith, bit-le (t .runs), countRuns-le l)
 
 t1s-length : (ws : List ℕ) → length (gatewayOf ws .common .timers .t1s) ≡ 8
 unfolding gatewayOf commonOf timersOf
-t1s-length ws = length-joined (bits _) _ ∙ length-bits _
+t1s-length ws = length-joined (t1Bits _) _ ∙ length-bits _
 
 pub waiting-le : {w : Waiting} {ws : List ℕ} → Meets (waitingOf w) (step (gatewayOf ws) (Over WaitingCall)) ws ws [] → w .count ≤ 8
 unfolding step judge carry

@@ -56,6 +56,7 @@ pub extern "C" fn isis_gr_raw_set_up(
     set_up_word(SetUp::Refused(Refusal::BadSetting))
 }
 
+// A hello frame from a source MAC.
 #[no_mangle]
 pub extern "C" fn isis_gr_raw_receive(
     gateway: &mut [u64; GATEWAY_WORDS],
@@ -69,6 +70,7 @@ pub extern "C" fn isis_gr_raw_receive(
     received_word(receive(gateway, circuit, source, frame, reply))
 }
 
+// The clock.
 #[no_mangle]
 pub extern "C" fn isis_gr_raw_tick(gateway: &mut [u64; GATEWAY_WORDS], clock: u32) -> u64
     ensures { λ r. ⌜ Encodes r (step (gatewayOf (now (gateway .entry))) (Over (Tick clock))) (now (gateway .entry)) (now (gateway .exit)) [] ⌝ }
@@ -76,6 +78,7 @@ pub extern "C" fn isis_gr_raw_tick(gateway: &mut [u64; GATEWAY_WORDS], clock: u3
     ticked_word(tick(gateway, clock))
 }
 
+// A circuit's Planned records go.
 #[no_mangle]
 pub extern "C" fn isis_gr_raw_release(gateway: &mut [u64; GATEWAY_WORDS], circuit: u8) -> u32
     ensures { λ r. ⌜ Encodes r (step (gatewayOf (now (gateway .entry))) (At circuit Release)) (now (gateway .entry)) (now (gateway .exit)) [] ⌝ }
@@ -83,6 +86,7 @@ pub extern "C" fn isis_gr_raw_release(gateway: &mut [u64; GATEWAY_WORDS], circui
     released_word(release(gateway, circuit))
 }
 
+// The CSNP set of a level is complete on a circuit.
 #[no_mangle]
 pub extern "C" fn isis_gr_raw_csnp_complete(
     gateway: &mut [u64; GATEWAY_WORDS],
@@ -94,6 +98,7 @@ pub extern "C" fn isis_gr_raw_csnp_complete(
     noticed_word(csnp_complete(gateway, circuit, level))
 }
 
+// The database of a level is complete.
 #[no_mangle]
 pub extern "C" fn isis_gr_raw_database_complete(
     gateway: &mut [u64; GATEWAY_WORDS],
@@ -121,6 +126,7 @@ pub extern "C" fn isis_gr_raw_look_up(
     looked_word(a)
 }
 
+// The metric of a circuit's link.
 #[no_mangle]
 pub extern "C" fn isis_gr_raw_link_metric(gateway: &[u64; GATEWAY_WORDS], circuit: u8) -> u64
     ensures { λ r. ⌜ Encodes r (step (gatewayOf (now (gateway .entry))) (At circuit LinkMetric)) (now (gateway .entry)) (now (gateway .entry)) [] ⌝ }
@@ -128,6 +134,7 @@ pub extern "C" fn isis_gr_raw_link_metric(gateway: &[u64; GATEWAY_WORDS], circui
     metric_word(link_metric(gateway, circuit))
 }
 
+// The flags of the next hello on a circuit.
 #[no_mangle]
 pub extern "C" fn isis_gr_raw_next_hello_flags(gateway: &[u64; GATEWAY_WORDS], circuit: u8) -> u32
     ensures { λ r. ⌜ Encodes r (step (gatewayOf (now (gateway .entry))) (At circuit NextHello)) (now (gateway .entry)) (now (gateway .entry)) [] ⌝ }

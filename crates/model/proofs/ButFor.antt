@@ -50,27 +50,27 @@ use Rattle.model.specs.Claim.{Neighbour, isSent, isNine, unordered, comp
 pub record ButFor (m : ℕ) (t₁ t₂ : List Slot) : Type 0 where
   pub at : (k : Key) → k .mac ≢ m → gather k t₁ ≡ gather k t₂
 
-pub beside-refl : (m : ℕ) (t : List Slot) → ButFor m t t
-beside-refl m t = record { at = λ k h. refl }
+pub but-for-refl : (m : ℕ) (t : List Slot) → ButFor m t t
+but-for-refl m t = record { at = λ k h. refl }
 
-pub beside-sym : {m : ℕ} {t₁ t₂ : List Slot} → ButFor m t₁ t₂ → ButFor m t₂ t₁
-beside-sym b = record { at = λ k h. sym (b .at k h) }
+pub but-for-sym : {m : ℕ} {t₁ t₂ : List Slot} → ButFor m t₁ t₂ → ButFor m t₂ t₁
+but-for-sym b = record { at = λ k h. sym (b .at k h) }
 
-pub beside-trans : {m : ℕ} {t₁ t₂ t₃ : List Slot} → ButFor m t₁ t₂ → ButFor m t₂ t₃ → ButFor m t₁ t₃
-beside-trans b c = record { at = λ k h. b .at k h ∙ c .at k h }
+pub but-for-trans : {m : ℕ} {t₁ t₂ t₃ : List Slot} → ButFor m t₁ t₂ → ButFor m t₂ t₃ → ButFor m t₁ t₃
+but-for-trans b c = record { at = λ k h. b .at k h ∙ c .at k h }
 
-pub beside-find : {m : ℕ} {t₁ t₂ : List Slot} → ButFor m t₁ t₂ → (k : Key) → k .mac ≢ m → find k t₁ ≡ find k t₂
-beside-find {t₁} {t₂} b k h = cc (find-is k t₁, find-is k t₂, b .at k h)
+pub but-for-find : {m : ℕ} {t₁ t₂ : List Slot} → ButFor m t₁ t₂ → (k : Key) → k .mac ≢ m → find k t₁ ≡ find k t₂
+but-for-find {t₁} {t₂} b k h = cc (find-is k t₁, find-is k t₂, b .at k h)
 
-pub beside-sweep : {m : ℕ} {t₁ t₂ : List Slot} (p : State → Bool) → ButFor m t₁ t₂ → ButFor m (sweep p t₁) (sweep p t₂)
-beside-sweep {t₁} {t₂} p b = record { at = λ k h. cc (gather-sweep p k t₁, gather-sweep p k t₂, b .at k h) }
+pub but-for-sweep : {m : ℕ} {t₁ t₂ : List Slot} (p : State → Bool) → ButFor m t₁ t₂ → ButFor m (sweep p t₁) (sweep p t₂)
+but-for-sweep {t₁} {t₂} p b = record { at = λ k h. cc (gather-sweep p k t₁, gather-sweep p k t₂, b .at k h) }
 
 -- the same record is kept in both
-beside-kept : {m : ℕ} {t₁ t₂ : List Slot} (k : Key) (a : Adjacency) → crowded k t₁ ≡ false → crowded k t₂ ≡ false → ButFor m t₁ t₂
+but-for-kept : {m : ℕ} {t₁ t₂ : List Slot} (k : Key) (a : Adjacency) → crowded k t₁ ≡ false → crowded k t₂ ≡ false → ButFor m t₁ t₂
     → ButFor m (kept k a t₁) (kept k a t₂)
 unfolding kept
-beside-kept k Absent e₁ e₂ b = b
-beside-kept {t₁} {t₂} k (Present s) e₁ e₂ b =
+but-for-kept k Absent e₁ e₂ b = b
+but-for-kept {t₁} {t₂} k (Present s) e₁ e₂ b =
     record {
       at = λ j h.
           let p = b .at j h in
@@ -78,11 +78,11 @@ beside-kept {t₁} {t₂} k (Present s) e₁ e₂ b =
           (λ e. cc (gather-put-other j k s t₁ e, gather-put-other j k s t₂ e));
     }
 
--- a record of the MAC m is kept: nothing is changed beside it
-kept-beside : {m : ℕ} (k : Key) (a : Adjacency) (t : List Slot) → k .mac ≡ m → ButFor m (kept k a t) t
+-- a record of the MAC m is kept: nothing else is changed
+kept-but-for : {m : ℕ} (k : Key) (a : Adjacency) (t : List Slot) → k .mac ≡ m → ButFor m (kept k a t) t
 unfolding kept
-kept-beside {m} k Absent t e = beside-refl m t
-kept-beside k (Present s) t e =
+kept-but-for {m} k Absent t e = but-for-refl m t
+kept-but-for k (Present s) t e =
     record { at = λ j h. gather-put-other j k s t (by-test (sameKey j k) (λ q. absurd (h (sameKey-mac j k q ∙ e))) (λ q. q)) }
 
 -- what two calls on the circuit must have in common
@@ -99,26 +99,26 @@ key-mac s mac h lan = rw (lan, keyOn)
 -- ---- the bad neighbour's frame, in one run
 
 module _ (n : ℕ) (s : Circuit) (mac : ℕ) (lan : s .kind ≡ Lan) (buf : List ℕ) (c : Common) (r : Room) where
-  settle-its : (h : Hello) (k : Key) (a : Reaction) → k .mac ≡ mac → ButFor mac (reacted n s h k buf a c r .room .slots) (r .slots)
+  reacted-its : (h : Hello) (k : Key) (a : Reaction) → k .mac ≡ mac → ButFor mac (reacted n s h k buf a c r .room .slots) (r .slots)
   unfolding reacted refuse accepted
-  settle-its h k (RefusedReaction x) e = beside-refl mac (r .slots)
-  settle-its h k (Accepted after reply line) e = kept-beside k after (r .slots) e
+  reacted-its h k (RefusedReaction x) e = but-for-refl mac (r .slots)
+  reacted-its h k (Accepted after reply line) e = kept-but-for k after (r .slots) e
 
   checked-its : (h : Hello) → ButFor mac (checked n s mac buf h c r .room .slots) (r .slots)
   unfolding checked decidedIn refuse
   checked-its h =
-      by-test (wrongSource (s .levels) (c .system) h) (λ e. rw e (beside-refl mac (r .slots)))
-      (λ e. rw e (settle-its h _ _ (key-mac s mac h lan)))
+      by-test (wrongSource (s .levels) (c .system) h) (λ e. rw e (but-for-refl mac (r .slots)))
+      (λ e. rw e (reacted-its h _ _ (key-mac s mac h lan)))
 
   read-its : (d : Read) → ButFor mac (readIn n s mac buf d c r .room .slots) (r .slots)
   unfolding readIn refuse
-  read-its (RefusedRead x) = beside-refl mac (r .slots)
+  read-its (RefusedRead x) = but-for-refl mac (r .slots)
   read-its (ReadAs h) = checked-its h
 
   receive-its : (frame : List ℕ) → ButFor mac (receive n s mac frame buf c r .room .slots) (r .slots)
   unfolding receive refuse
   receive-its frame =
-      by-test (ltb (length buf) 11) (λ e. rw e (beside-refl mac (r .slots)))
+      by-test (ltb (length buf) 11) (λ e. rw e (but-for-refl mac (r .slots)))
       (λ e. rw e (read-its (helloRead (s .kind) (s .mac) frame)))
 
 pub act-its : (b : Neighbour) (n : ℕ) (s : Circuit) (l : Local) (c : Common) (r : Room) → s .kind ≡ Lan → isSent b l ≡ true
@@ -151,13 +151,13 @@ module _ (b : Neighbour) (n : ℕ) (s : Circuit) (mac : ℕ) (frame buf : List �
       → crowded k (r₁ .slots) ≡ false → crowded k (r₂ .slots) ≡ false
       → Both (accepted n s h k buf after reply line c r₁) (accepted n s h k buf after reply line c r₂)
   unfolding accepted comparedThere unordered
-  both-accepted h k after reply line e₁ e₂ h₁ h₂ = record { room = beside-kept k after e₁ e₂ near; answer = refl; reply = refl }
+  both-accepted h k after reply line e₁ e₂ h₁ h₂ = record { room = but-for-kept k after e₁ e₂ near; answer = refl; reply = refl }
 
-  settle-both : (h : Hello) (k : Key) (a : Reaction)
+  reacted-both : (h : Hello) (k : Key) (a : Reaction)
       → Both (reacted n s h k buf (ifRoom (crowded k (r₁ .slots)) a) c r₁) (reacted n s h k buf (ifRoom (crowded k (r₂ .slots)) a) c r₂)
   unfolding reacted ifRoom
-  settle-both h k (RefusedReaction x) = both-refuse x
-  settle-both h k (Accepted after reply line) =
+  reacted-both h k (RefusedReaction x) = both-refuse x
+  reacted-both h k (Accepted after reply line) =
       by-test (crowded k (r₁ .slots)) (λ e₁. rw e₁ (λ h₁ h₂. absurd (not-nine buf c r₁ h₁)))
       (λ e₁.
       by-test (crowded k (r₂ .slots)) (λ e₂. rw e₂ (λ h₁ h₂. absurd (not-nine buf c r₂ h₂)))
@@ -167,7 +167,7 @@ module _ (b : Neighbour) (n : ℕ) (s : Circuit) (mac : ℕ) (frame buf : List �
   unfolding decidedIn decided
   decided-both lan other h =
       let k : Key = keyIn (s .kind) mac h in
-      rw (beside-find near k (λ e. other (sym (key-mac s mac h lan) ∙ e))) (settle-both h k (reactOf (hereOf c s) h (find k (r₂ .slots))))
+      rw (but-for-find near k (λ e. other (sym (key-mac s mac h lan) ∙ e))) (reacted-both h k (reactOf (hereOf c s) h (find k (r₂ .slots))))
 
   read-both : s .kind ≡ Lan → mac ≢ b .mac → (d : Read) → Both (readIn n s mac buf d c r₁) (readIn n s mac buf d c r₂)
   unfolding readIn checked
@@ -196,7 +196,7 @@ look-both b s k c r₁ r₂ lan near =
     rw (e, lan)
     (record {
       room = near;
-      answer = by-test (eqb (k .mac) (b .mac)) (λ q. cc) (λ q. cc (beside-find near k (eqb-false _ _ q)));
+      answer = by-test (eqb (k .mac) (b .mac)) (λ q. cc) (λ q. cc (but-for-find near k (eqb-false _ _ q)));
       reply = refl;
     }))
     (λ e. rw e (record { room = near; answer = refl; reply = refl }))
@@ -207,7 +207,7 @@ pub act-both : (b : Neighbour) (n : ℕ) (s : Circuit) (l : Local) (c : Common) 
 unfolding act isSent comparedThere refuse linkMetricOf nextHello
 act-both b n s (Receive mac frame buf) c r₁ r₂ run lan e near h₁ h₂ =
     receive-both b n s mac frame buf c r₁ r₂ near lan (eqb-false _ _ e) h₁ h₂
-act-both b n s Release c r₁ r₂ run lan e near h₁ h₂ = record { room = beside-sweep plannedState near; answer = refl; reply = refl }
+act-both b n s Release c r₁ r₂ run lan e near h₁ h₂ = record { room = but-for-sweep plannedState near; answer = refl; reply = refl }
 act-both b n s (CsnpComplete level) c r₁ r₂ run lan e near h₁ h₂ =
     rw (csnp-refused n s level c r₁ run, csnp-refused n s level c r₂ run) (record { room = near; answer = refl; reply = refl })
 act-both b n s (LookUp k) c r₁ r₂ run lan e near h₁ h₂ = look-both b s k c r₁ r₂ lan near
@@ -217,17 +217,17 @@ act-both b n s NextHello c r₁ r₂ run lan e near h₁ h₂ = record { room = 
 -- ---- the common part, in the mode Running
 
 module _ (n : ℕ) (s : Circuit) (c : Common) (r : Room) (run : c .timers .mode ≡ Running) where
-  settle-common : (h : Hello) (k : Key) (buf : List ℕ) (a : Reaction) → reacted n s h k buf a c r .common ≡ c
+  reacted-common : (h : Hello) (k : Key) (buf : List ℕ) (a : Reaction) → reacted n s h k buf a c r .common ≡ c
   unfolding reacted refuse accepted
-  settle-common h k buf (RefusedReaction x) = refl
-  settle-common h k buf (Accepted after reply line) =
+  reacted-common h k buf (RefusedReaction x) = refl
+  reacted-common h k buf (Accepted after reply line) =
       ap (λ (t : Timers). withTimers t c) (heard-running (c .timers) run (c .clock) (n - 1) (s .levels) (saidOf c s h) .0)
 
   read-common : (mac : ℕ) (buf : List ℕ) (d : Read) → readIn n s mac buf d c r .common ≡ c
   unfolding readIn checked decidedIn refuse
   read-common mac buf (RefusedRead x) = refl
   read-common mac buf (ReadAs h) =
-      by-test (wrongSource (s .levels) (c .system) h) (λ e. rw e) (λ e. rw e (settle-common h _ buf _))
+      by-test (wrongSource (s .levels) (c .system) h) (λ e. rw e) (λ e. rw e (reacted-common h _ buf _))
 
   pub act-common : (l : Local) → act n s l c r .common ≡ c
   unfolding act receive refuse lookUp linkMetricOf nextHello

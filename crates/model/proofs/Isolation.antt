@@ -13,7 +13,7 @@ use Rattle.control.specs.Common.{setupCommon}
 use Rattle.model.specs.Gateway.{Gateway, Started, newGateway, setup}
 use Rattle.model.specs.Step.{Call}
 use Rattle.model.specs.Claim.{Neighbour, isIts, shared, run, Agreeing, end, next, Isolation}
-use Rattle.model.proofs.ButFor.{beside-refl}
+use Rattle.model.proofs.ButFor.{but-for-refl}
 use Rattle.model.proofs.Near.{Near, near-sym, step-kept, its-near}
 
 -- how two lists with the same shared calls go together
@@ -71,5 +71,5 @@ isolation s g hellos r e b xs ys h =
       lan₂ = λ l. l;
       size = refl;
       elsewhere = λ n k. refl;
-      own = λ h₁ h₂. beside-refl _ _;
+      own = λ h₁ h₂. but-for-refl _ _;
     })

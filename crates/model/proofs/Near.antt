@@ -30,7 +30,7 @@ use Rattle.model.specs.Receive.{Acted}
 use Rattle.model.specs.Step.{Local, Global, Tick, DatabaseComplete, Waiting, Call, At, Over, Outcome, act, lift, on, Judged, Refused as RefusedCall, Sweep, Tell, noneOf, tickOf, databaseOf, judge, sweptRoom, lapsed, carry, step}
 use Rattle.model.specs.Claim.{Neighbour, isSent, isIts, isLan, isThere, still, Observation, withoutLost, compared, Agree}
 use Rattle.model.proofs.Lists.{renew-both, length-renew, renew-numbered, numbered-map, ext-numbered}
-use Rattle.model.proofs.ButFor.{ButFor, beside-refl, beside-sym, beside-trans, beside-find, beside-sweep, Same, act-its, act-both, act-common}
+use Rattle.model.proofs.ButFor.{ButFor, but-for-refl, but-for-sym, but-for-trans, but-for-find, but-for-sweep, Same, act-its, act-both, act-common}
 
 -- s₁ and s₂: the promise for its LAN stands in each run
 pub record Near (b : Neighbour) (s₁ s₂ : Bool) (g₁ g₂ : Gateway) : Type 0 where
@@ -51,7 +51,7 @@ near-sym n =
       lan₂ = n .lan₁;
       size = sym (n .size);
       elsewhere = λ i h. sym (n .elsewhere i h);
-      own = λ h₁ h₂. beside-sym (n .own h₂ h₁);
+      own = λ h₁ h₂. but-for-sym (n .own h₂ h₁);
     }
 
 -- ---- the promise for its LAN
@@ -90,7 +90,7 @@ kept-of-near b s₁ s₂ c x y n away there =
         records = λ i k h. ap (λ (r : Room). find k (r .slots)) (n .elsewhere i h);
         answer = λ h. away h .0;
         reply = λ h. away h .1;
-        own-records = λ h₁ h₂ k h. beside-find (n .own h₁ h₂) k h;
+        own-records = λ h₁ h₂ k h. but-for-find (n .own h₁ h₂) k h;
         own-answer = λ h₁ h₂. there h₁ h₂ .0;
         own-reply = λ h₁ h₂. there h₁ h₂ .1;
       };
@@ -100,7 +100,7 @@ kept-of-near b s₁ s₂ c x y n away there =
 -- ---- what a call that names no circuit leaves as it was, in the mode Running
 
 data Steady (c : Common) : Judged → Type 0 where
-  declined : {x : Refusal} → Steady c (RefusedCall x)
+  refusing : {x : Refusal} → Steady c (RefusedCall x)
   sweeping : {clock : ℕ} {d : Common} {hellos : List Bool} {o : TimerOutcome} → d .timers .mode ≡ Running → d .circuits ≡ c .circuits
       → Steady c (Sweep clock d hellos o)
   telling : {d : Common} {a : Answer} → d .timers .mode ≡ Running → d .circuits ≡ c .circuits → Steady c (Tell d a)
@@ -110,10 +110,10 @@ unfolding judge tickOf databaseOf
 judge-steady c (Tick clock) run =
     by-test (noneOf (c .circuits)) (λ h. rw h (telling run refl))
     (λ h.
-    by-test (ltb clock (c .clock)) (λ e. rw (h, e) declined)
+    by-test (ltb clock (c .clock)) (λ e. rw (h, e) refusing)
     (λ e. rw (h, e) (sweeping (mode-running (c .timers) run (toT3 (c .lengths) clock)) refl)))
 judge-steady c (DatabaseComplete level) run =
-    by-test (hasLevel (enabledLevels (c .circuits)) level) (λ h. rw (h, run) declined) (λ h. rw h declined)
+    by-test (hasLevel (enabledLevels (c .circuits)) level) (λ h. rw (h, run) refusing) (λ h. rw h refusing)
 judge-steady c Waiting run = telling run refl
 
 circuitOf-same : (c d : Common) → d .circuits ≡ c .circuits → (n : ℕ) → circuitOf d n ≡ circuitOf c n
@@ -163,7 +163,7 @@ module _ (b : Neighbour) (s₁ s₂ : Bool) (g₁ g₂ : Gateway) (n : Near b s�
         elsewhere = λ j h.
             renew-both (λ x y. x ≡ y) noRoom r₁ r₂ refl (g₁ .rooms) (g₂ .rooms) i j (n .size) (λ q. n .elsewhere j h) (λ q. away (rw q h));
         own = λ h₁ h₂.
-            renew-both (λ x y. ButFor (b .mac) (x .slots) (y .slots)) noRoom r₁ r₂ (beside-refl _ _) (g₁ .rooms) (g₂ .rooms) i (b .circuit)
+            renew-both (λ x y. ButFor (b .mac) (x .slots) (y .slots)) noRoom r₁ r₂ (but-for-refl _ _) (g₁ .rooms) (g₂ .rooms) i (b .circuit)
             (n .size) (λ q. n .own (w₁ h₁) (w₂ h₂)) (λ q. there q h₁ h₂);
       }
 
@@ -240,12 +240,12 @@ module _ (b : Neighbour) (s₁ s₂ : Bool) (g₁ g₂ : Gateway) (n : Near b s�
       (set-near _ s₂ (and-left _ _) (λ h. h) _ _ (act-common i s _ _ (n .mode) l) refl i _ (roomOf g₂ i)
       (λ h. absurd (h refl))
       (λ q h₁ h₂.
-      beside-trans (act-its b i s l (g₁ .common) (roomOf g₁ i) (lan-kind s _ refl (lan (and-left s₁ _ h₁))) e) (n .own (and-left s₁ _ h₁) h₂)))
+      but-for-trans (act-its b i s l (g₁ .common) (roomOf g₁ i) (lan-kind s _ refl (lan (and-left s₁ _ h₁))) e) (n .own (and-left s₁ _ h₁) h₂)))
 
   -- a call that names no circuit
   carry-kept : (w : Global) (d : Judged) → Steady (g₁ .common) d → Kept b s₁ s₂ (Over w) (carry g₁ d) (carry g₂ d)
   unfolding carry isThere compared withoutLost
-  carry-kept w d declined = kept-of-near b s₁ s₂ _ _ _ (same-near _ _ (and-left _ _) (and-left _ _)) (λ e. (refl, refl)) (λ h₁ h₂. (refl, refl))
+  carry-kept w d refusing = kept-of-near b s₁ s₂ _ _ _ (same-near _ _ (and-left _ _) (and-left _ _)) (λ e. (refl, refl)) (λ h₁ h₂. (refl, refl))
   carry-kept w d (telling m q) =
       kept-of-near b s₁ s₂ _ _ _ (common-near _ _ (and-left _ _) (and-left _ _) _ _ refl m q) (λ e. (refl, refl)) (λ h₁ h₂. (refl, refl))
   carry-kept w d (sweeping {clock} m q) =
@@ -261,7 +261,7 @@ module _ (b : Neighbour) (s₁ s₂ : Bool) (g₁ g₂ : Gateway) (n : Near b s�
         elsewhere = λ i h. cc (swept-at clock (g₁ .rooms) i, swept-at clock (g₂ .rooms) i, n .elsewhere i h);
         own = λ h₁ h₂.
             rw (swept-at clock (g₁ .rooms) (b .circuit), swept-at clock (g₂ .rooms) (b .circuit))
-            (beside-sweep (expiredBy clock) (c .own h₁ h₂));
+            (but-for-sweep (expiredBy clock) (c .own h₁ h₂));
       })
       (λ e. (cc, refl)) (λ h₁ h₂. (cc, refl))
 

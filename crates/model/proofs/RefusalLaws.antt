@@ -54,17 +54,17 @@ module _ (b : List ℕ) (c : Common) (r : Room) where
   cond-keeps true p q f g = f
   cond-keeps false p q f g = g
 
-  settle-keeps : (n : ℕ) (s : Circuit) (h : Hello) (k : Key) (d : Reaction) → Keeps (reacted n s h k b d c r)
+  reacted-keeps : (n : ℕ) (s : Circuit) (h : Hello) (k : Key) (d : Reaction) → Keeps (reacted n s h k b d c r)
   unfolding reacted accepted
-  settle-keeps n s h k (RefusedReaction x) = refuse-keeps x
-  settle-keeps n s h k (Accepted after reply line) = λ x e. absurd (let z : _≡_ {A = ℕ} 0 1 = cc in omega arith)
+  reacted-keeps n s h k (RefusedReaction x) = refuse-keeps x
+  reacted-keeps n s h k (Accepted after reply line) = λ x e. absurd (let z : _≡_ {A = ℕ} 0 1 = cc in omega arith)
 
   read-keeps : (n : ℕ) (s : Circuit) (mac : ℕ) (d : Read) → Keeps (readIn n s mac b d c r)
   unfolding readIn checked decidedIn
   read-keeps n s mac (RefusedRead x) = refuse-keeps x
   read-keeps n s mac (ReadAs h) =
       cond-keeps (wrongSource (s .levels) (c .system) h) (refuse b WrongSource c r) (decidedIn n s mac b h c r) (refuse-keeps WrongSource)
-      (settle-keeps n s h (keyIn (s .kind) mac h) (decided (hereOf c s) (keyIn (s .kind) mac h) h (r .slots)))
+      (reacted-keeps n s h (keyIn (s .kind) mac h) (decided (hereOf c s) (keyIn (s .kind) mac h) h (r .slots)))
 
   receive-keeps : (n : ℕ) (s : Circuit) (mac : ℕ) (frame : List ℕ) → Keeps (receive n s mac frame b c r)
   unfolding receive
@@ -107,9 +107,9 @@ module _ (g : Gateway) where
   cond-carried true p q f h = f
   cond-carried false p q f h = h
 
-  declined : (x : Refusal) → Carried (RefusedCall x)
+  refusing : (x : Refusal) → Carried (RefusedCall x)
   unfolding carry
-  declined x = λ y e. (refl, refl)
+  refusing x = λ y e. (refl, refl)
 
   swept-carried : (clock : ℕ) (c : Common) (hellos : List Bool) (o : TimerOutcome) → Carried (Sweep clock c hellos o)
   unfolding carry
@@ -127,9 +127,9 @@ module _ (g : Gateway) where
   unfolding judge tickOf databaseOf
   judged c (Tick clock) =
       cond-carried (noneOf (c .circuits)) _ _ (quiet-carried c)
-      (cond-carried (ltb clock (c .clock)) _ _ (declined ClockBack) (swept-carried clock _ _ _))
+      (cond-carried (ltb clock (c .clock)) _ _ (refusing ClockBack) (swept-carried clock _ _ _))
   judged c (DatabaseComplete level) =
-      cond-carried (hasLevel (enabledLevels (c .circuits)) level) _ _ (cond-carried (isRestarting (c .timers .mode)) _ _ (told-carried _ _) (declined NotRestarting)) (declined NoCircuit)
+      cond-carried (hasLevel (enabledLevels (c .circuits)) level) _ _ (cond-carried (isRestarting (c .timers .mode)) _ _ (told-carried _ _) (refusing NotRestarting)) (refusing NoCircuit)
   judged c Waiting = told-carried c _
 
 pub refusals-keep : RefusalsKeep

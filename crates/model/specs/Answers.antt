@@ -3,6 +3,7 @@
 use Prim.Native.Nat.{ℕ}
 use mathlib.Core.Bool.{Bool}
 use mathlib.Core.List.{List}
+use Rattle.timers.specs.Events.{helloBits}
 use Rattle.restart_tlv.specs.Restart.{ackFlag}
 use Rattle.restart_tlv.specs.declared.flags.Flags.{Flags}
 use Rattle.basics.specs.Refusal.{refusalNo}
@@ -11,7 +12,7 @@ use Rattle.adjacency.specs.declared.marks.Acknowledgement.{Acknowledgement}
 use Rattle.adjacency.specs.declared.marks.Acknowledgement.the-variants.{Nothing, Send}
 use Rattle.adjacency.specs.declared.record.Adjacency.{Adjacency}
 use Rattle.adjacency.specs.declared.record.Adjacency.the-variants.{Absent, Present}
-use Rattle.basics.specs.Mask.{bits}
+use Rattle.basics.specs.Mask.{circuits, bitsOf}
 use Rattle.basics.specs.declared.mask.Lowest.{Lowest}
 use Rattle.basics.specs.declared.mask.Lowest.the-variants.{Circuit, Nothing as NoCircuit}
 use Rattle.timers.specs.declared.outcome.TimerOutcome.{TimerOutcome}
@@ -73,13 +74,17 @@ lowestNo (Circuit n) = n
 
 -- ---- the code's answers
 
+-- a mask's digits for the circuits that lost a record
+abbrev pub lostBits : ℕ → List Bool
+lostBits m = bitsOf circuits m
+
 abbrev pub receivedOf : ReceivedCode → Answer
 receivedOf (RefusedFrame x) = Refused x
 receivedOf (DoneFrame o) = Received o
 
 abbrev pub tickedOf : TickedCode → Answer
 tickedOf (RefusedTick x) = Refused x
-tickedOf (DoneTick lost hellos o) = Ticked (bits lost) (bits hellos) o
+tickedOf (DoneTick lost hellos o) = Ticked (lostBits lost) (helloBits hellos) o
 
 abbrev pub releasedOf : Released → Answer
 releasedOf (RefusedRelease x) = Refused x

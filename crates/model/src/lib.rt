@@ -1,3 +1,3 @@
 // The gateway as a machine of calls: what every call answers, replies and leaves (definitions), and what is proved of every list of calls
-// (document 01, "What the gateway holds", "Refusals by number" and "The runs of demand 3"). Code: the answers' types. Callers: gateway.
+// (document 01, "What the gateway holds", "Refusals by number" and "The runs of demand 3"). Code: the answers' types. Users: gateway, isis_gr, samples.
 pub mod answers; // answers.rt: what the calls answer

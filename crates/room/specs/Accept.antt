@@ -2,7 +2,6 @@
 -- "Marks and holding time").
 use Prim.Native.Nat.{ℕ}
 use mathlib.Core.Bool.{Bool, cond}
-use mathlib.Core.Path.{_≡_}
 use mathlib.Core.List.{List, _++_}
 use lib.ListN.{drop}
 use Rattle.restart_tlv.specs.Restart.{ackFlag, restartOctets}
@@ -23,7 +22,6 @@ use Rattle.adjacency.specs.declared.record.Adjacency.{Adjacency}
 use Rattle.adjacency.specs.declared.record.Adjacency.the-variants.{Absent, Present}
 use Rattle.adjacency.specs.declared.record.Key.{Key}
 use Rattle.adjacency.specs.declared.step.Here.{Here}
-use Rattle.slots.specs.Slots.{tableOf}
 use Rattle.adjacency.specs.declared.place.Slot.{Slot}
 use Rattle.room.specs.Table.{find, put, crowded, anyOutranks}
 
@@ -54,17 +52,3 @@ written system (Send ack time) b = restartOctets (ackFlag ack) time system ++ dr
 -- "Line 1 also, after its marks are set, orders CSNPs and flooding marks": t is the room as the frame left it
 unfoldable pub csnpsIn : Rank → Line → Levels → Link → List Slot → Csnps
 csnpsIn rank line levels link t = csnpsOf line levels link (anyOutranks rank t)
-
--- ---- what the code says of a room's words ws and of the reply buffer b
-
-abbrev pub Did : Key → ℕ → List ℕ → List ℕ → List ℕ → List ℕ → Reaction → Type 0
-Did k system ws b ws′ b′ (Refused x) = (ws′ ≡ ws) × (b′ ≡ b)
-Did k system ws b ws′ b′ (Accepted after reply line) = (tableOf ws′ ≡ kept k after (tableOf ws)) × (b′ ≡ written system reply b)
-
-pub record AcceptsAt (k : Key) (a : Reaction) (system : ℕ) (ws b ws′ b′ : List ℕ) (r : Reaction) : Type 0 where
-  pub is : r ≡ ifRoom (crowded k (tableOf ws)) a
-  pub did : Did k system ws b ws′ b′ r
-
-pub record Accepts (here : Here) (k : Key) (h : Hello) (ws b ws′ b′ : List ℕ) (r : Reaction) : Type 0 where
-  pub is : r ≡ decided here k h (tableOf ws)
-  pub did : Did k (h .system) ws b ws′ b′ r

@@ -3,3 +3,4 @@ pub mod Place
 pub mod Sweep
 pub mod Gather
 pub mod Accept
+pub mod AcceptWords

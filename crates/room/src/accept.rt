@@ -16,7 +16,8 @@ ghost use Prim.Native.Nat.{_≤_};
 ghost use lib.ListN.{length};
 ghost use Rattle.slots.specs.Slots.{tableOf, roomWords};
 ghost use Rattle.room.specs.Place.{Spots, Takes};
-ghost use Rattle.room.specs.Accept.{kept, written, Accepts, AcceptsAt};
+ghost use Rattle.room.specs.Accept.{kept, written};
+ghost use Rattle.room.specs.AcceptWords.{Accepts, AcceptsAt};
 
 // The reply, if one is due.
 fn answer(reply: &mut [u8], what: Acknowledgement, system: u64)

@@ -56,6 +56,7 @@ fn place_free(words: &[u64], key: Key) -> Place
     Place { before, spot }
 }
 
+// The record of a key, and the place that it has or would take.
 pub fn place_of(words: &[u64], key: Key) -> Place
     requires { ⌜ length (now words) ≡ roomWords ⌝ }
     ensures { λ r. ⌜ Placed key (tableOf (now (words .entry))) r ⌝ }

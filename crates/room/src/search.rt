@@ -22,6 +22,7 @@ pub enum Found {
     Nothing,
 }
 
+// The place of the record with a key.
 pub fn find_key(words: &[u64], key: Key) -> Found
     requires { ⌜ length (now words) ≡ roomWords ⌝ }
     ensures { λ r. ⌜ r ≡ firstOf (hasKey key) (tableOf (now (words .entry))) 0 ⌝ }
@@ -36,6 +37,7 @@ pub fn find_key(words: &[u64], key: Key) -> Found
     Found::Nothing
 }
 
+// The first place that is free.
 pub fn first_free(words: &[u64]) -> Found
     requires { ⌜ length (now words) ≡ roomWords ⌝ }
     ensures { λ r. ⌜ r ≡ firstOf isFree (tableOf (now (words .entry))) 0 ⌝ }

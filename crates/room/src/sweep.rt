@@ -6,7 +6,7 @@ use slots::slot::PLACES;
 use slots::slot::clear;
 ghost use mathlib.Core.Path.{_≡_};
 ghost use Prim.Native.Nat.{_<_};
-ghost use mathlib.Core.Bool.{false, _||_};
+ghost use mathlib.Core.Bool.{false};
 ghost use lib.ListN.{length, getD, set};
 ghost use Rattle.slots.specs.Slots.{tableOf, roomWords, places};
 ghost use Rattle.adjacency.specs.Place.{meets, expiredBy};
@@ -42,12 +42,6 @@ fn sweep_at(words: &mut [u64], i: usize, which: Sweep) -> bool
     false
 }
 
-fn either(a: bool, b: bool) -> bool
-    ensures { λ r. ⌜ r ≡ a || b ⌝ }
-{
-    if a { true } else { b }
-}
-
 fn sweep_in(words: &mut [u64], which: Sweep) -> bool
     requires { ⌜ length (now words) ≡ roomWords ⌝ }
     ensures { λ r. ⌜ Sweeps (testOf which) (tableOf (now (words .entry))) (tableOf (now (words .exit))) r ⌝ }
@@ -55,7 +49,7 @@ fn sweep_in(words: &mut [u64], which: Sweep) -> bool
     let mut any = false;
     let mut i = 0;
     while i < PLACES {
-        any = either(any, sweep_at(words, i, which));
+        any = any | sweep_at(words, i, which);
         i += 1;
     }
     any

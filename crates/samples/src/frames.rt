@@ -56,134 +56,9 @@ pub fn start(
     );
 }
 
-// P2P, Holding Time 27: a three-way TLV with this state (0 Up, 1 Initializing, 2 Down), and a Restart TLV of a length, its flags and its
-// Remaining Time. The octets lent past the PDU Length are never read.
-pub fn restart(state: u8, len: u8, flags: u8, time: u16) -> [u8; 40] {
-    [
-        0x83,
-        20,
-        1,
-        0,
-        17,
-        1,
-        0,
-        0,
-        3,
-        0x19,
-        0x21,
-        0x68,
-        0x00,
-        0x10,
-        0x02,
-        0,
-        27,
-        0,
-        25 + len % 16,
-        1,
-        240,
-        1,
-        state,
-        211,
-        len,
-        flags,
-        (time / 256) as u8,
-        (time % 256) as u8,
-        0x19,
-        0x21,
-        0x68,
-        0x00,
-        0x10,
-        0x01,
-        0,
-        0,
-        0,
-        0,
-        0,
-        0,
-    ]
-}
-
-// P2P, three-way Initializing, with a Reverse Metric TLV (type 16): its flags and its offset.
-pub fn reverse(flags: u8, offset: u8) -> [u8; 30] {
-    [
-        0x83,
-        20,
-        1,
-        0,
-        17,
-        1,
-        0,
-        0,
-        3,
-        0x19,
-        0x21,
-        0x68,
-        0x00,
-        0x10,
-        0x02,
-        0,
-        27,
-        0,
-        30,
-        1,
-        240,
-        1,
-        1,
-        16,
-        5,
-        flags,
-        0,
-        0,
-        offset,
-        0,
-    ]
-}
-
-// The same with two of them.
-pub fn reverse_twice(offset: u8) -> [u8; 37] {
-    [
-        0x83,
-        20,
-        1,
-        0,
-        17,
-        1,
-        0,
-        0,
-        3,
-        0x19,
-        0x21,
-        0x68,
-        0x00,
-        0x10,
-        0x02,
-        0,
-        27,
-        0,
-        37,
-        1,
-        240,
-        1,
-        1,
-        16,
-        5,
-        0,
-        0,
-        0,
-        offset,
-        0,
-        16,
-        5,
-        0,
-        0,
-        0,
-        offset,
-        0,
-    ]
-}
-
-// P2P with nothing but the three-way TLV, and a PDU Length.
-pub fn bare(length: u8) -> [u8; 23] {
+// P2P of the neighbour, Holding Time 27: a PDU Length, a three-way TLV with this state (0 Up, 1 Initializing, 2 Down), and what follows it.
+// The octets lent past the PDU Length are never read.
+fn p2p(length: u8, state: u8, rest: [u8; 17]) -> [u8; 40] {
     [
         0x83,
         20,
@@ -207,38 +82,100 @@ pub fn bare(length: u8) -> [u8; 23] {
         1,
         240,
         1,
-        1,
+        state,
+        rest[0],
+        rest[1],
+        rest[2],
+        rest[3],
+        rest[4],
+        rest[5],
+        rest[6],
+        rest[7],
+        rest[8],
+        rest[9],
+        rest[10],
+        rest[11],
+        rest[12],
+        rest[13],
+        rest[14],
+        rest[15],
+        rest[16],
     ]
 }
 
-// The same with a lone type octet at the end.
-pub fn lone_type() -> [u8; 24] {
-    [
-        0x83,
-        20,
+// With a Restart TLV of a length, its flags and its Remaining Time.
+pub fn restart(state: u8, len: u8, flags: u8, time: u16) -> [u8; 40] {
+    let high = (time / 256) as u8;
+    let low = (time % 256) as u8;
+    p2p(
+        25 + len % 16,
+        state,
+        [
+            211,
+            len,
+            flags,
+            high,
+            low,
+            0x19,
+            0x21,
+            0x68,
+            0x00,
+            0x10,
+            0x01,
+            0,
+            0,
+            0,
+            0,
+            0,
+            0,
+        ],
+    )
+}
+
+// Three-way Initializing, with a Reverse Metric TLV (type 16): its flags and its offset.
+pub fn reverse(flags: u8, offset: u8) -> [u8; 40] {
+    p2p(
+        30,
         1,
-        0,
-        17,
+        [16, 5, flags, 0, 0, offset, 0, 0, 0, 0, 0, 0, 0, 0, 0, 0, 0],
+    )
+}
+
+// The same with two of them.
+pub fn reverse_twice(offset: u8) -> [u8; 40] {
+    p2p(
+        37,
         1,
-        0,
-        0,
-        3,
-        0x19,
-        0x21,
-        0x68,
-        0x00,
-        0x10,
-        0x02,
-        0,
-        27,
-        0,
-        24,
+        [
+            16,
+            5,
+            0,
+            0,
+            0,
+            offset,
+            0,
+            16,
+            5,
+            0,
+            0,
+            0,
+            offset,
+            0,
+            0,
+            0,
+            0,
+        ],
+    )
+}
+
+// A PDU Length, and a TLV of type 1 and a length after the three-way TLV: of length 15 it ends at the fortieth octet, of length 14 that octet
+// is a lone type octet.
+pub fn filled(length: u8, value: u8) -> [u8; 40] {
+    p2p(
+        length,
         1,
-        240,
-        1,
-        1,
-        211,
-    ]
+        [1, value, 0, 0, 0, 0, 0, 0, 0, 0, 0, 0, 0, 0, 0, 0, 211],
+    )
 }
 
 // LAN level 1, from the router of a number, with a Holding Time.

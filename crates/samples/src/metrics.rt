@@ -23,6 +23,7 @@ fn row(name: &[u8], what: &[u8], configured: u32, frame: &[u8]) {
     text(b"\n");
 }
 
+// C10: the link metric.
 pub fn c10() {
     row(b"C10", b"10 + 5", 10, &reverse(0, 5));
     row(
@@ -34,6 +35,7 @@ pub fn c10() {
     row(b"C10", b"16,777,210 + 10 with U", 16777210, &reverse(2, 10));
 }
 
+// C11: two type 16 TLVs.
 pub fn c11() {
     row(
         b"C11",

@@ -38,6 +38,7 @@ fn row(
     text(b"\n");
 }
 
+// C1 to C6, one after another.
 pub fn c1_to_c6() {
     let mut gateway = [0u64; GATEWAY_WORDS];
     start(&mut gateway, CircuitKind::P2p, Mode::Running, 80, 10);
@@ -83,6 +84,7 @@ pub fn c1_to_c6() {
     row(&mut gateway, b"C6", b"RR, Holding 27", 130, 0, 1, 0);
 }
 
+// C7: no record stands.
 pub fn c7() {
     let mut gateway = [0u64; GATEWAY_WORDS];
     start(&mut gateway, CircuitKind::P2p, Mode::Running, 100, 10);

@@ -1,7 +1,6 @@
 // C8: the Restart TLV's lengths. C13: the PDU Length and the lent octets.
 use crate::frames::SOURCE;
-use crate::frames::bare;
-use crate::frames::lone_type;
+use crate::frames::filled;
 use crate::frames::restart;
 use crate::frames::start;
 use crate::show::cell;
@@ -21,6 +20,7 @@ fn row(gateway: &mut [u64; GATEWAY_WORDS], name: &[u8], what: &[u8], frame: &[u8
     text(b"\n");
 }
 
+// C8: the Restart TLV's lengths.
 pub fn c8() {
     let mut gateway = [0u64; GATEWAY_WORDS];
     start(&mut gateway, CircuitKind::P2p, Mode::Running, 0, 10);
@@ -56,20 +56,26 @@ pub fn c8() {
     );
 }
 
+// C13: the PDU Length and the lent octets.
 pub fn c13() {
     let mut gateway = [0u64; GATEWAY_WORDS];
     start(&mut gateway, CircuitKind::P2p, Mode::Running, 0, 10);
-    row(&mut gateway, b"C13", b"PDU Length = lent octets", &bare(23));
+    row(
+        &mut gateway,
+        b"C13",
+        b"PDU Length = lent octets",
+        &filled(40, 15),
+    );
     row(
         &mut gateway,
         b"C13",
         b"PDU Length one more than the lent octets",
-        &bare(24),
+        &filled(41, 15),
     );
     row(
         &mut gateway,
         b"C13",
         b"a lone type octet at the end",
-        &lone_type(),
+        &filled(40, 14),
     );
 }

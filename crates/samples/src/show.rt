@@ -13,10 +13,12 @@ use model::answers::Orders;
 use model::answers::Received;
 use restart_tlv::writer::Ack;
 
+// Octets, as they are.
 pub fn text(s: &[u8]) {
     io::write_all(STDOUT_FILENO, s);
 }
 
+// A number in decimal.
 pub fn number(n: u64) {
     io::print_decimal(STDOUT_FILENO, n);
 }
@@ -48,11 +50,13 @@ fn digits(n: u64) -> usize {
     8
 }
 
+// A number in a column.
 pub fn number_cell(n: u64, width: usize) {
     number(n);
     spaces(digits(n), width);
 }
 
+// A refusal's number.
 pub fn refusal(why: Refusal) {
     text(b"refused ");
     number(number_of(why) as u64);
@@ -155,6 +159,7 @@ pub fn verdict(r: Received) {
     }
 }
 
+// A link metric.
 pub fn metric(m: Metric) {
     match m {
         Metric::Refused(why) => refusal(why),

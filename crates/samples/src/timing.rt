@@ -82,6 +82,7 @@ fn row(what: &[u8], count: u8) {
     text(b"\n");
 }
 
+// C9: T3 while Restarting.
 pub fn c9() {
     row(b"Restarting from 0: at 5 RA 40, Up", 1);
     row(b".. at 10 RA 50, Up", 2);

@@ -3,7 +3,6 @@ use basics::kind::CircuitKind;
 use basics::levels::Levels;
 use basics::levels::some_on;
 ghost use mathlib.Core.Path.{_≡_};
-ghost use mathlib.Core.Bool.{_&&_};
 ghost use Rattle.settings.specs.Settings.{between, circuitOk};
 
 pub const MAX_PRIORITY: u32 = 127;
@@ -29,24 +28,14 @@ pub enum Chosen {
     Unknown,
 }
 
+// Whether a number is in a range.
 pub fn is_between(low: u32, n: u32, high: u32) -> bool
     ensures { λ r. ⌜ r ≡ between low n high ⌝ }
 {
-    if low <= n {
-        return n <= high;
-    }
-    false
+    (low <= n) & (n <= high)
 }
 
-pub fn both(a: bool, b: bool) -> bool
-    ensures { λ r. ⌜ r ≡ (a && b) ⌝ }
-{
-    if a {
-        return b;
-    }
-    false
-}
-
+// Whether a circuit's settings are in range.
 pub fn is_circuit_ok(s: Circuit) -> bool
     ensures { λ r. ⌜ r ≡ circuitOk s ⌝ }
 {
@@ -54,5 +43,5 @@ pub fn is_circuit_ok(s: Circuit) -> bool
     let priority = is_between(0, s.priority as u32, MAX_PRIORITY);
     let hold = is_between(1, s.hold as u32, MAX_HOLD);
     let metric = is_between(0, s.metric, MAX_METRIC);
-    both(some_on(levels), both(priority, both(hold, metric)))
+    some_on(levels) & (priority & (hold & metric))
 }

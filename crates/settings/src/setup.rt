@@ -1,6 +1,5 @@
 // All settings, as setup takes them (document 01, "What the gateway holds").
 use crate::circuit::Circuit;
-use crate::circuit::both;
 use crate::circuit::is_between;
 use crate::circuit::is_circuit_ok;
 use crate::lengths::Lengths;
@@ -27,13 +26,14 @@ pub struct Settings {
     pub circuits: [Circuit; CIRCUITS],
 }
 
+// Whether the lengths are in range.
 pub fn are_lengths_ok(s: Lengths) -> bool
     ensures { λ r. ⌜ r ≡ lengthsOk s ⌝ }
 {
     let one = is_between(1, s.t1 as u32, MAX_LENGTH);
     let two = is_between(1, s.t2 as u32, MAX_LENGTH);
     let tries = is_between(1, s.tries as u32, MAX_TRIES);
-    both(one, both(two, tries))
+    one & (two & tries)
 }
 
 fn are_circuits_ok(all: [Circuit; CIRCUITS], count: usize) -> bool
@@ -60,10 +60,7 @@ pub fn are_settings_ok(s: Settings) -> bool
     let lengths = s.lengths;
     let all = s.circuits;
     if is_between(1, count as u32, CIRCUITS as u32) {
-        return both(
-            are_circuits_ok(all, count as usize),
-            are_lengths_ok(lengths),
-        );
+        return are_circuits_ok(all, count as usize) & are_lengths_ok(lengths);
     }
     false
 }

@@ -23,6 +23,7 @@ fn is_held_word(w: u64) -> bool
     tag != 3
 }
 
+// Whether the place is free.
 pub fn is_free_at(words: &[u64], i: usize) -> bool
     requires { ⌜ (length (now words) ≡ roomWords) × (i < places) ⌝ }
     ensures { λ r. ⌜ r ≡ isFree (getD (tableOf (now (words .entry))) i Free) ⌝ }
@@ -30,6 +31,7 @@ pub fn is_free_at(words: &[u64], i: usize) -> bool
     words[PLACE_WORDS * i + 3] % 4 == 0
 }
 
+// Whether a record stands there.
 pub fn is_held_at(words: &[u64], i: usize) -> bool
     requires { ⌜ (length (now words) ≡ roomWords) × (i < places) ⌝ }
     ensures { λ r. ⌜ r ≡ isHeld (getD (tableOf (now (words .entry))) i Free) ⌝ }
@@ -37,6 +39,7 @@ pub fn is_held_at(words: &[u64], i: usize) -> bool
     is_held_word(words[PLACE_WORDS * i + 3])
 }
 
+// Whether the record with the key stands there.
 pub fn is_key_at(words: &[u64], i: usize, key: Key) -> bool
     requires { ⌜ (length (now words) ≡ roomWords) × (i < places) ⌝ }
     ensures { λ r. ⌜ r ≡ hasKey key (getD (tableOf (now (words .entry))) i Free) ⌝ }
@@ -62,6 +65,7 @@ pub fn is_due_at(words: &[u64], i: usize, clock: u64) -> bool
     words[PLACE_WORDS * i + 2] <= clock
 }
 
+// Whether a record stands there whose expiry is reached.
 pub fn is_expired_at(words: &[u64], i: usize, clock: u64) -> bool
     requires { ⌜ (length (now words) ≡ roomWords) × (i < places) ⌝ }
     ensures { λ r. ⌜ r ≡ meets (expiredBy clock) (getD (tableOf (now (words .entry))) i Free) ⌝ }
@@ -72,6 +76,7 @@ pub fn is_expired_at(words: &[u64], i: usize, clock: u64) -> bool
     false
 }
 
+// Whether a Planned record stands there.
 pub fn is_planned_at(words: &[u64], i: usize) -> bool
     requires { ⌜ (length (now words) ≡ roomWords) × (i < places) ⌝ }
     ensures { λ r. ⌜ r ≡ meets plannedState (getD (tableOf (now (words .entry))) i Free) ⌝ }
@@ -83,6 +88,7 @@ pub fn is_planned_at(words: &[u64], i: usize) -> bool
     2 <= w / 4 % 4
 }
 
+// Whether the router of a record there has the CSNP duty before us.
 pub fn is_outranked_at(words: &[u64], i: usize, rank: Rank) -> bool
     requires { ⌜ (length (now words) ≡ roomWords) × (i < places) ⌝ }
     ensures { λ r. ⌜ r ≡ outrankedAt rank (getD (tableOf (now (words .entry))) i Free) ⌝ }

@@ -43,6 +43,7 @@ fn slot_of(system: u64, mac: u64, expiry: u64, w: u64) -> Slot
     Slot::Held(Record { key, state })
 }
 
+// What a place holds.
 pub fn load(words: &[u64], i: usize) -> Slot
     requires { ⌜ (length (now words) ≡ roomWords) × (i < places) ⌝ }
     ensures { λ r. ⌜ r ≡ getD (tableOf (now (words .entry))) i Slot.Free ⌝ }
@@ -64,6 +65,7 @@ fn record_word(entry: Record) -> u64
     state_word(state) + 256 * (key.level as u64)
 }
 
+// A record, at a place.
 pub fn store(words: &mut [u64], i: usize, entry: Record)
     requires { ⌜ (length (now words) ≡ roomWords) × (i < places) ⌝ }
     ensures { λ _. ⌜ tableOf (now (words .exit)) ≡ set (tableOf (now (words .entry))) i (Slot.Held entry) ⌝ }

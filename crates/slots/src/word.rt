@@ -38,6 +38,7 @@ fn last_at(w: u64) -> Last
     }
 }
 
+// The data of either state, of an expiry and the word.
 pub fn data_at(expiry: u64, w: u64) -> Data
     ensures { λ r. ⌜ r ≡ dataAt expiry w ⌝ }
 {
@@ -49,6 +50,7 @@ pub fn data_at(expiry: u64, w: u64) -> Data
     }
 }
 
+// The mark that the word has.
 pub fn mark_at(w: u64) -> Mark
     ensures { λ r. ⌜ r ≡ markAt w ⌝ }
 {

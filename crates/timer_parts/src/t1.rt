@@ -31,6 +31,7 @@ pub enum Freed {
     Reinitialise,
 }
 
+// The entry of a T1 that has just begun.
 pub fn start_entry(deadline: u64) -> Entry
     ensures { λ r. ⌜ r ≡ startEntry deadline ⌝ }
 {
@@ -45,6 +46,7 @@ pub fn start_entry(deadline: u64) -> Entry
     }
 }
 
+// Whether a running T1 is at its deadline.
 pub fn is_due(clock: u32, t: T1) -> bool
     ensures { λ r. ⌜ r ≡ due clock t ⌝ }
 {
@@ -56,6 +58,7 @@ pub fn is_due(clock: u32, t: T1) -> bool
     false
 }
 
+// Whether a tick orders the hello again.
 pub fn is_hello_due(s: Lengths, clock: u32, t: T1) -> bool
     ensures { λ r. ⌜ r ≡ helloDue s clock t ⌝ }
 {
@@ -86,6 +89,7 @@ fn run_again(s: Lengths, clock: u32, t: T1) -> T1
     }
 }
 
+// A tick: the hello again, or the Nth expiry.
 pub fn tick_t1(s: Lengths, clock: u32, t: T1) -> T1
     ensures { λ r. ⌜ r ≡ tickT1 s clock t ⌝ }
 {
@@ -98,6 +102,7 @@ pub fn tick_t1(s: Lengths, clock: u32, t: T1) -> T1
     t
 }
 
+// It runs no more; what was told of it stays.
 pub fn stop_t1(t: T1) -> T1
     ensures { λ r. ⌜ r ≡ stopT1 t ⌝ }
 {
@@ -120,6 +125,7 @@ pub fn is_done(l: Levels, e: Entry) -> bool
     false
 }
 
+// It stops where it has all that it waits for.
 pub fn satisfy(l: Levels, t: T1) -> T1
     ensures { λ r. ⌜ r ≡ satisfied l t ⌝ }
 {
@@ -130,6 +136,7 @@ pub fn satisfy(l: Levels, t: T1) -> T1
     t
 }
 
+// An acknowledgement came.
 pub fn acknowledge(t: T1) -> T1
     ensures { λ r. ⌜ r ≡ acknowledged t ⌝ }
 {
@@ -183,6 +190,7 @@ fn freed_from(ours: bool) -> Freed
     }
 }
 
+// Whether a frame with no Restart TLV stopped a running T1.
 pub fn freed_by(h: Heard, t: T1) -> Freed
     ensures { λ r. ⌜ r ≡ freedBy h t ⌝ }
 {

@@ -115,6 +115,7 @@ fn notice_t2(on: bool, t: T2) -> T2
     t
 }
 
+// Each T2 at its deadline expires.
 pub fn expire_both(clock: u32, t: T2s) -> T2s
     ensures { λ r. ⌜ r ≡ expireBoth clock t ⌝ }
 {

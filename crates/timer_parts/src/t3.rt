@@ -11,6 +11,7 @@ pub enum T3 {
     Expired,
 }
 
+// A running T3 to an earlier deadline.
 pub fn lower_t3(at: u64, t: T3) -> T3
     ensures { λ r. ⌜ r ≡ lowerT3 at t ⌝ }
 {

@@ -9,21 +9,21 @@ use mathlib.Core.Logic.{_≢_}
 use mathlib.Core.List.{List, [], _∷_, _++_, map, append-nil}
 use lib.ListN.{set, getD, length, take, drop, drop-of-length-le}
 use lib.Seq.{drop-cons, take-suc-set, drop-set-lt, append-snoc, take-all}
-use Rattle.basics.specs.Mask.{circuits, bitsOf, bits, countTrue, anyTrue, firstTrue}
+use Rattle.basics.specs.Mask.{circuits, bitsOf, countTrue, anyTrue, firstTrue}
 use Rattle.timer_parts.specs.T1.{startEntry, stopT1}
 use Rattle.timer_parts.specs.declared.t1.Entry.{Entry}
 use Rattle.timer_parts.specs.declared.t1.T1.{T1}
 use Rattle.basics.proofs.MaskLaws.{length-bitsOf}
 use Rattle.timers.specs.Timers.{anyRuns, countRuns, firstRuns, noT1}
-use Rattle.timers.specs.Memory.{joined}
-use Rattle.timers.specs.Events.{startT1}
+use Rattle.timers.specs.Memory.{joined, t1Bits}
+use Rattle.timers.specs.Events.{startT1, helloBits}
 
 pub length-joined : (bs : List Bool) (e : ℕ → Entry) → length (joined bs e) ≡ length bs
 unfolding joined
 length-joined [] e = refl
 length-joined (b ∷ bs) e = ap suc (length-joined bs (λ i. e (suc i)))
 
-pub length-bits : (m : ℕ) → length (bits m) ≡ circuits
+pub length-bits : (m : ℕ) → length (t1Bits m) ≡ circuits
 length-bits m = length-bitsOf circuits m
 
 -- ---- what is asked
@@ -67,10 +67,10 @@ joined-set (a ∷ bs) e f zero b h k =
 joined-set (a ∷ bs) e f (suc i) b h k =
     rw (k zero (λ (q : zero ≡ suc i). omega arith), joined-set bs (λ j. e (suc j)) (λ j. f (suc j)) i b (omega arith) (λ j q. k (suc j) (λ (w : suc j ≡ suc i). q (omega arith))))
 
-pub joined-stored : (m m′ : ℕ) (e f : ℕ → Entry) (i : ℕ) (t : T1) → i < circuits → bits m′ ≡ set (bits m) i (t .runs) → f i ≡ t .entry
-    → ((j : ℕ) → j ≢ i → f j ≡ e j) → joined (bits m′) f ≡ set (joined (bits m) e) i t
+pub joined-stored : (m m′ : ℕ) (e f : ℕ → Entry) (i : ℕ) (t : T1) → i < circuits → t1Bits m′ ≡ set (t1Bits m) i (t .runs) → f i ≡ t .entry
+    → ((j : ℕ) → j ≢ i → f j ≡ e j) → joined (t1Bits m′) f ≡ set (joined (t1Bits m) e) i t
 joined-stored m m′ e f i t h p q r =
-    rw p (joined-set (bits m) e f i (t .runs) (rw length-bits h) r ∙ ap (λ (x : Entry). set (joined (bits m) e) i (record { runs = t .runs; entry = x })) q)
+    rw p (joined-set (t1Bits m) e f i (t .runs) (rw length-bits h) r ∙ ap (λ (x : Entry). set (joined (t1Bits m) e) i (record { runs = t .runs; entry = x })) q)
 
 none-run : (bs : List Bool) (e : ℕ → Entry) → map stopT1 (joined bs e) ≡ joined (map (λ b. false) bs) e
 unfolding joined stopT1
@@ -78,12 +78,12 @@ none-run [] e = refl
 none-run (b ∷ bs) e = rw (none-run bs (λ i. e (suc i)))
 
 -- "all T1 stop" is the mask 0
-pub joined-stop : (m : ℕ) (e : ℕ → Entry) → joined (bits 0) e ≡ map stopT1 (joined (bits m) e)
+pub joined-stop : (m : ℕ) (e : ℕ → Entry) → joined (t1Bits 0) e ≡ map stopT1 (joined (t1Bits m) e)
 unfolding bitsOf
-joined-stop m e = sym (none-run (bits m) e)
+joined-stop m e = sym (none-run (t1Bits m) e)
 
 -- no hello is ordered: the mask 0
-pub bits-none : (m : ℕ) (e : ℕ → Entry) → bits 0 ≡ map (λ (t : T1). false) (joined (bits m) e)
+pub bits-none : (m : ℕ) (e : ℕ → Entry) → helloBits 0 ≡ map (λ (t : T1). false) (joined (t1Bits m) e)
 unfolding bitsOf joined
 bits-none m e = refl
 
@@ -94,8 +94,8 @@ joined-start [] e deadline h = refl
 joined-start (b ∷ bs) e deadline h = rw (h zero (omega arith), joined-start bs (λ i. e (suc i)) deadline (λ j k. h (suc j) (omega arith)))
 
 pub joined-started : (m : ℕ) (e : ℕ → Entry) (deadline : ℕ) → ((j : ℕ) → j < circuits → e j ≡ startEntry deadline)
-    → joined (bits m) e ≡ map (startT1 deadline) (bits m)
-joined-started m e deadline h = joined-start (bits m) e deadline (λ j k. h j (rw length-bits at k))
+    → joined (t1Bits m) e ≡ map (startT1 deadline) (t1Bits m)
+joined-started m e deadline h = joined-start (t1Bits m) e deadline (λ j k. h j (rw length-bits at k))
 
 -- ---- a map done one place at a time: what is done, joined with the map of what is left. hs holds what is done (the list
 -- itself, or the hello mask's digits).

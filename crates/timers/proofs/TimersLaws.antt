@@ -6,7 +6,7 @@ use mathlib.Core.Bool.{Bool, true, false, cond, true≢false}
 use mathlib.Core.List.{List, map}
 use lib.ListN.{set, getD}
 use Rattle.basics.specs.declared.levels.Levels.{Levels}
-use Rattle.basics.specs.Mask.{circuits, bits, countTrue, firstTrue}
+use Rattle.basics.specs.Mask.{circuits, countTrue, firstTrue}
 use Rattle.timer_parts.specs.T1.{startEntry, tickT1, helloDue, freedBy, satisfied, noted, heardT1}
 use Rattle.timer_parts.specs.T3.{heardT3}
 use Rattle.timer_parts.specs.declared.heard.Heard.{Heard}
@@ -25,9 +25,9 @@ use Rattle.timers.specs.declared.outcome.TimerOutcome.the-variants.{Idle
 use Rattle.timers.specs.declared.outcome.Overload.{Overload}
 use Rattle.timers.specs.Timers.{Timers, withT1s, withT3, countRuns, firstRuns, noT1, atT1, tickT1s, expireT2s, cancelT2s, tickT3, finish, closed, settled, toT3, ticked, heardIn, heard, csnpIn, csnpNoticed, noticeT2s, databaseNoticed}
 use Rattle.settings.specs.Mode.{isRunning}
-use Rattle.timers.specs.Memory.{joined, timersOf}
+use Rattle.timers.specs.Memory.{joined, timersOf, t1Bits}
 use Rattle.timers.specs.Outcome.{outcomeWith, outcomeOf, ordered, tickHellos, heardFreed}
-use Rattle.timers.specs.Events.{startHead, startHellos, started, Starts, Closes, Ticks, Hears}
+use Rattle.timers.specs.Events.{startHead, startHellos, started, Starts, Closes, Ticks, Hears, helloBits}
 use Rattle.timers.proofs.T1sLaws.{countRuns-joined, firstRuns-joined, joined-started}
 
 -- ---- for the gateway
@@ -126,39 +126,39 @@ closes f t mid after o p q =
     }
 
 pub ticks : (s : Lengths) (clock : ℕ) (h : Head) (e : ℕ → Entry) (after : Timers) (o : TimerOutcome) (hs : List Bool)
-    → Closes (toT3 s clock) (timersOf h e) after o → hs ≡ map (helloDue s clock) (joined (bits (h .mask)) e)
+    → Closes (toT3 s clock) (timersOf h e) after o → hs ≡ map (helloDue s clock) (joined (t1Bits (h .mask)) e)
     → Ticks s clock (timersOf h e) after o hs
 unfolding timersOf
 ticks s clock h e after o hs c d = record { closes = c; hellos = d }
 
 pub hears : (clock i : ℕ) (l : Levels) (d : Heard) (h : Head) (e : ℕ → Entry) (after : Timers) (o : TimerOutcome) (r : Freed)
-    → Closes (heardIn clock i l d) (timersOf h e) after o → r ≡ freedBy d (getD (joined (bits (h .mask)) e) i noT1)
+    → Closes (heardIn clock i l d) (timersOf h e) after o → r ≡ freedBy d (getD (joined (t1Bits (h .mask)) e) i noT1)
     → Hears clock i l d (timersOf h e) after o r
 unfolding timersOf
 hears clock i l d h e after o r c f = record { closes = c; freed = f }
 
-pub count-of : (h : Head) (e : ℕ → Entry) → countTrue (bits (h .mask)) ≡ countRuns (timersOf h e .t1s)
+pub count-of : (h : Head) (e : ℕ → Entry) → countTrue (t1Bits (h .mask)) ≡ countRuns (timersOf h e .t1s)
 unfolding timersOf
-count-of h e = sym (countRuns-joined (bits (h .mask)) e)
+count-of h e = sym (countRuns-joined (t1Bits (h .mask)) e)
 
-pub first-of : (h : Head) (e : ℕ → Entry) → firstTrue (bits (h .mask)) 1 ≡ firstRuns (timersOf h e .t1s) 1
+pub first-of : (h : Head) (e : ℕ → Entry) → firstTrue (t1Bits (h .mask)) 1 ≡ firstRuns (timersOf h e .t1s) 1
 unfolding timersOf
-first-of h e = sym (firstRuns-joined (bits (h .mask)) e 1)
+first-of h e = sym (firstRuns-joined (t1Bits (h .mask)) e 1)
 
-pub t1-of : (h : Head) (e : ℕ → Entry) (i : ℕ) → getD (joined (bits (h .mask)) e) i noT1 ≡ getD (timersOf h e .t1s) i noT1
+pub t1-of : (h : Head) (e : ℕ → Entry) (i : ℕ) → getD (joined (t1Bits (h .mask)) e) i noT1 ≡ getD (timersOf h e .t1s) i noT1
 unfolding timersOf
 t1-of h e i = refl
 
 -- all T1s changed, then the head's steps
 pub toT3-is : (s : Lengths) (clock m : ℕ) (h : Head) (e f : ℕ → Entry) (u r : Timers)
-    → joined (bits m) f ≡ map (tickT1 s clock) (joined (bits (h .mask)) e) → u ≡ withT1s (timersOf h f) (joined (bits m) f)
+    → joined (t1Bits m) f ≡ map (tickT1 s clock) (joined (t1Bits (h .mask)) e) → u ≡ withT1s (timersOf h f) (joined (t1Bits m) f)
     → r ≡ tickT3 clock (cancelT2s (expireT2s clock u)) → r ≡ toT3 s clock (timersOf h e)
 unfolding toT3 tickT1s withT1s timersOf
 toT3-is s clock m h e f u r p q k = k ∙ ap (λ (x : Timers). tickT3 clock (cancelT2s (expireT2s clock x))) (q ∙ rw p)
 
 -- one circuit's T1 changed
-pub t1-stored : (h : Head) (m i : ℕ) (e f : ℕ → Entry) (g : T1 → T1) (t : T1) → t ≡ g (getD (joined (bits (h .mask)) e) i noT1)
-    → joined (bits m) f ≡ set (joined (bits (h .mask)) e) i t → withT1s (timersOf h f) (joined (bits m) f) ≡ atT1 i g (timersOf h e)
+pub t1-stored : (h : Head) (m i : ℕ) (e f : ℕ → Entry) (g : T1 → T1) (t : T1) → t ≡ g (getD (joined (t1Bits (h .mask)) e) i noT1)
+    → joined (t1Bits m) f ≡ set (joined (t1Bits (h .mask)) e) i t → withT1s (timersOf h f) (joined (t1Bits m) f) ≡ atT1 i g (timersOf h e)
 unfolding withT1s timersOf atT1
 t1-stored h m i e f g t p q = rw (q, p)
 
@@ -172,10 +172,10 @@ unfolding csnpIn
 csnpIn-is i l n t = refl
 
 pub starts : (s : Start) (h : Head) (e : ℕ → Entry) → h ≡ startHead s → ((j : ℕ) → j < circuits → e j ≡ startEntry (s .clock + s .lengths .t1))
-    → Starts s (timersOf h e) (bits (h .mask))
+    → Starts s (timersOf h e) (helloBits (h .mask))
 unfolding timersOf started startHellos
 starts s h e p k =
     record {
       timers = rw (p, joined-started (startHead s .mask) e (s .clock + s .lengths .t1) k);
-      hellos = ap (λ (x : Head). bits (x .mask)) p;
+      hellos = ap (λ (x : Head). helloBits (x .mask)) p;
     }

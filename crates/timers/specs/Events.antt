@@ -4,8 +4,9 @@ use mathlib.Core.Bool.{Bool, false, cond}
 use mathlib.Core.List.{List, map}
 use mathlib.Core.Path.{_≡_}
 use lib.ListN.{getD}
+use Rattle.timers.specs.Memory.{t1Bits}
 use Rattle.basics.specs.declared.levels.Levels.{Levels}
-use Rattle.basics.specs.Mask.{bits}
+use Rattle.basics.specs.Mask.{circuits, bitsOf}
 use Rattle.timer_parts.specs.T1.{startEntry, helloDue, freedBy}
 use Rattle.timer_parts.specs.T2.{startT2s}
 use Rattle.timer_parts.specs.declared.heard.Heard.{Heard}
@@ -32,15 +33,22 @@ startHead s =
 unfoldable pub startT1 : ℕ → Bool → T1
 startT1 deadline b = record { runs = b; entry = startEntry deadline }
 
+-- a mask's digits for hello orders: one for each circuit
+abbrev pub helloCount : ℕ
+helloCount = circuits
+
+abbrev pub helloBits : ℕ → List Bool
+helloBits m = bitsOf helloCount m
+
 -- the circuits whose T1 starts, and whose hello is ordered
 unfoldable pub startHellos : Start → List Bool
-startHellos s = bits (startHead s .mask)
+startHellos s = helloBits (startHead s .mask)
 
 unfoldable pub started : Start → Timers
 started s =
     record {
       mode = startHead s .mode;
-      t1s = map (startT1 (s .clock + s .lengths .t1)) (startHellos s);
+      t1s = map (startT1 (s .clock + s .lengths .t1)) (t1Bits (startHead s .mask));
       t2s = startHead s .t2s;
       t3 = startHead s .t3;
     }

@@ -4,15 +4,22 @@ use mathlib.Core.Bool.{Bool}
 use mathlib.Core.List.{List, [], _∷_}
 use lib.Dec.{eqb}
 use lib.ListN.{getD}
-use Rattle.basics.specs.Mask.{circuits, bits}
+use Rattle.basics.specs.Mask.{circuits, bitsOf}
 use Rattle.timer_parts.specs.declared.t1.Entry.{Entry}
 use Rattle.timer_parts.specs.declared.t1.T1.{T1}
 use Rattle.timers.specs.declared.head.Head.{Head}
 use Rattle.timers.specs.Timers.{Timers}
 
--- two words for each circuit
+-- how many T1s there are (one for each circuit, house), and a mask's digits for them
+abbrev pub t1Count : ℕ
+t1Count = circuits
+
+abbrev pub t1Bits : ℕ → List Bool
+t1Bits m = bitsOf t1Count m
+
+-- two words for each
 abbrev pub wordCount : ℕ
-wordCount = 2 * circuits
+wordCount = 2 * t1Count
 
 -- the deadline; the expiries, the acknowledgement and the CSNP sets
 unfoldable pub entryOf : ℕ → ℕ → Entry
@@ -34,10 +41,10 @@ joined [] e = []
 joined (b ∷ bs) e = record { runs = b; entry = e zero } ∷ joined bs (λ i. e (suc i))
 
 abbrev pub t1sAt : ℕ → List ℕ → List T1
-t1sAt m ws = joined (bits m) (entryAt ws)
+t1sAt m ws = joined (t1Bits m) (entryAt ws)
 
 unfoldable pub timersOf : Head → (ℕ → Entry) → Timers
-timersOf h e = record { mode = h .mode; t1s = joined (bits (h .mask)) e; t2s = h .t2s; t3 = h .t3 }
+timersOf h e = record { mode = h .mode; t1s = joined (t1Bits (h .mask)) e; t2s = h .t2s; t3 = h .t3 }
 
 abbrev pub timersAt : Head → List ℕ → Timers
 timersAt h ws = timersOf h (entryAt ws)

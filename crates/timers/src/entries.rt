@@ -18,13 +18,17 @@ ghost use mathlib.Core.Logic.{_≢_};
 ghost use mathlib.Core.List.{map};
 ghost use Prim.Native.Nat.{ℕ, _<_};
 ghost use lib.ListN.{set, getD, length};
-ghost use Rattle.basics.specs.Mask.{circuits, bits};
+ghost use Rattle.timers.specs.Events.{helloBits};
+ghost use Rattle.basics.specs.Mask.{circuits};
 ghost use Rattle.timer_parts.specs.T1.{tickT1, helloDue, startEntry};
 ghost use Rattle.timers.specs.Timers.{noT1};
 ghost use Rattle.timers.specs.Memory.{wordCount, entryOf, entryAt, t1sAt};
 
+// How many T1s there are: one for each circuit.
+pub const T1S: usize = CIRCUITS;
+
 // The words that are lent.
-pub const WORDS: usize = 2 * CIRCUITS;
+pub const WORDS: usize = 2 * T1S;
 
 fn second_word(e: Entry) -> u64
     ensures { λ r. ⌜ entryOf (e .deadline) r ≡ e ⌝ }
@@ -64,6 +68,7 @@ fn store_entry(words: &mut [u64], i: usize, e: Entry)
     words[2 * i + 1] = b;
 }
 
+// The T1 of circuit i.
 pub fn load_t1(words: &[u64], mask: u8, i: usize) -> T1
     requires { ⌜ (length (now words) ≡ wordCount) × (i < circuits) ⌝ }
     ensures { λ r. ⌜ r ≡ getD (t1sAt mask (now (words .entry))) i noT1 ⌝ }
@@ -92,7 +97,7 @@ pub struct Masks {
 fn tick_t1_at(words: &mut [u64], m: Masks, i: usize, s: Lengths, clock: u32) -> Masks
     requires { ⌜ (length (now words) ≡ wordCount) × (i < circuits) ⌝ }
     ensures { λ r. ⌜ (t1sAt (r .mask) (now (words .exit)) ≡ set (t1sAt (m .mask) (now (words .entry))) i (tickT1 s clock (getD (t1sAt (m .mask) (now (words .entry))) i noT1)))
-        × (bits (r .hellos) ≡ set (bits (m .hellos)) i (helloDue s clock (getD (t1sAt (m .mask) (now (words .entry))) i noT1))) ⌝ }
+        × (helloBits (r .hellos) ≡ set (helloBits (m .hellos)) i (helloDue s clock (getD (t1sAt (m .mask) (now (words .entry))) i noT1))) ⌝ }
 {
     let old = m.mask;
     let orders = m.hellos;
@@ -108,11 +113,11 @@ fn tick_t1_at(words: &mut [u64], m: Masks, i: usize, s: Lengths, clock: u32) -> 
 pub fn tick_t1s(words: &mut [u64], mask: u8, s: Lengths, clock: u32) -> Masks
     requires { ⌜ length (now words) ≡ wordCount ⌝ }
     ensures { λ r. ⌜ (t1sAt (r .mask) (now (words .exit)) ≡ map (tickT1 s clock) (t1sAt mask (now (words .entry))))
-        × (bits (r .hellos) ≡ map (helloDue s clock) (t1sAt mask (now (words .entry)))) ⌝ }
+        × (helloBits (r .hellos) ≡ map (helloDue s clock) (t1sAt mask (now (words .entry)))) ⌝ }
 {
     let mut m = Masks { mask, hellos: 0 };
     let mut i = 0;
-    while i < CIRCUITS {
+    while i < T1S {
         m = tick_t1_at(words, m, i, s, clock);
         i += 1;
     }
@@ -125,7 +130,7 @@ pub fn fill_entries(words: &mut [u64], deadline: u64)
     ensures { λ _. ⌜ ((j : ℕ) → j < circuits → entryAt (now (words .exit)) j ≡ startEntry deadline) ⌝ }
 {
     let mut i = 0;
-    while i < CIRCUITS {
+    while i < T1S {
         store_entry(words, i, start_entry(deadline));
         i += 1;
     }

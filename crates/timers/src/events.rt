@@ -28,12 +28,12 @@ use timer_parts::t3::hear_t3;
 ghost use mathlib.Core.Path.{_≡_};
 ghost use Prim.Native.Nat.{ℕ, _<_};
 ghost use lib.ListN.{length, getD};
-ghost use Rattle.basics.specs.Mask.{circuits, bits};
+ghost use Rattle.basics.specs.Mask.{circuits};
 ghost use Rattle.timer_parts.specs.T1.{helloFlags};
 ghost use Rattle.timer_parts.specs.declared.t1.Entry.{Entry};
 ghost use Rattle.timers.specs.Timers.{noT1, csnpIn, noticeT2s};
 ghost use Rattle.timers.specs.Memory.{wordCount, timersOf, timersAt};
-ghost use Rattle.timers.specs.Events.{startHead, Starts, Closes, Ticks, Hears};
+ghost use Rattle.timers.specs.Events.{startHead, Starts, Closes, Ticks, Hears, helloBits};
 
 // What setup gives to the timers: the mode, the lengths, the clock, the mask of the circuits that are there, and the levels that
 // are enabled on some circuit.
@@ -103,7 +103,7 @@ fn start_head(s: Start) -> Head
 // The timers as setup leaves them, and the hellos that it orders.
 pub fn start_timers(words: &mut [u64], s: Start) -> AfterStart
     requires { ⌜ length (now words) ≡ wordCount ⌝ }
-    ensures { λ r. ⌜ Starts s (timersAt (r .head) (now (words .exit))) (bits (r .hellos)) ⌝ }
+    ensures { λ r. ⌜ Starts s (timersAt (r .head) (now (words .exit))) (helloBits (r .hellos)) ⌝ }
 {
     let lengths = s.lengths;
     let clock = s.clock;
@@ -118,7 +118,7 @@ pub fn start_timers(words: &mut [u64], s: Start) -> AfterStart
 // A tick, after its records.
 pub fn tick_timers(words: &mut [u64], h: Head, s: Lengths, clock: u32) -> AfterTick
     requires { ⌜ length (now words) ≡ wordCount ⌝ }
-    ensures { λ r. ⌜ Ticks s clock (timersAt h (now (words .entry))) (timersAt (r .head) (now (words .exit))) (r .outcome) (bits (r .hellos)) ⌝ }
+    ensures { λ r. ⌜ Ticks s clock (timersAt h (now (words .entry))) (timersAt (r .head) (now (words .exit))) (r .outcome) (helloBits (r .hellos)) ⌝ }
 {
     let m = tick_t1s(words, h.mask, s, clock);
     let mask = m.mask;

@@ -16,10 +16,9 @@ use timer_parts::t3::expires_t3;
 ghost use mathlib.Core.Path.{_≡_};
 ghost use Prim.Native.Nat.{ℕ};
 ghost use Rattle.basics.specs.Levels.{levelsWith};
-ghost use Rattle.basics.specs.Mask.{bits};
 ghost use Rattle.timer_parts.specs.declared.t1.Entry.{Entry};
-ghost use Rattle.timers.specs.Timers.{withT1s, withT3, waits, expireT2s, cancelT2s, noticeT2s, tickT3, finish, countRuns, firstRuns};
-ghost use Rattle.timers.specs.Memory.{joined, timersOf};
+ghost use Rattle.timers.specs.Timers.{withT1s, withT2s, withT3, waits, expireT2s, cancelT2s, noticeT2s, tickT3, finish, countRuns, firstRuns};
+ghost use Rattle.timers.specs.Memory.{joined, timersOf, t1Bits};
 
 pub struct Head {
     pub mode: Mode,
@@ -28,8 +27,9 @@ pub struct Head {
     pub t3: T3,
 }
 
+// The head with another mask of running T1s.
 pub fn with_mask(h: Head, mask: u8) -> Head
-    ensures { λ r. ⌜ ((e : ℕ → Entry) → timersOf r e ≡ withT1s (timersOf h e) (joined (bits mask) e)) ⌝ }
+    ensures { λ r. ⌜ ((e : ℕ → Entry) → timersOf r e ≡ withT1s (timersOf h e) (joined (t1Bits mask) e)) ⌝ }
 {
     let mode = h.mode;
     let t2s = h.t2s;
@@ -42,6 +42,21 @@ pub fn with_mask(h: Head, mask: u8) -> Head
     }
 }
 
+// The head with other T2s.
+fn with_t2s(h: Head, t2s: T2s) -> Head
+    ensures { λ r. ⌜ ((e : ℕ → Entry) → timersOf r e ≡ withT2s (timersOf h e) t2s) ⌝ }
+{
+    let mode = h.mode;
+    let t3 = h.t3;
+    Head {
+        mode,
+        mask: h.mask,
+        t2s,
+        t3,
+    }
+}
+
+// The head with another T3.
 pub fn with_t3(h: Head, t3: T3) -> Head
     ensures { λ r. ⌜ ((e : ℕ → Entry) → timersOf r e ≡ withT3 (timersOf h e) t3) ⌝ }
 {
@@ -63,51 +78,28 @@ fn waiting_levels(h: Head) -> Levels
     Levels { one: any, two: any }
 }
 
+// T2 cancelling.
 pub fn cancel_t2s(h: Head) -> Head
     ensures { λ r. ⌜ ((e : ℕ → Entry) → timersOf r e ≡ cancelT2s (timersOf h e)) ⌝ }
 {
-    let mode = h.mode;
     let both = h.t2s;
-    let t3 = h.t3;
     let waits = waiting_levels(h);
-    let t2s = cancel_both(waits, both);
-    Head {
-        mode,
-        mask: h.mask,
-        t2s,
-        t3,
-    }
+    with_t2s(h, cancel_both(waits, both))
 }
 
 fn expire_t2s(clock: u32, h: Head) -> Head
     ensures { λ r. ⌜ ((e : ℕ → Entry) → timersOf r e ≡ expireT2s clock (timersOf h e)) ⌝ }
 {
-    let mode = h.mode;
     let both = h.t2s;
-    let t3 = h.t3;
-    let t2s = expire_both(clock, both);
-    Head {
-        mode,
-        mask: h.mask,
-        t2s,
-        t3,
-    }
+    with_t2s(h, expire_both(clock, both))
 }
 
 // The databases of the levels `n` are complete.
 pub fn notice_t2s(n: Levels, h: Head) -> Head
     ensures { λ r. ⌜ ((e : ℕ → Entry) → timersOf r e ≡ noticeT2s n (timersOf h e)) ⌝ }
 {
-    let mode = h.mode;
     let both = h.t2s;
-    let t3 = h.t3;
-    let t2s = notice_both(n, both);
-    Head {
-        mode,
-        mask: h.mask,
-        t2s,
-        t3,
-    }
+    with_t2s(h, notice_both(n, both))
 }
 
 fn tick_t3(clock: u32, h: Head) -> Head

@@ -7,7 +7,6 @@ use settings::mode::is_running;
 use timer_parts::t2::spf_due;
 use timer_parts::t3::is_expired;
 ghost use mathlib.Core.Path.{_≡_};
-ghost use mathlib.Core.Bool.{not, _&&_};
 ghost use Prim.Native.Nat.{ℕ};
 ghost use Rattle.timer_parts.specs.declared.t1.Entry.{Entry};
 ghost use Rattle.timers.specs.Timers.{finish, cancelT2s};
@@ -51,24 +50,6 @@ fn overload_of(set: bool, clear: bool) -> Overload
     Overload::Quiet
 }
 
-fn first_only(a: bool, b: bool) -> bool
-    ensures { λ r. ⌜ r ≡ (not a && b) ⌝ }
-{
-    if a {
-        return false;
-    }
-    b
-}
-
-fn both(a: bool, b: bool) -> bool
-    ensures { λ r. ⌜ r ≡ (a && b) ⌝ }
-{
-    if a {
-        return b;
-    }
-    false
-}
-
 fn outcome_with(ended: bool, spf: Levels, overload: Overload) -> TimerOutcome
     ensures { λ r. ⌜ r ≡ outcomeWith ended spf overload ⌝ }
 {
@@ -91,7 +72,7 @@ fn outcome_of(before: Head, mid: Head, after: Head) -> TimerOutcome
     let was = is_expired(old);
     let is = is_expired(own);
     let ended = is_running(mode);
-    let overload = overload_of(first_only(was, is), both(ended, is));
+    let overload = overload_of(!was & is, ended & is);
     outcome_with(ended, spf, overload)
 }
 

@@ -94,6 +94,7 @@ fn show_lines(text: &[u8]) {
     }
 }
 
+// Each frame of a file, and what became of it.
 pub fn show_file(name: &[u8]) {
     let file = os::open_read(name);
     if file < 0 {

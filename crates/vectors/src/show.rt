@@ -198,6 +198,7 @@ fn accepted(hello: Hello) {
     metric(reverse);
 }
 
+// One frame, and what became of it.
 pub fn show_frame(name: &[u8], kind: CircuitKind, frame: &[u8]) {
     text(name);
     let r = read_hello(frame, kind, OWN_MAC);

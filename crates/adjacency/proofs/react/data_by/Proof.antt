@@ -13,27 +13,14 @@ mark-of-requires c κs = search needs
 expiry-by-requires : tie.Need-expiry-by-requires
 expiry-by-requires c κs = search needs
 
-is-suppressed-requires : tie.Need-is-suppressed-requires
-is-suppressed-requires c κs = search needs
-
-suppressed-by-requires : tie.Need-suppressed-by-requires
-suppressed-by-requires c κs = search needs
-
 last-of-requires : tie.Need-last-of-requires
 last-of-requires c κs = search needs
 
 returns : tie.Need-returns
 unfolding dataBy
-returns c = rw (c .last-of .ensures, c .before .suppressed-by .ensures, c .before .before .is-suppressed .ensures, c .before .before .before .expiry-by .ensures, c .before .before .before .before .mark-of .ensures, c .before .before .before .before .before .times-of .ensures)
+returns c = rw (c .last-of .ensures, c .before .before .before .before .pre .1, c .before .expiry-by .ensures, c .before .before .mark-of .ensures, c .before .before .before .times-of .ensures)
 
 pub data-by-spec : {M : Type 1} → statement M
 data-by-spec =
     tie.close
-    (tie.spec
-    times-of-requires
-    mark-of-requires
-    expiry-by-requires
-    is-suppressed-requires
-    suppressed-by-requires
-    last-of-requires
-    returns)
+    (tie.spec times-of-requires mark-of-requires expiry-by-requires last-of-requires returns)

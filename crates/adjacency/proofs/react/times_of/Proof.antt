@@ -1,16 +1,13 @@
--- The callees in the order of `timesOf`.
+-- The fields in the order of `timesOf`.
 use borrow.Author.Needs.{needs}
 use Rattle.adjacency.proofs.react.times_of.Statement.{statement}
 use Rattle.adjacency.proofs.react.times_of.Tie as tie
-
-time-in-requires : tie.Need-time-in-requires
-time-in-requires c κs = search needs
 
 expiry-in-requires : tie.Need-expiry-in-requires
 expiry-in-requires c κs = search needs
 
 returns : tie.Need-returns
-returns c = rw (c .before .time-in .ensures, c .expiry-in .ensures)
+returns c = rw (c .before .pre, c .expiry-in .ensures)
 
 pub times-of-spec : {M : Type 1} → statement M
-times-of-spec = tie.close (tie.spec time-in-requires expiry-in-requires returns)
+times-of-spec = tie.close (tie.spec expiry-in-requires returns)

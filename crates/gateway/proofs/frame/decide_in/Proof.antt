@@ -2,7 +2,7 @@
 use Rattle.gateway.proofs.FrameLaws.{left, taken}
 use Rattle.gateway.proofs.WordLaws.{length-room, mode-put}
 use Rattle.gateway.specs.Words.{roomPlace}
-use Rattle.room.specs.Accept.{Accepts}
+use Rattle.room.specs.AcceptWords.{Accepts}
 use Rattle.slots.specs.Slots.{roomWords}
 use borrow.Rule.Slice.PartMut.{mid-len}
 use native.Mathlib.Omega.{arith}

@@ -1,10 +1,11 @@
 -- The invariant: what is sweptRoom before i and what is still to sweep make the whole sweep; so the marks.
+use Rattle.model.specs.Answers.{lostBits}
 use Rattle.gateway.proofs.CallLaws.{gather-step, gather-end, length-bits}
 use Rattle.gateway.proofs.WordLaws.{length-rooms}
 use Rattle.gateway.specs.Words.{gatewayWords, gatewayOf}
 use Rattle.model.specs.Step.{sweptRoom, lapsed}
 use Rattle.model.specs.Gateway.{withRooms, noRoom}
-use Rattle.basics.specs.Mask.{bits, circuits}
+use Rattle.basics.specs.Mask.{circuits}
 use lib.ListN.{length, take, drop}
 use mathlib.Core.List.{_++_, map}
 use Prim.Native.Nat.{_+_, _-_, _≤_}
@@ -16,7 +17,7 @@ use Rattle.gateway.proofs.ticks.sweep_rooms.Tie as tie
 abbrev Inv-loop : tie.InvT-loop
 Inv-loop gateway₀ clock lost₀ i₀ gateway lost i =
     (i ≤ circuits) × (length gateway ≡ gatewayWords)
-    × (take i (bits lost) ++ map (lapsed clock) (drop i (gatewayOf gateway .rooms)) ≡ map (lapsed clock) (gatewayOf gateway₀ .rooms))
+    × (take i (lostBits lost) ++ map (lapsed clock) (drop i (gatewayOf gateway .rooms)) ≡ map (lapsed clock) (gatewayOf gateway₀ .rooms))
     × (withRooms (gatewayOf gateway) (take i (gatewayOf gateway .rooms) ++ map (sweptRoom clock) (drop i (gatewayOf gateway .rooms))) ≡ withRooms (gatewayOf gateway₀) (map (sweptRoom clock) (gatewayOf gateway₀ .rooms)))
 
 abbrev μ-loop : tie.MeasureT-loop
@@ -41,7 +42,7 @@ loop-again : tie.Need-loop-again Inv-loop μ-loop
 loop-again c = let l = c .before .before .before .before .before .before .loop in let t = c .before .before .before .before .before .before .before .before .args .clock in let g = gatewayOf (l .gateway) in let x = c .before .before .before .sweep-room in let lr = length-rooms (l .gateway) in let lb = length-bits (l .lost) in (
   omega arith,
   x .kept .0 ∙ l .inv .1,
-  rw (x .ensures .1, c .put-bit .ensures) (gather-step noRoom (lapsed t) (bits (l .lost)) (g .rooms) (l .i) (x .result) _ (omega arith) (omega arith) (x .ensures .0) ∙ l .inv .2),
+  rw (x .ensures .1, c .put-bit .ensures) (gather-step noRoom (lapsed t) (lostBits (l .lost)) (g .rooms) (l .i) (x .result) _ (omega arith) (omega arith) (x .ensures .0) ∙ l .inv .2),
   rw (x .ensures .1) (ap (withRooms g) (gather-step noRoom (sweptRoom t) (g .rooms) (g .rooms) (l .i) _ _ (omega arith) (omega arith) refl) ∙ l .inv .3),
 )
 
@@ -50,7 +51,7 @@ same-length c = c .before .loop .inv .1 ∙ sym (c .before .before .before .pre)
 
 returns : tie.Need-returns Inv-loop μ-loop
 returns c = let l = c .before .loop in let t = c .before .before .before .args .clock in let g = gatewayOf (l .gateway) in let lr = length-rooms (l .gateway) in let lb = length-bits (l .lost) in (
-  gather-end (lapsed t) (bits (l .lost)) (g .rooms) (l .i) (omega arith) (omega arith) ∙ l .inv .2,
+  gather-end (lapsed t) (lostBits (l .lost)) (g .rooms) (l .i) (omega arith) (omega arith) ∙ l .inv .2,
   ap (withRooms g) (gather-end (sweptRoom t) (g .rooms) (g .rooms) (l .i) (omega arith) (omega arith)) ∙ l .inv .3,
 )
 

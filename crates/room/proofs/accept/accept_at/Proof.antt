@@ -1,7 +1,7 @@
 -- Refusal 8 passes, then refusal 9, then the record and the reply.
 use mathlib.Core.Path.{refl, sym, subst}
 use Rattle.room.specs.Place.{Spots}
-use Rattle.room.specs.Accept.{Did}
+use Rattle.room.specs.AcceptWords.{Did}
 use Rattle.room.proofs.AcceptLaws.{room-refused, room-full, room-free}
 use borrow.Author.Needs.{needs}
 use Rattle.room.proofs.accept.accept_at.Statement.{statement}

@@ -30,9 +30,6 @@ loop-holds c = (omega arith, c .before .pre, refl, refl)
 sweep-at-requires : tie.Need-sweep-at-requires Inv-loop μ-loop
 sweep-at-requires c κs = search needs
 
-either-requires : tie.Need-either-requires Inv-loop μ-loop
-either-requires c κs = search needs
-
 add-i : tie.Need-add-i Inv-loop μ-loop
 add-i c = omega arith
 
@@ -41,14 +38,14 @@ loop-less c = omega arith
 
 loop-again : tie.Need-loop-again Inv-loop μ-loop
 loop-again c =
-    let l = c .before .before .before .before .before .before .loop in
-    let p = testOf (c .before .before .before .before .before .before .before .before .args .which) in
+    let l = c .before .before .before .before .before .loop in
+    let p = testOf (c .before .before .before .before .before .before .before .args .which) in
     let t = tableOf (l .words) in
     let lt : l .i < length t = rw length-table (omega arith) in (
       omega arith,
       cc,
-      rw (c .either .ensures, c .before .before .before .sweep-at .ensures .0, c .before .before .before .sweep-at .ensures .1) (any-step p t (l .i) lt (l .any) ∙ l .inv .2),
-      rw (c .before .before .before .sweep-at .ensures .1) (sweep-step p t (l .i) lt ∙ l .inv .3),
+      rw (c .before .before .sweep-at .ensures .0, c .before .before .sweep-at .ensures .1) (any-step p t (l .i) lt (l .any) ∙ l .inv .2),
+      rw (c .before .before .sweep-at .ensures .1) (sweep-step p t (l .i) lt ∙ l .inv .3),
     )
 
 same-length : tie.Need-same-length Inv-loop μ-loop
@@ -70,7 +67,6 @@ sweep-in-spec =
     μ-loop
     loop-holds
     sweep-at-requires
-    either-requires
     add-i
     loop-less
     loop-again

@@ -1,5 +1,4 @@
--- Each test is one of `circuitOk`.
-use mathlib.Core.Path.{refl}
+-- The tests of `circuitOk`.
 use Rattle.settings.specs.Settings.{circuitOk}
 use borrow.Author.Needs.{needs}
 use Rattle.settings.proofs.circuit.is_circuit_ok.Statement.{statement}
@@ -23,18 +22,9 @@ is-between-requires-3 c κs = search needs
 some-on-requires : tie.Need-some-on-requires
 some-on-requires c κs = search needs
 
-both-requires : tie.Need-both-requires
-both-requires c κs = search needs
-
-both-requires-2 : tie.Need-both-requires-2
-both-requires-2 c κs = search needs
-
-both-requires-3 : tie.Need-both-requires-3
-both-requires-3 c κs = search needs
-
 returns : tie.Need-returns
 unfolding circuitOk
-returns c = rw (c .both3 .ensures, c .before .both2 .ensures, c .before .before .both .ensures, c .before .before .before .some-on .ensures, c .before .before .before .before .is-between3 .ensures, c .before .before .before .before .before .is-between2 .ensures, c .before .before .before .before .before .before .before .is-between .ensures) refl
+returns c = rw (c .some-on .ensures, c .before .before .before .before .is-between .ensures, c .before .before .is-between2 .ensures, c .before .is-between3 .ensures)
 
 pub is-circuit-ok-spec : {M : Type 1} → statement M
 is-circuit-ok-spec =
@@ -46,7 +36,4 @@ is-circuit-ok-spec =
     is-between-requires-2
     is-between-requires-3
     some-on-requires
-    both-requires
-    both-requires-2
-    both-requires-3
     returns)

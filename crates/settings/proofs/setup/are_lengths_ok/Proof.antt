@@ -1,5 +1,4 @@
--- Each test is one of `lengthsOk`.
-use mathlib.Core.Path.{refl}
+-- The tests of `lengthsOk`.
 use Rattle.settings.specs.Settings.{lengthsOk}
 use borrow.Author.Needs.{needs}
 use Rattle.settings.proofs.setup.are_lengths_ok.Statement.{statement}
@@ -23,15 +22,9 @@ cast-is-between-3 c = search needs
 is-between-requires-3 : tie.Need-is-between-requires-3
 is-between-requires-3 c κs = search needs
 
-both-requires : tie.Need-both-requires
-both-requires c κs = search needs
-
-both-requires-2 : tie.Need-both-requires-2
-both-requires-2 c κs = search needs
-
 returns : tie.Need-returns
 unfolding lengthsOk
-returns c = rw (c .both2 .ensures, c .before .both .ensures, c .before .before .is-between3 .ensures, c .before .before .before .before .is-between2 .ensures, c .before .before .before .before .before .before .is-between .ensures) refl
+returns c = rw (c .before .before .before .before .is-between .ensures, c .before .before .is-between2 .ensures, c .is-between3 .ensures)
 
 pub are-lengths-ok-spec : {M : Type 1} → statement M
 are-lengths-ok-spec =
@@ -43,6 +36,4 @@ are-lengths-ok-spec =
     is-between-requires-2
     cast-is-between-3
     is-between-requires-3
-    both-requires
-    both-requires-2
     returns)

@@ -1,7 +1,7 @@
--- The count is tested first, so that the loop stays within the eight.
-use mathlib.Core.Path.{sym, _∙_}
+-- The count is tested first, so that the loop stays within the circuits.
 use Rattle.settings.proofs.SettingsLaws.{between-true, ok-counted, ok-miscounted}
 use Rattle.basics.specs.Mask.{circuits}
+use mathlib.Core.Path.{sym, _∙_}
 use borrow.Author.Needs.{needs}
 use Rattle.settings.proofs.setup.are_settings_ok.Statement.{statement}
 use Rattle.settings.proofs.setup.are_settings_ok.Tie as tie
@@ -24,11 +24,8 @@ are-circuits-ok-requires c κs = between-true 1 _ circuits (sym (c .before .is-b
 are-lengths-ok-requires : tie.Need-are-lengths-ok-requires
 are-lengths-ok-requires c κs = search needs
 
-both-requires : tie.Need-both-requires
-both-requires c κs = search needs
-
 returns : tie.Need-returns
-returns c = rw (c .both .ensures, c .before .are-lengths-ok .ensures, c .before .before .are-circuits-ok .ensures) (sym (ok-counted (c .before .before .before .before .before .before .before .args .s) (sym (c .before .before .before .before .is-between .ensures) ∙ c .before .before .before .if1 .taken)))
+returns c = rw (c .are-lengths-ok .ensures, c .before .are-circuits-ok .ensures) (sym (ok-counted (c .before .before .before .before .before .before .args .s) (sym (c .before .before .before .is-between .ensures) ∙ c .before .before .if1 .taken)))
 
 returns-2 : tie.Need-returns-2
 returns-2 c = sym (ok-miscounted (c .before .before .before .before .args .s) (sym (c .before .is-between .ensures) ∙ c .if1 .left))
@@ -43,6 +40,5 @@ are-settings-ok-spec =
     cast-are-circuits-ok
     are-circuits-ok-requires
     are-lengths-ok-requires
-    both-requires
     returns
     returns-2)

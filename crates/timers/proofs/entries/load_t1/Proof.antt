@@ -1,8 +1,7 @@
 -- A digit and an entry are one T1.
 use native.Mathlib.Omega.{arith}
 use mathlib.Core.Path.{sym}
-use Rattle.basics.specs.Mask.{bits}
-use Rattle.timers.specs.Memory.{entryAt}
+use Rattle.timers.specs.Memory.{entryAt, t1Bits}
 use Rattle.timers.proofs.T1sLaws.{getD-joined, length-bits}
 use borrow.Author.Needs.{needs}
 use Rattle.timers.proofs.entries.load_t1.Statement.{statement}
@@ -17,7 +16,7 @@ load-entry-requires c κs = search needs
 returns : tie.Need-returns
 returns c = let a = c .before .before .before .args in
     rw (c .before .has-bit .ensures, c .load-entry .ensures)
-    (sym (getD-joined (bits (a .mask)) (entryAt (a .words .now)) (a .i) (rw length-bits (omega arith))))
+    (sym (getD-joined (t1Bits (a .mask)) (entryAt (a .words .now)) (a .i) (rw length-bits (omega arith))))
 
 pub load-t1-spec : {M : Type 1} → statement M
 load-t1-spec = tie.close (tie.spec has-bit-requires load-entry-requires returns)

@@ -1,7 +1,7 @@
 -- The T1 that was loaded is stored after its tick.
 use mathlib.Core.Path.{ap, _∙_}
 use lib.ListN.{set}
-use Rattle.basics.specs.Mask.{bits}
+use Rattle.timers.specs.Events.{helloBits}
 use Rattle.timer_parts.specs.T1.{tickT1, helloDue}
 use Rattle.timers.specs.Memory.{t1sAt}
 use borrow.Author.Needs.{needs}
@@ -33,7 +33,7 @@ returns c = let l = c .before .before .before .before .before .before .before in
           ∙ ap (set (t1sAt (a .m .mask) (a .words .now)) (a .i))
           (c .before .before .before .before .before .tick-t1 .ensures ∙ ap (tickT1 (a .s) (a .clock)) (l .load-t1 .ensures)),
       c .put-bit .ensures
-          ∙ ap (set (bits (a .m .hellos)) (a .i))
+          ∙ ap (set (helloBits (a .m .hellos)) (a .i))
           (c .before .before .before .before .before .before .is-hello-due .ensures ∙ ap (helloDue (a .s) (a .clock)) (l .load-t1 .ensures)),
     )
 

@@ -5,7 +5,8 @@ use mathlib.Core.Path.{_≡_, refl, _∙_}
 use mathlib.Core.List.{_++_, map}
 use lib.ListN.{length, take, drop, getD}
 use Prim.Native.Nat.{_-_, _≤_, _<_}
-use Rattle.basics.specs.Mask.{circuits, bits}
+use Rattle.timers.specs.Events.{helloBits}
+use Rattle.basics.specs.Mask.{circuits}
 use Rattle.timer_parts.specs.T1.{tickT1, helloDue}
 use Rattle.timers.specs.Timers.{noT1}
 use Rattle.timers.specs.Memory.{wordCount, t1sAt}
@@ -17,7 +18,7 @@ abbrev Inv-loop : tie.InvT-loop
 Inv-loop words₀ mask s clock m₀ i₀ words m i =
     (i ≤ circuits) × (length words ≡ wordCount)
     × (take i (t1sAt (m .mask) words) ++ map (tickT1 s clock) (drop i (t1sAt (m .mask) words)) ≡ map (tickT1 s clock) (t1sAt mask words₀))
-    × (take i (bits (m .hellos)) ++ map (helloDue s clock) (drop i (t1sAt (m .mask) words)) ≡ map (helloDue s clock) (t1sAt mask words₀))
+    × (take i (helloBits (m .hellos)) ++ map (helloDue s clock) (drop i (t1sAt (m .mask) words)) ≡ map (helloDue s clock) (t1sAt mask words₀))
 
 abbrev μ-loop : tie.MeasureT-loop
 μ-loop words₀ mask s clock m₀ i₀ words m i = circuits - i
@@ -44,7 +45,7 @@ loop-again c = let l = c .before .before .before .before .before in
       omega arith,
       x .kept .0 ∙ l .loop .inv .1,
       rw (x .ensures .0) (map-step g t t (l .loop .i) noT1 (g (getD t (l .loop .i) noT1)) k k ∙ l .loop .inv .2),
-      rw (x .ensures .0, x .ensures .1) (map-step (helloDue (a .s) (a .clock)) (bits (l .loop .m .hellos)) t (l .loop .i) noT1 (g (getD t (l .loop .i) noT1)) (rw length-bits (omega arith)) k ∙ l .loop .inv .3),
+      rw (x .ensures .0, x .ensures .1) (map-step (helloDue (a .s) (a .clock)) (helloBits (l .loop .m .hellos)) t (l .loop .i) noT1 (g (getD t (l .loop .i) noT1)) (rw length-bits (omega arith)) k ∙ l .loop .inv .3),
     )
 
 same-length : tie.Need-same-length Inv-loop μ-loop
@@ -56,7 +57,7 @@ returns c = let l = c .before .loop in
     let t = t1sAt (l .m .mask) (l .words) in
     let k : length t ≤ l .i = rw (length-joined, length-bits) (omega arith) in (
       map-end (tickT1 (a .s) (a .clock)) t t (l .i) noT1 noT1 k k ∙ l .inv .2,
-      map-end (helloDue (a .s) (a .clock)) (bits (l .m .hellos)) t (l .i) noT1 noT1 (rw length-bits (omega arith)) k ∙ l .inv .3,
+      map-end (helloDue (a .s) (a .clock)) (helloBits (l .m .hellos)) t (l .i) noT1 noT1 (rw length-bits (omega arith)) k ∙ l .inv .3,
     )
 
 pub tick-t1s-spec : {M : Type 1} → statement M

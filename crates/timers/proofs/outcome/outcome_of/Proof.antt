@@ -17,12 +17,6 @@ is-expired-requires-2 c κs = search needs
 is-running-requires : tie.Need-is-running-requires
 is-running-requires c κs = search needs
 
-first-only-requires : tie.Need-first-only-requires
-first-only-requires c κs = search needs
-
-both-requires : tie.Need-both-requires
-both-requires c κs = search needs
-
 overload-of-requires : tie.Need-overload-of-requires
 overload-of-requires c κs = search needs
 
@@ -32,9 +26,7 @@ outcome-with-requires c κs = search needs
 returns : tie.Need-returns
 unfolding outcomeOf overloadDue timersOf
 returns c = λ d e f.
-    let o = c .before .before .before in
-    let r = c .before .before .before .before .before .before in
-    simp (c .outcome-with .ensures, c .before .overload-of .ensures, c .before .before .both .ensures, o .first-only .ensures, c .before .before .before .before .is-running .ensures, c .before .before .before .before .before .is-expired2 .ensures, r .is-expired .ensures, r .before .spf-due .ensures)
+    simp (c .outcome-with .ensures, c .before .overload-of .ensures, c .before .before .is-running .ensures, c .before .before .before .is-expired2 .ensures, c .before .before .before .before .is-expired .ensures, c .before .before .before .before .before .spf-due .ensures)
 
 pub outcome-of-spec : {M : Type 1} → statement M
 outcome-of-spec =
@@ -44,8 +36,6 @@ outcome-of-spec =
     is-expired-requires
     is-expired-requires-2
     is-running-requires
-    first-only-requires
-    both-requires
     overload-of-requires
     outcome-with-requires
     returns)
