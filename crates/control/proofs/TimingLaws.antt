@@ -82,6 +82,7 @@ module _ (ws u : List ℕ) (after : Timers) (p : commonOf u ≡ withTimers after
       record {
         common = p ∙ ap (λ (t : Timers). withTimers t (commonOf ws)) (s .timers ∙ settled-on (commonOf ws .timers) m f);
         outcome = s .outcome ∙ ordered-on (commonOf ws .timers) m f;
+        kept = λ r. absurd (true≢false (sym r ∙ m));
       }
 
   module _ (h : Head) (e : h ≡ headOf ws) where
@@ -112,6 +113,7 @@ module _ (ws : List ℕ) (m : isRunning (commonOf ws .timers .mode) ≡ true) wh
       record {
         common = ap (λ (t : Timers). withTimers t (commonOf ws)) (settled-off (commonOf ws .timers) m f);
         outcome = ordered-off (commonOf ws .timers) m f;
+        kept = λ r. refl;
       }
 
   pub hears-still : (i : ℕ) (l : Levels) (d : Heard) → CommonHears i l d ws ws Idle Kept

@@ -1,4 +1,4 @@
--- What setup says of the common words, whatever they were (document 01, "What the gateway holds").
+-- What setup says of the control words, whatever they were (document 01, "What the gateway holds").
 use Prim.Native.Nat.{ℕ}
 use mathlib.Core.Bool.{Bool}
 use mathlib.Core.Path.{_≡_}

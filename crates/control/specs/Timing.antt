@@ -1,7 +1,7 @@
--- What each call says of the common words: the common part that it leaves, and what it orders (document 01, "Timers while
+-- What each call says of the control words: the common part that it leaves, and what it orders (document 01, "Timers while
 -- Restarting").
 use Prim.Native.Nat.{ℕ}
-use mathlib.Core.Bool.{Bool, false}
+use mathlib.Core.Bool.{Bool, true, false}
 use mathlib.Core.Path.{_≡_}
 use mathlib.Core.List.{List}
 use Rattle.basics.specs.declared.levels.Levels.{Levels}
@@ -18,10 +18,11 @@ use Rattle.control.specs.Common.{withClock, withTimers}
 abbrev pub On : List ℕ → Type 0
 On ws = isRunning (commonOf ws .timers .mode) ≡ false
 
--- a call whose own step is f
+-- a call whose own step is f; while the mode is Running no word changes
 pub record CommonSettles (f : Timers → Timers) (ws ws′ : List ℕ) (o : TimerOutcome) : Type 0 where
   pub common : commonOf ws′ ≡ withTimers (settled f (commonOf ws .timers)) (commonOf ws)
   pub outcome : o ≡ ordered f (commonOf ws .timers)
+  pub kept : isRunning (commonOf ws .timers .mode) ≡ true → ws′ ≡ ws
 
 -- an accepted hello on circuit i, which has the levels l, at the held clock
 pub record CommonHears (i : ℕ) (l : Levels) (d : Heard) (ws ws′ : List ℕ) (o : TimerOutcome) (r : Freed) : Type 0 where

@@ -1,4 +1,5 @@
-// The calls on the timers, over the common words. Circuits count from 0 here. In the mode Running only a tick's clock is written. The caller asks for the mode where a refusal or a record goes by it too.
+// The calls on the timers, over the control words. Circuits count from 0 here. In the mode Running only a tick's clock is written. Where a
+// refusal or a record goes by the mode too, the caller asks for it.
 use crate::head::load_head;
 use crate::head::mode_of;
 use crate::head::store_head;

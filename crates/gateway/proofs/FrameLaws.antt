@@ -1,4 +1,4 @@
--- The laws of receive's stages: the outcome of a stage is that of the next, or a refusal; and what the room's words and the common words
+-- The laws of receive's stages: the outcome of a stage is that of the next, or a refusal; and what the room's words and the control words
 -- come to makes the gateway of the definition.
 use Prim.Native.Nat.{ℕ, _+_, _-_, _<_, _≤_}
 use native.Mathlib.Omega.{arith}

@@ -57,7 +57,7 @@ side j i ne =
     by-test (ltb j i) (λ q. inl (omega (arith, ltb-true j i q)))
     (λ q. inr (let g : i ≤ j = ltb-false j i q in let n : j ≢ i = ne in omega arith))
 
--- ---- the common words put back, and a room's
+-- ---- the control words put back, and a room's
 
 module _ (ws t : List ℕ) (len : length ws ≡ gatewayWords) where
   pub length-common : length t ≡ controlWords → length (putMid 0 controlWords ws t) ≡ gatewayWords

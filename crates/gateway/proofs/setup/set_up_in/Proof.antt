@@ -1,4 +1,4 @@
--- Refusal 12, or the common words and then the rooms.
+-- Refusal 12, or the control words and then the rooms.
 use Rattle.control.specs.Words.{controlWords}
 use Rattle.gateway.proofs.SetupLaws.{set-up-refused, set-up-done}
 use Rattle.settings.proofs.SettingsLaws.{count-in-range}
