@@ -55,6 +55,7 @@ fn on_p2p(kind: CircuitKind) -> Selected
     }
 }
 
+// The layout that a PDU type chooses, where it fits the circuit.
 pub fn select_layout(octet: u8, kind: CircuitKind) -> Selected
     ensures { λ r. ⌜ r ≡ layoutOf octet kind ⌝ }
 {
@@ -67,6 +68,7 @@ pub fn select_layout(octet: u8, kind: CircuitKind) -> Selected
     }
 }
 
+// The octets of the fixed header.
 pub fn header_len(layout: Layout) -> usize
     ensures { λ r. ⌜ r ≡ headerOf layout ⌝ }
 {
