@@ -125,10 +125,11 @@ typedef struct {
     isis_gr_timers timers;
 } isis_gr_noticed;
 
-/* The record of a neighbour (the adjacency entry of ISO 10589). It is advertised exactly when it is UP and not suppressed. */
+/* The record of a neighbour (the adjacency entry of ISO 10589). */
 typedef struct {
     uint32_t code;
     uint8_t state;      /* ISIS_GR_RECORD_.. */
+    uint8_t advertised; /* 1 where it goes into our LSPs: UP and not suppressed */
     uint8_t mark;       /* ISIS_GR_MARK_.. */
     uint8_t suppressed; /* 0 or 1 */
     uint8_t priority;   /* of its last accepted frame, as are the rest */
@@ -287,6 +288,7 @@ static inline isis_gr_looked isis_gr_look_up(const isis_gr_gateway *gateway, uin
     isis_gr_looked l;
     l.code = word & 255u;
     l.state = (uint8_t)(word >> 8);
+    l.advertised = (uint8_t)(word >> 16);
     l.expiry = record[0];
     l.mark = (uint8_t)(record[1] & 3u);
     l.suppressed = (uint8_t)(record[1] >> 2 & 1u);
@@ -321,8 +323,8 @@ static inline isis_gr_flags isis_gr_next_hello_flags(const isis_gr_gateway *gate
 static inline isis_gr_waiting isis_gr_waiting_circuits(const isis_gr_gateway *gateway) {
     uint32_t word = isis_gr_raw_waiting(gateway->words);
     isis_gr_waiting w;
-    w.count = word & 255u;
-    w.lowest = (uint8_t)(word >> 8);
+    w.count = word >> 8 & 255u;
+    w.lowest = (uint8_t)(word >> 16);
     return w;
 }
 

@@ -3,4 +3,3 @@ pub mod Bits
 pub mod Lists
 pub mod Levels
 pub mod Mask
-pub mod Refusal

@@ -38,7 +38,8 @@ use Rattle.control.specs.Common.{Common}
 use Rattle.control.proofs.CommonLaws.{circuits-length}
 use Rattle.control.specs.Timing.{CommonSettles, CommonTicks}
 use Rattle.adjacency.specs.Keys.{keyOn}
-use Rattle.model.specs.Answers.{Answer, Refused, Ticked, Told, Fact, Done, Noticed, Looked, Metric, HelloFlags, Waits, lostBits}
+use Rattle.model.specs.Numbers.{refusalNo, lowestNo}
+use Rattle.model.specs.Answers.{Answer, Refused, Ticked, Told, Fact, Done, Noticed, Looked, Metric, HelloFlags, Waits, timersAnswer, recordAnswer, lostBits}
 use Rattle.model.specs.Gateway.{Gateway, Room, withRooms, withCommon, noRoom, renew, roomOf}
 use Rattle.model.specs.Receive.{Acted, refuse}
 use Rattle.model.specs.Step.{Call, Judged, Refused as RefusedCall, Tell, Release, CsnpComplete, LookUp, LinkMetric, NextHello, Tick, DatabaseComplete, Waiting, Over, act, asksLevel, csnpComplete, lookUp, linkMetricOf, nextHello, noticeOf, settledBy, lift, noneOf, quiet, tickOf, databaseOf, judge, carry, sweptRoom, lapsed, step}
@@ -94,12 +95,12 @@ module _ (ws : List ℕ) (n : ℕ) (len : length ws ≡ gatewayWords) where
 
       pub csnp-taken : (m : isRestarting (commonOf (part 0 controlWords ws) .timers .mode) ≡ true) (on : Levels) (se : on ≡ onlyLevel level) (u : List ℕ) (lu : length u ≡ controlWords) (o : TimerOutcome)
           → CommonSettles (csnpIn (n - 1) (s .levels) on) (part 0 controlWords ws) u o
-          → Meets (Told (Noticed o)) (lift g n (csnpComplete n s level)) ws (putMid 0 controlWords ws u) []
+          → Meets (Told (Noticed (timersAnswer o))) (lift g n (csnpComplete n s level)) ws (putMid 0 controlWords ws u) []
       unfolding csnpComplete gatewayOf
       csnp-taken m on se u lu o h =
           let f : Timers → Timers = csnpIn (n - 1) (s .levels) (onlyLevel level) in
           let h′ : CommonSettles f (part 0 controlWords ws) u o = subst (λ (x : Levels). CommonSettles (csnpIn (n - 1) (s .levels) x) (part 0 controlWords ws) u o) se h in
-          common-acts (csnpComplete n s level) (Noticed o) u lu (rw (has, m) (ap (λ (x : TimerOutcome). Told (Noticed x)) (h′ .outcome))) (rw (has, m) refl) (rw (has, m) (h′ .common)) (rw (has, m) refl)
+          common-acts (csnpComplete n s level) (Noticed (timersAnswer o)) u lu (rw (has, m) (ap (λ (x : TimerOutcome). Told (Noticed (timersAnswer x))) (h′ .outcome))) (rw (has, m) refl) (rw (has, m) (h′ .common)) (rw (has, m) refl)
 
   -- look up
   module _ (s : Circuit) (k : Key) where
@@ -108,13 +109,13 @@ module _ (ws : List ℕ) (n : ℕ) (len : length ws ≡ gatewayWords) where
     looks-not e = rw e refl
 
     pub looks : (lo : 0 < n) (hi : n ≤ circuits) (own : Key) (stood : Adjacency) (a : Answer) → asksLevel (s .kind) (s .levels) (k .level) ≡ true → own ≡ keyOn (s .kind) k
-        → stood ≡ find own (tableOf (part (roomPlace (n - 1)) (roomPlace (n - 1) + roomWords - roomPlace (n - 1)) ws)) → a ≡ Told (Looked stood)
+        → stood ≡ find own (tableOf (part (roomPlace (n - 1)) (roomPlace (n - 1) + roomWords - roomPlace (n - 1)) ws)) → a ≡ Told (Looked (recordAnswer stood))
         → Meets a (lift g n (lookUp s k)) ws ws []
     unfolding lookUp
     looks lo hi own stood a e ke f p =
         let w : stood ≡ find (keyOn (s .kind) k) (roomOf g n .slots) =
         f ∙ ap (λ (x : Key). find x (tableOf (part (roomPlace (n - 1)) (roomPlace (n - 1) + roomWords - roomPlace (n - 1)) ws))) ke ∙ ap (find (keyOn (s .kind) k)) (room-of ws n lo hi) in
-        asks ws n (lookUp s k) a (rw e (p ∙ ap (λ (x : Adjacency). Told (Looked x)) w)) (rw e refl) (rw e refl) (rw e refl)
+        asks ws n (lookUp s k) a (rw e (p ∙ ap (λ (x : Adjacency). Told (Looked (recordAnswer x))) w)) (rw e refl) (rw e refl) (rw e refl)
 
   -- link metric
   pub measures : (lo : 0 < n) (hi : n ≤ circuits) (s : Circuit) (stood : Adjacency) (m : ℕ)
@@ -127,9 +128,9 @@ module _ (ws : List ℕ) (n : ℕ) (len : length ws ≡ gatewayWords) where
 
   -- flags of the next hello
   pub flags : (s : Circuit) (f : Flags) → f ≡ helloFlags (getD (commonOf (part 0 controlWords ws) .timers .t1s) (n - 1) noT1)
-      → Meets (Told (HelloFlags f)) (lift g n (act n s NextHello)) ws ws []
+      → Meets (Told (HelloFlags (f .bits))) (lift g n (act n s NextHello)) ws ws []
   unfolding act nextHello gatewayOf
-  flags s f e = asks ws n (act n s NextHello) (Told (HelloFlags f)) (ap (λ (x : Flags). Told (HelloFlags x)) e) refl refl refl
+  flags s f e = asks ws n (act n s NextHello) (Told (HelloFlags (f .bits))) (ap (λ (x : Flags). Told (HelloFlags (x .bits))) e) refl refl refl
 
 pub asks-lan : (kind : CircuitKind) (l : Levels) (level : ℕ) (r : Bool) → kind ≡ Lan → r ≡ hasLevel l level → r ≡ asksLevel kind l level
 asks-lan kind l level r e h = rw e h
@@ -174,7 +175,7 @@ module _ (ws : List ℕ) where
       is-some : noneOf (cs .circuits) ≡ false
       is-some = some-length (cs .circuits) (omega (arith, circuits-length (part 0 controlWords ws)))
 
-      pub tick-back : (c : ℕ) → c ≡ cs .clock → clock < c → Meets (Refused ClockBack) (step gw (Over (Tick clock))) ws ws []
+      pub tick-back : (c : ℕ) → c ≡ cs .clock → clock < c → Meets (Refused (refusalNo ClockBack)) (step gw (Over (Tick clock))) ws ws []
       unfolding step judge tickOf carry gatewayOf
       tick-back c e lt =
           rw (is-some, lt-ltb clock (cs .clock) (rw (← e) lt)) (record { answer = refl; reply = refl; next = refl; kept = λ x y. refl })
@@ -196,14 +197,14 @@ module _ (ws : List ℕ) where
   -- the rooms first, and then the control words put back
   pub swept-all : (clock : ℕ) (ws1 u : List ℕ) (lost hellos : List Bool) (o : TimerOutcome) → length ws1 ≡ gatewayWords → length u ≡ controlWords
       → lost ≡ map (lapsed clock) (gw .rooms) → gatewayOf ws1 ≡ withRooms gw (map (sweptRoom clock) (gw .rooms))
-      → CommonTicks clock (part 0 controlWords ws1) u o hellos → SweepsAll clock ws (putMid 0 controlWords ws1 u) (Ticked lost hellos o)
+      → CommonTicks clock (part 0 controlWords ws1) u o hellos → SweepsAll clock ws (putMid 0 controlWords ws1 u) (Ticked lost hellos (timersAnswer o))
   swept-all clock ws1 u lost hellos o l1 lu m r h =
       let c1 : commonOf (part 0 controlWords ws1) ≡ gw .common = common-at ws1 ∙ ap (λ (x : Gateway). x .common) r in
       let hc = subst (λ (x : Common). commonOf u ≡ tickedCommon clock x) c1 (h .common) in
       let ho = subst (λ (x : Common). o ≡ ordered (toT3 (x .lengths) clock) (x .timers)) c1 (h .outcome) in
       let hh = subst (λ (x : Common). hellos ≡ tickHellos (x .lengths) clock (x .timers)) c1 (h .hellos) in
       record {
-        answer = λ i. Ticked (m i) (hh i) (ho i);
+        answer = λ i. Ticked (m i) (hh i) (timersAnswer (ho i));
         next = common-put ws1 u l1 lu ∙ ap (λ (x : Gateway). withCommon x (commonOf u)) r ∙ ap (withCommon (withRooms gw (map (sweptRoom clock) (gw .rooms)))) hc;
       }
 
@@ -212,7 +213,7 @@ module _ (ws : List ℕ) where
     abbrev call : Call
     call = Over (DatabaseComplete level)
 
-    pub database-off : hasLevel l level ≡ false → Meets (Refused NoCircuit) (step gw call) ws ws []
+    pub database-off : hasLevel l level ≡ false → Meets (Refused (refusalNo NoCircuit)) (step gw call) ws ws []
     unfolding step judge databaseOf carry gatewayOf
     database-off e = rw (← le, e) (record { answer = refl; reply = refl; next = refl; kept = λ x y. refl })
 
@@ -224,7 +225,7 @@ module _ (ws : List ℕ) where
           let h : hasLevel (enabledLevels (gw .common .circuits)) level ≡ true = rw (← common-at ws, ← le) on in
           ap (carry gw) (rw h e)
 
-      pub database-outside : isRestarting (cs .timers .mode) ≡ false → Meets (Refused NotRestarting) (step gw call) ws ws []
+      pub database-outside : isRestarting (cs .timers .mode) ≡ false → Meets (Refused (refusalNo NotRestarting)) (step gw call) ws ws []
       unfolding carry
       database-outside m =
           let q : isRestarting (gw .common .timers .mode) ≡ false = rw (← common-at ws) m in
@@ -232,13 +233,13 @@ module _ (ws : List ℕ) where
           (record { answer = refl; reply = refl; next = refl; kept = λ x y. refl })
 
       pub database-taken : isRestarting (cs .timers .mode) ≡ true → (n : Levels) → n ≡ onlyLevel level → (u : List ℕ) → length ws ≡ gatewayWords → length u ≡ controlWords
-          → (o : TimerOutcome) → CommonSettles (noticeT2s n) (part 0 controlWords ws) u o → Meets (Told (Noticed o)) (step gw call) ws (putMid 0 controlWords ws u) []
+          → (o : TimerOutcome) → CommonSettles (noticeT2s n) (part 0 controlWords ws) u o → Meets (Told (Noticed (timersAnswer o))) (step gw call) ws (putMid 0 controlWords ws u) []
       unfolding carry
       database-taken m n ne u len lu o h =
           let f : Timers → Timers = noticeT2s (onlyLevel level) in
           let k : CommonSettles f (part 0 controlWords ws) u o = subst (λ (x : Levels). CommonSettles (noticeT2s x) (part 0 controlWords ws) u o) ne h in
           let next = subst (λ (x : Common). commonOf u ≡ settledBy f x) (common-at ws) (k .common) in
-          let out = subst (λ (x : Common). Noticed o ≡ noticeOf f x) (common-at ws) (ap Noticed (k .outcome)) in
+          let out = subst (λ (x : Common). Noticed (timersAnswer o) ≡ noticeOf f x) (common-at ws) (ap (λ (x : TimerOutcome). Noticed (timersAnswer x)) (k .outcome)) in
           let q : isRestarting (gw .common .timers .mode) ≡ true = rw (← common-at ws) m in
           along (sym (judged (Tell (settledBy f (gw .common)) (Told (noticeOf f (gw .common)))) (rw q)))
           (record {
@@ -249,9 +250,9 @@ module _ (ws : List ℕ) where
           })
 
   -- circuits that wait for T1
-  pub waits : (k : ℕ) (low : Lowest) → k ≡ countRuns (cs .timers .t1s) → low ≡ firstRuns (cs .timers .t1s) 1 → Meets (Told (Waits k low)) (step gw (Over Waiting)) ws ws []
+  pub waits : (k : ℕ) (low : Lowest) → k ≡ countRuns (cs .timers .t1s) → low ≡ firstRuns (cs .timers .t1s) 1 → Meets (Told (Waits k (lowestNo low))) (step gw (Over Waiting)) ws ws []
   unfolding step judge carry gatewayOf
-  waits k low e f = record { answer = λ i. Told (Waits (e i) (f i)); reply = refl; next = refl; kept = λ x y. refl }
+  waits k low e f = record { answer = λ i. Told (Waits (e i) (lowestNo (f i))); reply = refl; next = refl; kept = λ x y. refl }
 
 pub lapsed-at : (ws : List ℕ) (clock i : ℕ) → i < circuits → (any : Bool) (t : List ℕ) → Sweeps (expiredBy clock) (tableOf (part (roomPlace i) (roomPlace i + roomWords - roomPlace i) ws)) (tableOf t) any
     → length ws ≡ gatewayWords → length t ≡ roomPlace i + roomWords - roomPlace i

@@ -39,7 +39,8 @@ use Rattle.adjacency.specs.Keys.{keyIn}
 use Rattle.room.specs.Accept.{decided, kept, csnpsIn}
 use Rattle.room.specs.AcceptWords.{Accepts}
 use Rattle.model.specs.declared.answers.Orders.{Orders}
-use Rattle.model.specs.Answers.{Refused, Received}
+use Rattle.model.specs.Numbers.{refusalNo}
+use Rattle.model.specs.Answers.{Refused, Received, frameAnswer}
 use Rattle.model.specs.Gateway.{Gateway, Room, withRooms, withCommon, renew, roomOf}
 use Rattle.model.specs.Receive.{refuse, hereOf, rankOf, saidOf, ordersOf, accepted, reacted, decidedIn, checked, readIn, receive}
 use Rattle.model.specs.Step.{Receive, act, lift}
@@ -111,7 +112,7 @@ module _ (ws : List ℕ) (n : ℕ) (s : Circuit) (mac : ℕ) (h : Hello) (b : Li
         ∙ ap (decided (hereOf (g .common) s) k h) (room-of ws n lo hi)
 
     pub left : (x : Refusal) (t b′ : List ℕ) → Accepts here key h (part a (a + roomWords - a) ws) b t b′ (RefusedReaction x)
-        → Meets (Refused x) (lift g n (decidedIn n s mac b h)) ws (putMid a (a + roomWords - a) ws t) b′
+        → Meets (Refused (refusalNo x)) (lift g n (decidedIn n s mac b h)) ws (putMid a (a + roomWords - a) ws t) b′
     left x t b′ l =
         let w : putMid a (a + roomWords - a) ws t ≡ ws = ap (putMid a (a + roomWords - a) ws) (l .did .0) ∙ put-same a (a + roomWords - a) ws in
         rw (w, l .did .1) (along (refused-is x (decided-at (RefusedReaction x) (l .is))) (refuses ws n b x))
@@ -131,7 +132,7 @@ module _ (ws : List ℕ) (n : ℕ) (s : Circuit) (mac : ℕ) (h : Hello) (b : Li
           e ∙ ap (λ (x : Key). kept x after (tableOf (part a (a + roomWords - a) ws))) ke ∙ ap (kept k after) (room-of ws n lo hi)
 
       pub taken : (ws2 : List ℕ) (o : Orders) → Accepts here key h (part a (a + roomWords - a) ws) b t b′ (Accepted after reply line)
-          → GivesOrders n s h reply line ws1 ws2 o → Meets (Received o) (lift g n (decidedIn n s mac b h)) ws ws2 b′
+          → GivesOrders n s h reply line ws1 ws2 o → Meets (Received (frameAnswer o)) (lift g n (decidedIn n s mac b h)) ws ws2 b′
       unfolding lift accepted
       taken ws2 o l y =
           let e = kept1 (l .did .0) in
@@ -142,7 +143,7 @@ module _ (ws : List ℕ) (n : ℕ) (s : Circuit) (mac : ℕ) (h : Hello) (b : Li
           let common : gatewayOf ws1 .common ≡ g .common = ap (λ (x : Gateway). x .common) same in
           along (accepted-is after reply line (decided-at (Accepted after reply line) (l .is)))
           (record {
-            answer = ap Received (y .orders ∙ (λ i. ordersOf n s h reply line (common i) (own i)));
+            answer = ap (λ (x : Orders). Received (frameAnswer x)) (y .orders ∙ (λ i. ordersOf n s h reply line (common i) (own i)));
             reply = l .did .1;
             next = y .next ∙ ap (λ (x : Gateway). withCommon x (commonAfter n s h (x .common))) same;
             kept = λ x z. absurd (let y : _≡_ {A = ℕ} 0 1 = cc in omega arith);

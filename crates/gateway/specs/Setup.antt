@@ -6,12 +6,12 @@ use mathlib.Core.Bool.{Bool}
 use mathlib.Core.List.{List, map}
 use Rattle.timers.specs.Events.{helloBits}
 use Rattle.basics.specs.Octets.{big}
-use Rattle.basics.specs.declared.refusal.Refusal.{Refusal}
 use Rattle.basics.specs.Mask.{circuits}
 use Rattle.settings.specs.declared.circuit.Circuit.{Circuit}
 use Rattle.settings.specs.declared.setup.Settings.{Settings}
 use Rattle.model.specs.declared.answers.SetUp.{SetUp}
 use Rattle.model.specs.declared.answers.SetUp.the-variants.{Refused as RefusedAnswer, Done}
+use Rattle.model.specs.Numbers.{refusalNo}
 use Rattle.model.specs.Gateway.{Gateway, Setup, Refused as RefusedSetup, Started}
 use Rattle.gateway.specs.declared.config.GatewaySettings.{GatewaySettings}
 use Rattle.gateway.specs.declared.config.CircuitSettings.{CircuitSettings}
@@ -40,13 +40,13 @@ settingsGiven s =
       circuits = map circuitGiven (s .circuits);
     }
 
--- setup's answer: its refusal, or the circuits whose hello is ordered
+-- setup's answer: its refusal's number, or the circuits whose hello is ordered
 pub data Report : Type 0 where
-  Refused : Refusal → Report
+  Refused : (number : ℕ) → Report
   Begun : (hellos : List Bool) → Report
 
 abbrev pub reportOf : SetUp → Report
-reportOf (RefusedAnswer x) = Refused x
+reportOf (RefusedAnswer x) = Refused (refusalNo x)
 reportOf (Done hellos) = Begun (helloBits hellos)
 
 abbrev pub reportIn : Setup → Report
@@ -62,4 +62,4 @@ startedIn before (Started g hellos) = g
 pub record SetsUp (o : Setup) (ws ws′ : List ℕ) (r : SetUp) : Type 0 where
   pub answer : reportOf r ≡ reportIn o
   pub next : gatewayOf ws′ ≡ startedIn (gatewayOf ws) o
-  pub kept : (x : Refusal) → reportOf r ≡ Refused x → ws′ ≡ ws
+  pub kept : (x : ℕ) → reportOf r ≡ Refused x → ws′ ≡ ws

@@ -5,7 +5,7 @@ use mathlib.Core.List.{List, map}
 use Rattle.timers.specs.Timers.{ticked, toT3}
 use Rattle.timers.specs.Outcome.{ordered, tickHellos}
 use Rattle.control.specs.Common.{Common, withClock, withTimers}
-use Rattle.model.specs.Answers.{Answer, Ticked}
+use Rattle.model.specs.Answers.{Answer, Ticked, timersAnswer}
 use Rattle.model.specs.Gateway.{Gateway}
 use Rattle.model.specs.Step.{lapsed, sweptRoom}
 use Rattle.gateway.specs.Words.{gatewayOf}
@@ -17,7 +17,7 @@ tickedCommon clock c = withTimers (ticked (c .lengths) clock (c .timers)) (withC
 abbrev pub tickedAnswer : ℕ → Gateway → Answer
 tickedAnswer clock g =
     Ticked (map (lapsed clock) (g .rooms)) (tickHellos (g .common .lengths) clock (g .common .timers))
-    (ordered (toT3 (g .common .lengths) clock) (g .common .timers))
+    (timersAnswer (ordered (toT3 (g .common .lengths) clock) (g .common .timers)))
 
 pub record SweepsAll (clock : ℕ) (ws ws′ : List ℕ) (a : Answer) : Type 0 where
   pub answer : a ≡ tickedAnswer clock (gatewayOf ws)

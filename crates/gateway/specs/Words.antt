@@ -4,7 +4,6 @@ use mathlib.Core.Path.{_≡_}
 use mathlib.Core.List.{List}
 use Rattle.basics.specs.Mask.{circuits}
 use Rattle.basics.specs.Lists.{part, tabulate}
-use Rattle.basics.specs.declared.refusal.Refusal.{Refusal}
 use Rattle.basics.specs.Octets.{big}
 use Rattle.adjacency.specs.declared.record.Key.{Key}
 use Rattle.slots.specs.Slots.{tableOf, roomWords}
@@ -37,4 +36,4 @@ pub record Meets (a : Answer) (o : Outcome) (ws ws′ b′ : List ℕ) : Type 0 
   pub answer : a ≡ o .answer
   pub reply : b′ ≡ o .reply
   pub next : gatewayOf ws′ ≡ o .next
-  pub kept : (x : Refusal) → a ≡ Refused x → ws′ ≡ ws
+  pub kept : (x : ℕ) → a ≡ Refused x → ws′ ≡ ws

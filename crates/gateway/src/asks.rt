@@ -2,6 +2,7 @@
 use adjacency::keys::key_on;
 use adjacency::record::Adjacency;
 use adjacency::record::Key;
+use adjacency::record::is_advertised;
 use basics::kind::CircuitKind;
 use basics::levels::Levels;
 use basics::levels::has_level;
@@ -26,7 +27,7 @@ ghost use mathlib.Core.List.{[]};
 ghost use Prim.Native.Nat.{_<_, _≤_};
 ghost use lib.ListN.{length};
 ghost use Rattle.basics.specs.Mask.{circuits};
-ghost use Rattle.model.specs.Answers.{Told, lookedOf, metricOf, flagsOf, waitingOf};
+ghost use Rattle.model.specs.Answers.{Told, recordAnswer, lookedOf, metricOf, flagsOf, waitingOf};
 ghost use Rattle.model.specs.Answers.{Looked as LookedFact};
 ghost use Rattle.model.specs.Step.{asksLevel, lookUp, lift, step, At, Over, LookUp, LinkMetric, NextHello};
 ghost use Rattle.model.specs.Step.{Waiting as Waits};
@@ -41,12 +42,16 @@ fn asks_level(kind: CircuitKind, levels: Levels, level: u8) -> bool
     }
 }
 
+// "A record is advertised exactly when it is UP and not Suppressed."
 fn looked_at(stood: Adjacency) -> Looked
-    ensures { λ r. ⌜ lookedOf r ≡ Told (LookedFact stood) ⌝ }
+    ensures { λ r. ⌜ lookedOf r ≡ Told (LookedFact (recordAnswer stood)) ⌝ }
 {
     match stood {
         Adjacency::Absent => Looked::Nothing,
-        Adjacency::Present(state) => Looked::Found(state),
+        Adjacency::Present(state) => Looked::Found {
+            state,
+            advertised: is_advertised(state),
+        },
     }
 }
 

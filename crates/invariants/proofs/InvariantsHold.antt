@@ -2,35 +2,33 @@
 use Prim.Native.Nat.{ℕ, zero, suc, _≤_, _<_}
 use native.Mathlib.Omega.{arith}
 use mathlib.Core.Path.{_≡_, refl}
+use mathlib.Core.Logic.{_≢_}
 use mathlib.Core.Bool.{Bool, true}
 use mathlib.Core.List.{List, [], _∷_}
 use lib.ListN.{length}
 use lib.Dec.{ltb}
 use borrow.Author.Tests.{leb-false, le-ltb}
 use Rattle.basics.proofs.BoolLaws.{by-test}
-use Rattle.restart_tlv.specs.declared.writer.Ack.{Ack}
 use Rattle.hello.specs.Hello.{helloRead}
 use Rattle.basics.specs.declared.kind.CircuitKind.{CircuitKind}
 use Rattle.basics.specs.declared.kind.CircuitKind.the-variants.{Lan, P2p}
 use Rattle.hello.specs.declared.read.Hello.{Hello}
 use Rattle.hello.specs.declared.read.Read.the-variants.{Accepted}
 use Rattle.adjacency.specs.Record.{expiryOf}
-use Rattle.adjacency.specs.declared.marks.Acknowledgement.the-variants.{Send}
 use Rattle.adjacency.specs.declared.record.State.{State}
 use Rattle.adjacency.specs.Place.{expiredBy}
 use Rattle.adjacency.specs.declared.place.Slot.{Slot}
 use Rattle.room.specs.Table.{expired}
-use Rattle.timers.specs.declared.outcome.TimerOutcome.{TimerOutcome}
 use Rattle.settings.specs.declared.circuit.Circuit.{Circuit}
 use Rattle.control.specs.Common.{Common, circuitOf}
 use Rattle.settings.specs.declared.circuit.Chosen.the-variants.{Known, Unknown}
 use Rattle.adjacency.specs.Keys.{keyIn}
-use Rattle.model.specs.declared.answers.Orders.{Orders}
-use Rattle.model.specs.Answers.{Received, Ticked}
+use Rattle.model.specs.Answers.{Received, Ticked, FrameAnswer, TimersAnswer}
 use Rattle.model.specs.Gateway.{Gateway, roomOf, recordAt}
 use Rattle.model.specs.Receive.{receive}
 use Rattle.model.specs.Step.{Call, At, Over, Receive, Tick, act, lift, on, noneOf, tickOf, judge, carry, step}
-use Rattle.invariants.specs.Invariants.{after, Octets, AllFit, none, more, Each, records, roomFor, TrueTime, TrueReplies, AboveClock, TickSweeps, Bounded, Invariant, Invariants}
+use Rattle.model.specs.Trace.{trace, leftBy, after}
+use Rattle.invariants.specs.Invariants.{Octets, AllFit, none, more, Each, records, roomFor, TrueTime, TrueReplies, AboveClock, TickSweeps, Bounded, Invariant, Invariants}
 use Rattle.invariants.proofs.RoomLaws.{each-sweep, no-records-each, no-records-records, openPlaces, records-places}
 use Rattle.invariants.proofs.GatewayLaws.{Size, places-of, none-of, RoomOk, Holds, renew-same, swept-at, setup-holds}
 use Rattle.invariants.proofs.ReceiveLaws.{ActOk, receive-ok, receive-reply}
@@ -78,7 +76,7 @@ module _ (g : Gateway) (h : Holds g) where
   left-above : (clock n : ℕ) → Each (λ s. clock < expiryOf s) (expired clock (roomOf g n .slots))
   left-above clock n = each-sweep (expiredBy clock) (λ s e q. leb-false (expiryOf s) clock e) (roomOf g n .slots) (h .rooms n .spans)
 
-  tick-above : (clock : ℕ) (lost hellos : List Bool) (o : TimerOutcome) → step g (Over (Tick clock)) .answer ≡ Ticked lost hellos o
+  tick-above : (clock : ℕ) (lost hellos : List Bool) (o : TimersAnswer) → step g (Over (Tick clock)) .answer ≡ Ticked lost hellos o
       → AboveClock (step g (Over (Tick clock)) .next)
   unfolding step judge tickOf carry
   tick-above clock lost hellos o e =
@@ -94,15 +92,15 @@ module _ (g : Gateway) (h : Holds g) where
   -- ---- replies
 
   module _ (n mac : ℕ) (frame buffer : List ℕ) (s : Circuit) (j : Hello) where
-    reply-true : (o : Orders) (ack : Ack) (time : ℕ) → Octets frame
+    reply-true : (f : FrameAnswer) → Octets frame
         → circuitOf (g .common) n ≡ Known s → helloRead (s .kind) (s .mac) frame ≡ Accepted j
-        → step g (At n (Receive mac frame buffer)) .answer ≡ Received o → o .reply ≡ Send ack time
-        → TrueTime (step g (At n (Receive mac frame buffer))) n (keyIn (s .kind) mac j) time
+        → step g (At n (Receive mac frame buffer)) .answer ≡ Received f → f .reply ≢ 0
+        → TrueTime (step g (At n (Receive mac frame buffer))) n (keyIn (s .kind) mac j) (f .time)
     unfolding step on lift act recordAt
-    reply-true o ack time f e r a q =
+    reply-true told f e r a q =
         let ok : RoomOk (Known s) (g .common .clock) (roomOf g n .slots) = rw e at (h .rooms n) in
         let done : ActOk (g .common) s (receive n s mac frame buffer (g .common) (roomOf g n)) = receive-ok (g .common) s (roomOf g n) (h .hold n s e) ok n mac buffer frame f in
-        let w = receive-reply (g .common) s (roomOf g n) (h .hold n s e) ok n mac buffer j frame f r .said o ack time (rw e at a) q in
+        let w = receive-reply (g .common) s (roomOf g n) (h .hold n s e) ok n mac buffer j frame f r .said told (rw e at a) q in
         rw e
         (record {
           octets = w .octets;
@@ -113,7 +111,7 @@ module _ (g : Gateway) (h : Holds g) where
         })
 
   true-replies : TrueReplies g
-  true-replies = record { time = λ n mac frame buffer s j o ack time. reply-true n mac frame buffer s j o ack time }
+  true-replies = record { time = λ n mac frame buffer s j f. reply-true n mac frame buffer s j f }
 
   holds-invariant : Invariant g
   holds-invariant = record { replies = true-replies; ticks = tick-sweeps; rooms = bounded; t1s = h .quiet }
@@ -121,7 +119,7 @@ module _ (g : Gateway) (h : Holds g) where
 -- ---- any list of calls
 
 after-holds : (g : Gateway) (cs : List Call) → Holds g → AllFit cs → Holds (after g cs)
-unfolding after
+unfolding trace leftBy
 after-holds g [] h none = h
 after-holds g (c ∷ cs) h (more f fs) = after-holds (step g c .next) cs (step-holds g c h f) fs
 

@@ -3,6 +3,7 @@
 use Prim.Native.Nat.{ℕ, _+_, _-_, _≤_}
 use native.Mathlib.Omega.{arith}
 use mathlib.Core.Path.{_≡_, refl}
+use mathlib.Core.Logic.{_≢_}
 use mathlib.Core.Bool.{false}
 use mathlib.Core.List.{List, [], _∷_, _++_, append-assoc}
 use lib.ListN.{length, drop}
@@ -21,7 +22,7 @@ use Rattle.adjacency.specs.Step.{wrongSource}
 use Rattle.adjacency.specs.Marks.{timeIn}
 use Rattle.adjacency.specs.React.{reactOf}
 use Rattle.adjacency.specs.declared.marks.Acknowledgement.{Acknowledgement}
-use Rattle.adjacency.specs.declared.marks.Acknowledgement.the-variants.{Send}
+use Rattle.adjacency.specs.declared.marks.Acknowledgement.the-variants.{Nothing, Send}
 use Rattle.adjacency.specs.declared.marks.Line.{Line}
 use Rattle.adjacency.specs.declared.react.Reaction.{Reaction}
 use Rattle.adjacency.specs.declared.react.Reaction.the-variants.{Refused as RefusedReaction, Accepted}
@@ -37,8 +38,7 @@ use Rattle.control.specs.Common.{Common, withTimers}
 use Rattle.settings.specs.declared.circuit.Chosen.the-variants.{Known}
 use Rattle.adjacency.specs.Keys.{keyIn}
 use Rattle.room.specs.Accept.{ifRoom, decided, kept, written}
-use Rattle.model.specs.declared.answers.Orders.{Orders}
-use Rattle.model.specs.Answers.{Received}
+use Rattle.model.specs.Answers.{Received, FrameAnswer}
 use Rattle.model.specs.Gateway.{Room}
 use Rattle.model.specs.Receive.{Acted, refuse, hereOf, saidOf, accepted, reacted, decidedIn, checked, readIn, receive}
 use Rattle.invariants.specs.Invariants.{Quiet, Tells, Octets}
@@ -73,7 +73,7 @@ pub record Said (clock : ℕ) (k : Key) (a : Acted) (time : ℕ) : Type 0 where
   pub tells : Tells (find k (a .room .slots)) clock time
 
 pub record ReplyOk (clock : ℕ) (k : Key) (a : Acted) : Type 0 where
-  pub said : (o : Orders) (ack : Ack) (time : ℕ) → a .answer ≡ Received o → o .reply ≡ Send ack time → Said clock k a time
+  pub said : (f : FrameAnswer) → a .answer ≡ Received f → f .reply ≢ 0 → Said clock k a (f .time)
 
 -- the reply's octets 4 and 5
 written-time : (system : ℕ) (ack : Ack) (time : ℕ) (b : List ℕ) → time ≤ 65535 → big 2 (written system (Send ack time) b) 3 ≡ time
@@ -158,7 +158,7 @@ module _ (c : Common) (s : Circuit) (r : Room) (hold : s .hold ≤ 65535) (ok : 
 
   refuse-reply : (k : Key) (b : List ℕ) (x : Refusal) → ReplyOk (c .clock) k (refuse b x c r)
   unfolding refuse
-  refuse-reply k b x = record { said = λ o ack time e f. absurd (let z : _≡_ {A = ℕ} 0 1 = cc in omega arith) }
+  refuse-reply k b x = record { said = λ f e q. absurd (let z : _≡_ {A = ℕ} 0 1 = cc in omega arith) }
 
   -- what is found is what was put; where none was, none stood
   kept-found : (k : Key) (after : Adjacency) → crowded k (r .slots) ≡ false → (after ≡ Absent → find k (r .slots) ≡ Absent)
@@ -171,12 +171,12 @@ module _ (c : Common) (s : Circuit) (r : Room) (hold : s .hold ≤ 65535) (ok : 
     accepted-reply : (after : Adjacency) (reply : Acknowledgement) (line : Line) → Replies (c .clock) after reply
         → find k (kept k after (r .slots)) ≡ after → ReplyOk (c .clock) k (accepted n s h k b after reply line c r)
     unfolding accepted
-    accepted-reply after reply line told found =
+    accepted-reply after Nothing line told found = record { said = λ f e q. absurd (q (cc)) }
+    accepted-reply after (Send ack time) line told found =
         record {
-          said = λ o ack time e f.
-              let w : reply ≡ Send ack time = cc in
-              let z : Replies (c .clock) after (Send ack time) = rw w at told in
-              record { octets = rw w (written-time (h .system) ack time b (z .0)); fits = z .0; tells = rw found (z .1) };
+          said = λ f e q.
+              let w : f .time ≡ time = cc in
+              rw w (record { octets = written-time (h .system) ack time b (told .0); fits = told .0; tells = rw found (told .1) });
         }
 
     reacted-reply : (a : Reaction) → Sound (c .clock) k (r .slots) a → ReplyOk (c .clock) k (reacted n s h k b a c r)

@@ -16,7 +16,6 @@ use Rattle.adjacency.specs.declared.record.State.{State}
 use Rattle.adjacency.specs.Place.{plannedState, expiredBy}
 use Rattle.settings.specs.Mode.{isRestarting}
 use Rattle.timers.specs.Timers.{toT3, csnpIn, noticeT2s}
-use Rattle.timers.specs.declared.outcome.TimerOutcome.{TimerOutcome}
 use Rattle.settings.specs.Settings.{enabledLevels}
 use Rattle.settings.specs.declared.circuit.Circuit.{Circuit}
 use Rattle.control.specs.Common.{Common, withClock, circuitOf}
@@ -25,6 +24,7 @@ use Rattle.settings.specs.declared.circuit.Chosen.the-variants.{Known, Unknown}
 use Rattle.model.specs.Answers.{Answer}
 use Rattle.model.specs.Gateway.{Room, Gateway, noRoom, numbered, renew, roomOf}
 use Rattle.model.specs.Receive.{Acted}
+use Rattle.model.specs.Answers.{TimersAnswer}
 use Rattle.model.specs.Step.{Local, Receive, Release, CsnpComplete, LookUp, LinkMetric, NextHello, Global, Tick, DatabaseComplete, Waiting, Call, At, Over, asksLevel, csnpComplete, lookUp, linkMetricOf, nextHello, act, lift, on, Judged, Refused as RefusedCall, Sweep, Tell, noneOf, tickOf, databaseOf, judge, carry, step}
 use Rattle.invariants.specs.Invariants.{Octets, Fits}
 use Rattle.invariants.proofs.QuietLaws.{toT3-mode, csnpIn-mode, noticeT2s-mode}
@@ -101,7 +101,7 @@ module _ (g : Gateway) (h : Holds g) where
 
 data JudgedOk (c : Common) : Judged → Type 0 where
   refusing : {x : Refusal} → JudgedOk c (RefusedCall x)
-  sweep : {clock : ℕ} {d : Common} {hellos : List Bool} {o : TimerOutcome} → c .clock ≤ clock → Keeps (withClock clock c) d
+  sweep : {clock : ℕ} {d : Common} {hellos : List Bool} {o : TimersAnswer} → c .clock ≤ clock → Keeps (withClock clock c) d
       → JudgedOk c (Sweep clock d hellos o)
   tell : {d : Common} {a : Answer} → Keeps c d → JudgedOk c (Tell d a)
 

@@ -1,18 +1,17 @@
 -- What stays true of a gateway, whatever calls it gets: sentences of document 01, and the claim that each holds after every list of calls.
 use Prim.Native.Nat.{ℕ, suc, _+_, _≤_, _<_}
 use mathlib.Core.Path.{_≡_}
+use mathlib.Core.Logic.{_≢_}
 use mathlib.Core.Bool.{Bool, false}
 use mathlib.Core.List.{List, [], _∷_}
 use lib.ListN.{length}
 use Rattle.basics.specs.Octets.{octet, big}
-use Rattle.restart_tlv.specs.declared.writer.Ack.{Ack}
 use Rattle.hello.specs.Hello.{helloRead}
 use Rattle.basics.specs.declared.kind.CircuitKind.{CircuitKind}
 use Rattle.basics.specs.declared.kind.CircuitKind.the-variants.{Lan, P2p}
 use Rattle.hello.specs.declared.read.Hello.{Hello}
 use Rattle.hello.specs.declared.read.Read.the-variants.{Accepted}
 use Rattle.adjacency.specs.Record.{expiryOf}
-use Rattle.adjacency.specs.declared.marks.Acknowledgement.the-variants.{Send}
 use Rattle.adjacency.specs.declared.record.Adjacency.{Adjacency}
 use Rattle.adjacency.specs.declared.record.Adjacency.the-variants.{Absent, Present}
 use Rattle.adjacency.specs.declared.record.State.{State}
@@ -23,23 +22,17 @@ use Rattle.adjacency.specs.declared.place.Slot.the-variants.{Free, Held, Closed
 use Rattle.room.specs.Gather.{gather}
 use Rattle.timers.specs.Timers.{Timers, anyRuns}
 use Rattle.settings.specs.declared.mode.Mode.the-variants.{Running}
-use Rattle.timers.specs.declared.outcome.TimerOutcome.{TimerOutcome}
 use Rattle.settings.specs.declared.circuit.Circuit.{Circuit}
 use Rattle.settings.specs.declared.setup.Settings.{Settings}
 use Rattle.control.specs.Common.{circuitOf}
 use Rattle.settings.specs.declared.circuit.Chosen.the-variants.{Known, Unknown}
 use Rattle.adjacency.specs.Keys.{keyIn}
-use Rattle.model.specs.declared.answers.Orders.{Orders}
-use Rattle.model.specs.Answers.{Received, Ticked}
+use Rattle.model.specs.Answers.{Received, Ticked, FrameAnswer, TimersAnswer}
 use Rattle.model.specs.Gateway.{Gateway, Started, setup, roomOf, recordAt}
 use Rattle.model.specs.Step.{Call, At, Over, Receive, Tick, Outcome, step}
+use Rattle.model.specs.Trace.{after}
 
 -- ---- the lists
-
--- "Each call gets the gateway that the last one returned or left"
-unfoldable pub after : Gateway → List Call → Gateway
-after g [] = g
-after g (c ∷ cs) = after (step g c .next) cs
 
 -- a lent frame is octets
 abbrev pub Octets : List ℕ → Type 0
@@ -85,10 +78,10 @@ pub record TrueTime (o : Outcome) (n : ℕ) (k : Key) (time : ℕ) : Type 0 wher
 
 -- .. so of every frame that is replied to: s is the circuit's settings, h the hello read
 pub record TrueReplies (g : Gateway) : Type 0 where
-  pub time : (n mac : ℕ) (frame buffer : List ℕ) (s : Circuit) (h : Hello) (o : Orders) (ack : Ack) (time : ℕ) → Octets frame
+  pub time : (n mac : ℕ) (frame buffer : List ℕ) (s : Circuit) (h : Hello) (f : FrameAnswer) → Octets frame
       → circuitOf (g .common) n ≡ Known s → helloRead (s .kind) (s .mac) frame ≡ Accepted h
-      → step g (At n (Receive mac frame buffer)) .answer ≡ Received o → o .reply ≡ Send ack time
-      → TrueTime (step g (At n (Receive mac frame buffer))) n (keyIn (s .kind) mac h) time
+      → step g (At n (Receive mac frame buffer)) .answer ≡ Received f → f .reply ≢ 0
+      → TrueTime (step g (At n (Receive mac frame buffer))) n (keyIn (s .kind) mac h) (f .time)
 
 -- ---- document 01, "Marks and holding time": "A tick removes each record with expiry at or below the clock"
 
@@ -98,7 +91,7 @@ pub record AboveClock (g : Gateway) : Type 0 where
 
 -- .. after every accepted tick
 pub record TickSweeps (g : Gateway) : Type 0 where
-  pub sweeps : (clock : ℕ) (lost hellos : List Bool) (o : TimerOutcome) → step g (Over (Tick clock)) .answer ≡ Ticked lost hellos o
+  pub sweeps : (clock : ℕ) (lost hellos : List Bool) (t : TimersAnswer) → step g (Over (Tick clock)) .answer ≡ Ticked lost hellos t
       → AboveClock (step g (Over (Tick clock)) .next)
 
 -- ---- document 01, "What the gateway holds": "A LAN circuit has room for 16 records over both levels, a P2P circuit for 1."

@@ -3,21 +3,27 @@
 use Prim.Native.Nat.{ℕ, _/_, _%_, _^_, _<_, _≤_}
 use native.Mathlib.Omega.{arith}
 use native.Mathlib.Nat.{pow-suc}
-use mathlib.Core.Path.{_≡_, refl, ap, subst}
+use mathlib.Core.Path.{_≡_, refl, subst}
 use mathlib.Core.Bool.{Bool}
 use mathlib.Core.List.{List, [], _∷_}
 use lib.ListN.{length}
 use Rattle.basics.proofs.BitLaws.{bit-le}
-use Rattle.restart_tlv.specs.declared.writer.Ack.the-variants.{Restart, Planned}
-use Rattle.basics.specs.Refusal.{refusalNo}
+use Rattle.basics.specs.Bits.{bitOf}
+use Rattle.basics.specs.Mask.{circuits}
 use Rattle.basics.specs.declared.levels.Levels.{Levels}
 use Rattle.basics.specs.declared.refusal.Refusal.{Refusal}
 use Rattle.basics.specs.declared.refusal.Refusal.the-variants.{NoCircuit, ReplyRoom, NotHello, BadLength, TlvPastEnd, BadTlv, WrongSource, WrongNeighbor, NoRoom, ClockBack, NotRestarting, BadSetting}
+use Rattle.restart_tlv.specs.declared.writer.Ack.the-variants.{Restart as RA, Planned as PA}
 use Rattle.adjacency.specs.declared.duty.Csnps.{Csnps}
 use Rattle.adjacency.specs.declared.duty.Csnps.the-variants.{Nothing, Ordered}
 use Rattle.adjacency.specs.declared.marks.Acknowledgement.{Acknowledgement}
 use Rattle.adjacency.specs.declared.marks.Acknowledgement.the-variants.{Nothing as NoReply, Send}
-use Rattle.basics.specs.declared.mask.Lowest.{Lowest}
+use Rattle.adjacency.specs.Record.{markOf}
+use Rattle.adjacency.specs.declared.record.Adjacency.the-variants.{Present}
+use Rattle.adjacency.specs.declared.record.Mark.{Mark}
+use Rattle.adjacency.specs.declared.record.Mark.the-variants.{Clear as Unmarked, Restart, Planned}
+use Rattle.adjacency.specs.declared.record.State.{State}
+use Rattle.adjacency.specs.declared.record.State.the-variants.{Init, Up}
 use Rattle.timer_parts.specs.declared.t1.Freed.{Freed}
 use Rattle.timer_parts.specs.declared.t1.Freed.the-variants.{Kept, Stopped, Reinitialise}
 use Rattle.timers.specs.declared.outcome.TimerOutcome.{TimerOutcome}
@@ -25,8 +31,10 @@ use Rattle.timers.specs.declared.outcome.TimerOutcome.the-variants.{Idle, Goes,
 use Rattle.timers.specs.declared.outcome.Overload.{Overload}
 use Rattle.timers.specs.declared.outcome.Overload.the-variants.{Quiet, Set, Clear, Both}
 use Rattle.model.specs.declared.answers.Orders.{Orders}
-use Rattle.model.specs.Answers.{Answer, Refused, Received, Ticked, Told, Fact, Done, Noticed, Looked, Metric, HelloFlags, Waits, numberOf, replyFlags, replyTime}
-use Rattle.isis_gr.specs.Numbers.{levelsNo, maskNo, csnpsNo, freedNo, overloadNo, outcomeNo, answerNo}
+use Rattle.model.specs.Numbers.{refusalNo, replyFlags, levelsNo, csnpsNo, freedNo, overloadNo, markNo, stateNo}
+use Rattle.model.specs.Answers.{Answer, Refused, Received, Ticked, Told, Fact, Done, Noticed, Looked, Metric, HelloFlags, Waits, TimersAnswer, FrameAnswer, RecordAnswer, numberOf, timersAnswer, frameAnswer, stateAnswer, lastOf}
+use Rattle.gateway.specs.Setup.{Begun}
+use Rattle.isis_gr.specs.Words.{maskNo, timersNo, frameNo, answerNo, reportNo, recordNo}
 
 -- ---- the range of each part
 
@@ -49,8 +57,8 @@ levels-le l = omega (arith, bit-le (l .one), bit-le (l .two))
 
 flags-below : (a : Acknowledgement) → replyFlags a < 256
 flags-below NoReply = omega arith
-flags-below (Send Restart time) = omega arith
-flags-below (Send Planned time) = omega arith
+flags-below (Send RA time) = omega arith
+flags-below (Send PA time) = omega arith
 
 csnps-below : (c : Csnps) → csnpsNo c < 256
 csnps-below Nothing = omega arith
@@ -67,39 +75,67 @@ overload-le Set = omega arith
 overload-le Clear = omega arith
 overload-le Both = omega arith
 
-outcome-below : (o : TimerOutcome) → outcomeNo o < 256
-outcome-below Idle = omega arith
-outcome-below (Goes spf overload) = omega (arith, levels-le spf, overload-le overload)
-outcome-below (Ended spf overload) = omega (arith, levels-le spf, overload-le overload)
+mark-le : (m : Mark) → markNo m ≤ 2
+mark-le Unmarked = omega arith
+mark-le Restart = omega arith
+mark-le Planned = omega arith
+
+state-le : (s : State) → stateNo s ≤ 2
+state-le (Init d) = omega arith
+state-le (Up d m) = omega arith
 
 -- ---- the parts
 
--- the code of a fact; the count of waiting circuits stands where others have their code
-fact-code : (f : Fact) → ((count : ℕ) (low : Lowest) → f ≡ Waits count low → ⊥) → answerNo (Told f) % 256 ≡ 0
-fact-code Done h = refl
-fact-code (Noticed o) h = omega arith
-fact-code (Looked a) h = omega arith
-fact-code (Metric n) h = omega arith
-fact-code (HelloFlags f) h = omega arith
-fact-code (Waits count low) h = absurd (h count low refl)
+fact-code : (f : Fact) → answerNo (Told f) % 256 ≡ 0
+fact-code Done = refl
+fact-code (Noticed t) = omega arith
+fact-code (Looked r) = omega arith
+fact-code (Metric n) = omega arith
+fact-code (HelloFlags flags) = omega arith
+fact-code (Waits count lowest) = omega arith
 
-pub code : (a : Answer) → ((count : ℕ) (low : Lowest) → a ≡ Told (Waits count low) → ⊥) → answerNo a % 256 ≡ numberOf a
-code (Refused x) h = omega (arith, refusal-below x)
-code (Received o) h = omega arith
-code (Ticked lost hellos o) h = omega arith
-code (Told f) h = fact-code f (λ count low e. h count low (ap Told e))
+-- of every word; every refusal's number is below 256
+pub code : (a : Answer) → numberOf a < 256 → answerNo a % 256 ≡ numberOf a
+code (Refused n) h = omega arith
+code (Received f) h = omega arith
+code (Ticked lost hellos t) h = omega arith
+code (Told f) h = fact-code f
+
+pub code-refused : (x : Refusal) → answerNo (Refused (refusalNo x)) % 256 ≡ refusalNo x
+code-refused x = code (Refused (refusalNo x)) (refusal-below x)
+
+-- the timers' digits
+pub record Timed (word : ℕ) (t : TimersAnswer) : Type 0 where
+  pub restart : word % 4 ≡ t .restart
+  pub spf : word / 4 % 4 ≡ t .spf
+  pub overload : word / 16 ≡ t .overload
+  pub below : word < 256
+
+pub timers-parts : (o : TimerOutcome) → Timed (timersNo (timersAnswer o)) (timersAnswer o)
+timers-parts Idle = record { restart = refl; spf = refl; overload = refl; below = omega arith }
+timers-parts (Goes spf overload) =
+    let a = levels-le spf in
+    let b = overload-le overload in
+    record { restart = omega arith; spf = omega arith; overload = omega arith; below = omega arith }
+timers-parts (Ended spf overload) =
+    let a = levels-le spf in
+    let b = overload-le overload in
+    record { restart = omega arith; spf = omega arith; overload = omega arith; below = omega arith }
 
 module _ (o : Orders) where
-  abbrev word : ℕ
-  word = answerNo (Received o)
+  abbrev told : FrameAnswer
+  told = frameAnswer o
 
-  pub received-parts : (word / 2 ^ 8 % 256 ≡ replyFlags (o .reply)) × (word / 2 ^ 16 % 256 ≡ csnpsNo (o .csnps)) × (word / 2 ^ 24 % 256 ≡ freedNo (o .freed))
-      × (word / 2 ^ 32 % 256 ≡ outcomeNo (o .outcome)) × (word / 2 ^ 40 ≡ replyTime (o .reply))
+  abbrev word : ℕ
+  word = answerNo (Received told)
+
+  pub received-parts : (word / 2 ^ 8 % 256 ≡ told .reply) × (word / 2 ^ 16 % 256 ≡ told .csnps) × (word / 2 ^ 24 % 256 ≡ told .freed)
+      × (word / 2 ^ 32 % 256 ≡ timersNo (told .timers)) × (word / 2 ^ 40 ≡ told .time)
   received-parts =
       let a = flags-below (o .reply) in
       let b = csnps-below (o .csnps) in
       let c = freed-below (o .freed) in
-      let d = outcome-below (o .outcome) in
+      let d : timersNo (told .timers) < 256 = timers-parts (o .outcome) .below in
       (omega arith, omega arith, omega arith, omega arith, omega arith)
 
 mask-below : (l : List Bool) → maskNo l < 2 ^ length l
@@ -107,13 +143,51 @@ unfolding maskNo
 mask-below [] = omega arith
 mask-below (b ∷ l) = omega (arith, pow-suc 2 (length l), bit-le b, mask-below l)
 
-module _ (lost hellos : List Bool) (o : TimerOutcome) (lm : length lost ≡ 8) (lh : length hellos ≡ 8) where
-  abbrev ticked : ℕ
-  ticked = answerNo (Ticked lost hellos o)
+mask-octet : (l : List Bool) → length l ≡ circuits → maskNo l < 256
+mask-octet l e = subst (λ (n : ℕ). maskNo l < 2 ^ n) e (mask-below l)
 
-  pub ticked-parts : (ticked / 2 ^ 8 % 256 ≡ maskNo lost) × (ticked / 2 ^ 16 % 256 ≡ maskNo hellos) × (ticked / 2 ^ 32 ≡ outcomeNo o)
+module _ (lost hellos : List Bool) (o : TimerOutcome) (lm : length lost ≡ circuits) (lh : length hellos ≡ circuits) where
+  abbrev ticked : ℕ
+  ticked = answerNo (Ticked lost hellos (timersAnswer o))
+
+  pub ticked-parts : (ticked / 2 ^ 8 % 256 ≡ maskNo lost) × (ticked / 2 ^ 16 % 256 ≡ maskNo hellos) × (ticked / 2 ^ 32 ≡ timersNo (timersAnswer o))
   ticked-parts =
-      let a : maskNo lost < 2 ^ 8 = subst (λ (n : ℕ). maskNo lost < 2 ^ n) lm (mask-below lost) in
-      let b : maskNo hellos < 2 ^ 8 = subst (λ (n : ℕ). maskNo hellos < 2 ^ n) lh (mask-below hellos) in
-      let d = outcome-below o in
+      let a = mask-octet lost lm in
+      let b = mask-octet hellos lh in
       (omega arith, omega arith, omega arith)
+
+-- setup's word
+pub set-up-parts : (hellos : List Bool) → length hellos ≡ circuits
+    → (reportNo (Begun hellos) % 256 ≡ 0) × (reportNo (Begun hellos) / 2 ^ 8 ≡ maskNo hellos) × (maskNo hellos < 256)
+set-up-parts hellos e = let a = mask-octet hellos e in (omega arith, omega arith, a)
+
+-- a look up's word, and the second of the two words that it writes (the first is the expiry)
+module _ (s : State) (shown : Bool) (low : lastOf s .priority < 256) where
+  abbrev found : RecordAnswer
+  found = stateAnswer s shown
+
+  abbrev looked : ℕ
+  looked = answerNo (Told (Looked found))
+
+  abbrev data′ : ℕ
+  data′ = recordNo found
+
+  pub looked-parts : (looked / 2 ^ 8 % 256 ≡ found .state) × (looked / 2 ^ 16 ≡ bitOf (found .advertised))
+  looked-parts = let a = state-le s in (omega arith, omega arith)
+
+  pub found-parts : (data′ % 4 ≡ found .mark) × (data′ / 4 % 2 ≡ bitOf (found .suppressed)) × (data′ / 8 % 2 ≡ bitOf (found .tlv))
+      × (data′ / 16 % 2 ≡ bitOf (found .reversed)) × (data′ / 32 % 2 ≡ bitOf (found .whole)) × (data′ / 64 % 2 ≡ bitOf (found .unreachable))
+      × (data′ / 2 ^ 8 % 256 ≡ found .priority) × (data′ / 2 ^ 32 ≡ found .offset)
+  found-parts =
+      let a = mark-le (markOf (Present s)) in
+      let b = bit-le (found .suppressed) in
+      let c = bit-le (found .tlv) in
+      let d = bit-le (found .reversed) in
+      let e = bit-le (found .whole) in
+      let f = bit-le (found .unreachable) in
+      (omega arith, omega arith, omega arith, omega arith, omega arith, omega arith, omega arith, omega arith)
+
+-- the circuits that wait: at most all of them
+pub waiting-parts : (count lowest : ℕ) → count < 256
+    → (answerNo (Told (Waits count lowest)) / 2 ^ 8 % 256 ≡ count) × (answerNo (Told (Waits count lowest)) / 2 ^ 16 ≡ lowest)
+waiting-parts count lowest h = (omega arith, omega arith)

@@ -6,7 +6,7 @@ use mathlib.Core.Path.{_≡_, refl}
 use lib.Dec.{eqb}
 use Rattle.basics.specs.Mask.{bitsOf}
 use Rattle.basics.specs.Bits.{bitOf}
-use Rattle.isis_gr.specs.Numbers.{maskNo}
+use Rattle.isis_gr.specs.Words.{maskNo}
 
 digit : (d : ℕ) → d < 2 → bitOf (eqb d 1) ≡ d
 digit zero h = refl

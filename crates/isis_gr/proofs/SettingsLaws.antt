@@ -11,10 +11,11 @@ use Rattle.basics.specs.declared.refusal.Refusal.the-variants.{BadSetting}
 use Rattle.basics.proofs.ListLaws.{getD-tabulate, every-here, every-skip, every-end}
 use Rattle.basics.specs.Lists.{every}
 use Rattle.settings.specs.declared.setup.Settings.{Settings}
+use Rattle.model.specs.Numbers.{refusalNo}
 use Rattle.model.specs.Gateway.{setup}
 use Rattle.model.specs.declared.answers.SetUp.{SetUp}
 use Rattle.gateway.specs.Setup.{Refused as RefusedReport, SetsUp, reportOf}
-use Rattle.isis_gr.specs.Numbers.{reportNo, modeKnown}
+use Rattle.isis_gr.specs.Words.{reportNo, modeKnown}
 use Rattle.isis_gr.specs.Settings.{circuitPlace, circuitPlaces, circuitKnown, settingsFrom, settingsKnown, setupFrom, EncodesSetup}
 
 -- ---- the circuits' numbers
@@ -58,6 +59,6 @@ module _ (s : List ℕ) {w : ℕ} {ws : List ℕ} where
   encodes-known e f m q =
       rw (e, ← f) (record { number = q ∙ ap reportNo (m .answer); next = m .next; kept = λ x y. m .kept x (m .answer ∙ y) })
 
-  pub encodes-unknown : settingsKnown s ≡ false → w ≡ reportNo (RefusedReport BadSetting) → EncodesSetup w (setupFrom s) ws ws
+  pub encodes-unknown : settingsKnown s ≡ false → w ≡ reportNo (RefusedReport (refusalNo BadSetting)) → EncodesSetup w (setupFrom s) ws ws
   unfolding setupFrom
   encodes-unknown e q = rw e (record { number = q; next = refl; kept = λ x y. refl })

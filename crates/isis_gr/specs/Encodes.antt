@@ -2,11 +2,10 @@
 use Prim.Native.Nat.{ℕ}
 use mathlib.Core.Path.{_≡_}
 use mathlib.Core.List.{List, []}
-use Rattle.basics.specs.declared.refusal.Refusal.{Refusal}
 use Rattle.model.specs.Answers.{Refused}
 use Rattle.model.specs.Step.{Outcome}
 use Rattle.gateway.specs.Words.{gatewayOf}
-use Rattle.isis_gr.specs.Numbers.{answerNo, foundWords}
+use Rattle.isis_gr.specs.Words.{answerNo, foundWords}
 
 -- The number w of a call on the words ws with the outcome o: reply buffer and gateway at exit are the outcome's, and a refusal leaves
 -- every word as it was.
@@ -14,7 +13,7 @@ pub record Encodes (w : ℕ) (o : Outcome) (ws ws′ b′ : List ℕ) : Type 0 w
   pub number : w ≡ answerNo (o .answer)
   pub reply : b′ ≡ o .reply
   pub next : gatewayOf ws′ ≡ o .next
-  pub kept : (x : Refusal) → o .answer ≡ Refused x → ws′ ≡ ws
+  pub kept : (x : ℕ) → o .answer ≡ Refused x → ws′ ≡ ws
 
 -- The same of a look up, which writes a record's two words where it found one, and else leaves them as they were.
 pub record EncodesFound (w : ℕ) (o : Outcome) (ws d d′ : List ℕ) : Type 0 where

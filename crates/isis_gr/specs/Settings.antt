@@ -13,15 +13,15 @@ use mathlib.Core.Bool.{Bool, cond, _&&_}
 use mathlib.Core.List.{List, map}
 use lib.ListN.{take}
 use Rattle.basics.specs.Octets.{octet, big}
-use Rattle.basics.specs.declared.refusal.Refusal.{Refusal}
 use Rattle.basics.specs.declared.refusal.Refusal.the-variants.{BadSetting}
 use Rattle.basics.specs.Lists.{tabulate, every}
 use Rattle.settings.specs.declared.circuit.Circuit.{Circuit}
 use Rattle.settings.specs.declared.setup.Settings.{Settings}
+use Rattle.model.specs.Numbers.{refusalNo}
 use Rattle.model.specs.Gateway.{Setup, Refused as RefusedSetup, setup}
 use Rattle.gateway.specs.Words.{gatewayOf}
 use Rattle.gateway.specs.Setup.{Refused as RefusedReport, reportIn, startedIn}
-use Rattle.isis_gr.specs.Numbers.{reportNo, modeOf, modeKnown, kindOf, kindKnown, levelsOf, levelsKnown}
+use Rattle.isis_gr.specs.Words.{reportNo, modeOf, modeKnown, kindOf, kindKnown, levelsOf, levelsKnown}
 
 abbrev pub settingsOctets : ℕ
 settingsOctets = 169
@@ -67,10 +67,10 @@ settingsKnown s = modeKnown (octet s 15) && every (circuitKnown s) (take (octet 
 
 -- document 01, "Refusals by number", 12: a number that is not known is a setting out of range
 unfoldable pub setupFrom : List ℕ → Setup
-setupFrom s = cond (settingsKnown s) (setup (settingsFrom s)) (RefusedSetup BadSetting)
+setupFrom s = cond (settingsKnown s) (setup (settingsFrom s)) (RefusedSetup (refusalNo BadSetting))
 
 -- The number w of a setup on the words ws with the outcome o: a refusal leaves every word as it was.
 pub record EncodesSetup (w : ℕ) (o : Setup) (ws ws′ : List ℕ) : Type 0 where
   pub number : w ≡ reportNo (reportIn o)
   pub next : gatewayOf ws′ ≡ startedIn (gatewayOf ws) o
-  pub kept : (x : Refusal) → reportIn o ≡ RefusedReport x → ws′ ≡ ws
+  pub kept : (x : ℕ) → reportIn o ≡ RefusedReport x → ws′ ≡ ws

@@ -1,4 +1,4 @@
-// Each answer as one word; specs/Numbers.antt gives it, case by case. A refusal's word is its number.
+// Each answer as one word; specs/Words.antt gives it, case by case. A refusal's word is its number.
 use crate::numbers::FIFTH;
 use crate::numbers::FOURTH;
 use crate::numbers::SECOND;
@@ -14,7 +14,7 @@ use crate::numbers::reply_time;
 use crate::numbers::state_number;
 use adjacency::record::Mark;
 use adjacency::record::State;
-use basics::refusal::number_of;
+use basics::bits::digit;
 use model::answers::Looked;
 use model::answers::Metric;
 use model::answers::NextFlags;
@@ -25,15 +25,18 @@ use model::answers::Released;
 use model::answers::SetUp;
 use model::answers::Ticked;
 use model::answers::Waiting;
+use model::numbers::number_of;
 ghost use mathlib.Core.Path.{_≡_};
 ghost use Prim.Native.Nat.{_≤_};
 ghost use lib.ListN.{length};
-ghost use Rattle.model.specs.Answers.{receivedOf, tickedOf, releasedOf, noticedOf, lookedOf, metricOf, flagsOf, waitingOf};
+ghost use Rattle.model.specs.Answers.{frameAnswer, recordAnswer, receivedOf, tickedOf, releasedOf, noticedOf, lookedOf, metricOf, flagsOf, waitingOf};
+ghost use Rattle.adjacency.specs.declared.record.Adjacency.the-variants.{Present};
+ghost use Rattle.basics.specs.Mask.{circuits};
 ghost use Rattle.gateway.specs.Setup.{reportOf};
-ghost use Rattle.isis_gr.specs.Numbers.{ordersNo, answerNo, reportNo, stateWords, foundWords};
+ghost use Rattle.isis_gr.specs.Words.{frameNo, answerNo, reportNo, recordWords, foundWords};
 
 fn orders_word(o: Orders) -> u64
-    ensures { λ r. ⌜ r ≡ ordersNo o ⌝ }
+    ensures { λ r. ⌜ r ≡ frameNo (frameAnswer o) ⌝ }
 {
     let reply = o.reply;
     let csnps = o.csnps;
@@ -91,7 +94,9 @@ pub(crate) fn looked_word(a: Looked) -> u32
     match a {
         Looked::Refused(x) => number_of(x) as u32,
         Looked::Nothing => 0,
-        Looked::Found(s) => 256 * state_number(s) as u32,
+        Looked::Found { state, advertised } => {
+            256 * state_number(state) as u32 + 65536 * digit(advertised) as u32
+        }
     }
 }
 
@@ -114,11 +119,11 @@ pub(crate) fn flags_word(a: NextFlags) -> u32
 }
 
 pub(crate) fn waiting_word(a: Waiting) -> u32
-    requires { ⌜ a .count ≤ 8 ⌝ }
+    requires { ⌜ a .count ≤ circuits ⌝ }
     ensures { λ r. ⌜ r ≡ answerNo (waitingOf a) ⌝ }
 {
     let low = a.lowest;
-    a.count + 256 * lowest_number(low) as u32
+    256 * a.count + 65536 * lowest_number(low) as u32
 }
 
 pub(crate) fn set_up_word(a: SetUp) -> u32
@@ -132,7 +137,7 @@ pub(crate) fn set_up_word(a: SetUp) -> u32
 
 fn write_state(out: &mut [u64], s: State)
     requires { ⌜ length (now out) ≡ 2 ⌝ }
-    ensures { λ _. ⌜ now (out .exit) ≡ stateWords s ⌝ }
+    ensures { λ _. ⌜ now (out .exit) ≡ recordWords (recordAnswer (Present s)) ⌝ }
 {
     match s {
         State::Init(d) => {
@@ -154,6 +159,9 @@ pub(crate) fn write_found(out: &mut [u64], a: Looked)
     match a {
         Looked::Refused(_) => {}
         Looked::Nothing => {}
-        Looked::Found(s) => write_state(out, s),
+        Looked::Found {
+            state,
+            advertised: _,
+        } => write_state(out, state),
     }
 }

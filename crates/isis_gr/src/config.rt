@@ -1,4 +1,4 @@
-// The settings of setup from octets; specs/Settings.antt says where each stands, and specs/Numbers.antt which numbers are known.
+// The settings of setup from octets; specs/Settings.antt says where each stands, and specs/Words.antt which numbers are known.
 use basics::kind::CircuitKind;
 use basics::levels::Levels;
 use basics::octets::four;
@@ -15,7 +15,7 @@ ghost use lib.ListN.{length, take};
 ghost use Rattle.basics.specs.Octets.{big};
 ghost use Rattle.basics.specs.Lists.{every};
 ghost use Rattle.gateway.specs.Setup.{circuitGiven, settingsGiven};
-ghost use Rattle.isis_gr.specs.Numbers.{modeOf, kindOf, levelsOf};
+ghost use Rattle.isis_gr.specs.Words.{modeOf, kindOf, levelsOf};
 ghost use Rattle.isis_gr.specs.Settings.{settingsOctets, circuitPlaces, circuitFrom, settingsFrom, circuitKnown, settingsKnown};
 
 pub const SETTINGS_OCTETS: usize = 169;

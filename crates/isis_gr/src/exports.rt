@@ -1,4 +1,4 @@
-// The calls of crate gateway, each with its answer as one word (specs/Numbers.antt). The lowest octet is the code: 0 where the call was
+// The calls of crate gateway, each with its answer as one word (specs/Words.antt). The lowest octet is the code: 0 where the call was
 // done, else the refusal's number, which then is the whole word. A refusal leaves every lent word and octet as it was.
 use crate::answers::flags_word;
 use crate::answers::looked_word;
@@ -142,7 +142,7 @@ pub extern "C" fn isis_gr_raw_next_hello_flags(gateway: &[u64; GATEWAY_WORDS], c
     flags_word(next_hello_flags(gateway, circuit))
 }
 
-// The lowest octet is the count, since this call is never refused.
+// How many circuits wait for T1, and the lowest.
 #[no_mangle]
 pub extern "C" fn isis_gr_raw_waiting(gateway: &[u64; GATEWAY_WORDS]) -> u32
     ensures { λ r. ⌜ Encodes r (step (gatewayOf (now (gateway .entry))) (Over Waiting)) (now (gateway .entry)) (now (gateway .entry)) [] ⌝ }

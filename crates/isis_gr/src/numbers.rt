@@ -1,4 +1,4 @@
-// The parts of an answer as numbers; specs/Numbers.antt gives each, case by case.
+// The parts of an answer as numbers: model's table of them, case by case, and what specs/Words.antt packs.
 use adjacency::duty::Csnps;
 use adjacency::marks::Acknowledgement;
 use adjacency::record::Data;
@@ -16,8 +16,11 @@ use timers::outcome::TimerOutcome;
 ghost use mathlib.Core.Path.{_≡_};
 ghost use Prim.Native.Nat.{_+_, _^_, _≤_, _<_};
 ghost use Rattle.restart_tlv.specs.Restart.{ackFlag};
-ghost use Rattle.model.specs.Answers.{replyFlags, replyTime, lowestNo};
-ghost use Rattle.isis_gr.specs.Numbers.{levelsNo, csnpsNo, freedNo, overloadNo, outcomeNo, markNo, reverseNo, dataNo, stateNo};
+ghost use Rattle.model.specs.Numbers.{replyFlags, replyTime, lowestNo, levelsNo, csnpsNo, freedNo, overloadNo, markNo, stateNo};
+ghost use Rattle.model.specs.Answers.{timersAnswer, recordAnswer, isReversed, offsetOf, wholeOf, unreachableOf};
+ghost use Rattle.adjacency.specs.declared.record.Adjacency.the-variants.{Present};
+ghost use Rattle.adjacency.specs.declared.record.State.the-variants.{Up};
+ghost use Rattle.isis_gr.specs.Words.{timersNo, reverseNo, recordNo};
 
 // The first digit of each octet of a word, from the second on.
 pub const SECOND: u64 = 256;
@@ -67,7 +70,7 @@ fn overload_number(o: Overload) -> u8
 }
 
 pub(crate) fn outcome_number(o: TimerOutcome) -> u8
-    ensures { λ r. ⌜ r ≡ outcomeNo o ⌝ }
+    ensures { λ r. ⌜ r ≡ timersNo (timersAnswer o) ⌝ }
 {
     match o {
         TimerOutcome::Idle => 0,
@@ -127,7 +130,7 @@ fn mark_number(m: Mark) -> u8
 }
 
 fn reverse_number(m: ReverseMetric) -> u64
-    ensures { λ r. ⌜ (r ≡ reverseNo m) × (r + 2 ^ 31 < 2 ^ 64) ⌝ }
+    ensures { λ r. ⌜ (r ≡ reverseNo (isReversed m) (offsetOf m) (wholeOf m) (unreachableOf m)) × (r + 2 ^ 31 < 2 ^ 64) ⌝ }
 {
     match m {
         ReverseMetric::Absent => 0,
@@ -140,7 +143,7 @@ fn reverse_number(m: ReverseMetric) -> u64
 }
 
 pub(crate) fn data_number(m: Mark, d: Data) -> u64
-    ensures { λ r. ⌜ r ≡ dataNo m d ⌝ }
+    ensures { λ r. ⌜ r ≡ recordNo (recordAnswer (Present (Up d m))) ⌝ }
 {
     let last = d.last;
     let reverse = last.reverse;

@@ -6,8 +6,7 @@ use mathlib.Core.Path.{_≡_, refl, sym, ap, _∙_}
 use mathlib.Core.Logic.{_≢_}
 use mathlib.Core.Bool.{Bool, true, false, cond, true≢false, false≢true}
 use mathlib.Core.List.{List, []}
-use lib.ListN.{length}
-use lib.Dec.{ltb, eqb}
+use lib.Dec.{eqb}
 use borrow.Author.Tests.{eqb-true, eqb-false}
 use Rattle.basics.proofs.BoolLaws.{by-test}
 use Rattle.hello.specs.Hello.{helloRead}
@@ -42,7 +41,7 @@ use Rattle.settings.specs.declared.circuit.Circuit.{Circuit}
 use Rattle.control.specs.Common.{Common, withTimers}
 use Rattle.room.specs.Accept.{ifRoom, decided, kept}
 use Rattle.model.specs.Gateway.{Room}
-use Rattle.model.specs.Receive.{Acted, refuse, hereOf, saidOf, accepted, reacted, decidedIn, checked, readIn, receive}
+use Rattle.model.specs.Receive.{Acted, refuse, hereOf, saidOf, accepted, reacted, decidedIn, checked, readIn, isShort, receive}
 use Rattle.model.specs.Step.{Local, Receive, Release, CsnpComplete, LookUp, LinkMetric, NextHello, csnpComplete, asksLevel, lookUp, linkMetricOf, nextHello, act}
 use Rattle.model.specs.Claim.{Neighbour, isSent, isNine, unordered, comparedThere}
 
@@ -102,7 +101,7 @@ module _ (n : ℕ) (s : Circuit) (mac : ℕ) (lan : s .kind ≡ Lan) (buf : List
   reacted-its : (h : Hello) (k : Key) (a : Reaction) → k .mac ≡ mac → ButFor mac (reacted n s h k buf a c r .room .slots) (r .slots)
   unfolding reacted refuse accepted
   reacted-its h k (RefusedReaction x) e = but-for-refl mac (r .slots)
-  reacted-its h k (Accepted after reply line) e = kept-but-for k after (r .slots) e
+  reacted-its h k (Accepted after reply line) e = kept-but-for k _ (r .slots) e
 
   checked-its : (h : Hello) → ButFor mac (checked n s mac buf h c r .room .slots) (r .slots)
   unfolding checked decidedIn refuse
@@ -118,7 +117,7 @@ module _ (n : ℕ) (s : Circuit) (mac : ℕ) (lan : s .kind ≡ Lan) (buf : List
   receive-its : (frame : List ℕ) → ButFor mac (receive n s mac frame buf c r .room .slots) (r .slots)
   unfolding receive refuse
   receive-its frame =
-      by-test (ltb (length buf) 11) (λ e. rw e (but-for-refl mac (r .slots)))
+      by-test (isShort buf) (λ e. rw e (but-for-refl mac (r .slots)))
       (λ e. rw e (read-its (helloRead (s .kind) (s .mac) frame)))
 
 pub act-its : (b : Neighbour) (n : ℕ) (s : Circuit) (l : Local) (c : Common) (r : Room) → s .kind ≡ Lan → isSent b l ≡ true
@@ -151,7 +150,7 @@ module _ (b : Neighbour) (n : ℕ) (s : Circuit) (mac : ℕ) (frame buf : List �
       → crowded k (r₁ .slots) ≡ false → crowded k (r₂ .slots) ≡ false
       → Both (accepted n s h k buf after reply line c r₁) (accepted n s h k buf after reply line c r₂)
   unfolding accepted comparedThere unordered
-  both-accepted h k after reply line e₁ e₂ h₁ h₂ = record { room = but-for-kept k after e₁ e₂ near; answer = refl; reply = refl }
+  both-accepted h k after reply line e₁ e₂ h₁ h₂ = record { room = but-for-kept k _ e₁ e₂ near; answer = refl; reply = refl }
 
   reacted-both : (h : Hello) (k : Key) (a : Reaction)
       → Both (reacted n s h k buf (ifRoom (crowded k (r₁ .slots)) a) c r₁) (reacted n s h k buf (ifRoom (crowded k (r₂ .slots)) a) c r₂)
@@ -178,7 +177,7 @@ module _ (b : Neighbour) (n : ℕ) (s : Circuit) (mac : ℕ) (frame buf : List �
   receive-both : s .kind ≡ Lan → mac ≢ b .mac → Both (receive n s mac frame buf c r₁) (receive n s mac frame buf c r₂)
   unfolding receive
   receive-both lan other =
-      by-test (ltb (length buf) 11) (λ e. rw e (both-refuse ReplyRoom))
+      by-test (isShort buf) (λ e. rw e (both-refuse ReplyRoom))
       (λ e. rw e (read-both lan other (helloRead (s .kind) (s .mac) frame)))
 
 -- in the mode Running the notice is refused, by the level
@@ -232,7 +231,7 @@ module _ (n : ℕ) (s : Circuit) (c : Common) (r : Room) (run : c .timers .mode 
   pub act-common : (l : Local) → act n s l c r .common ≡ c
   unfolding act receive refuse lookUp linkMetricOf nextHello
   act-common (Receive mac frame buf) =
-      by-test (ltb (length buf) 11) (λ e. rw e) (λ e. rw e (read-common mac buf (helloRead (s .kind) (s .mac) frame)))
+      by-test (isShort buf) (λ e. rw e) (λ e. rw e (read-common mac buf (helloRead (s .kind) (s .mac) frame)))
   act-common Release = refl
   act-common (CsnpComplete level) = rw (csnp-refused n s level c r run)
   act-common (LookUp k) = by-test (asksLevel (s .kind) (s .levels) (k .level)) (λ e. rw e) (λ e. rw e)

@@ -12,7 +12,8 @@ use Rattle.settings.specs.declared.setup.Settings.{Settings}
 use Rattle.control.specs.Common.{setupCommon}
 use Rattle.model.specs.Gateway.{Gateway, Started, newGateway, setup}
 use Rattle.model.specs.Step.{Call}
-use Rattle.model.specs.Claim.{Neighbour, isIts, shared, run, Agreeing, end, next, Isolation}
+use Rattle.model.specs.Trace.{trace}
+use Rattle.model.specs.Claim.{Neighbour, isIts, shared, observed, Agreeing, end, next, Isolation}
 use Rattle.model.proofs.ButFor.{but-for-refl}
 use Rattle.model.proofs.Near.{Near, near-sym, step-kept, its-near}
 
@@ -44,8 +45,8 @@ alike b (x ∷ xs) ys e =
     by-test (isIts b x) (λ q. first x q (go ys (rw q at e))) (λ q. meet b x xs q go ys (rw q at e))
 
 agreeing : {b : Neighbour} {xs ys : List Call} → Alike b xs ys → (s₁ s₂ : Bool) (g₁ g₂ : Gateway) → Near b s₁ s₂ g₁ g₂
-    → Agreeing b (run b s₁ g₁ xs) (run b s₂ g₂ ys)
-unfolding run
+    → Agreeing b (observed b s₁ (trace g₁ xs)) (observed b s₂ (trace g₂ ys))
+unfolding observed trace
 agreeing none-left s₁ s₂ g₁ g₂ n = end
 agreeing {b} (both c e r) s₁ s₂ g₁ g₂ n =
     let k = step-kept b s₁ s₂ g₁ g₂ n c e in rw e (next (k .agree) (agreeing r _ _ _ _ (k .near)))

@@ -5,7 +5,7 @@ use mathlib.Core.Logic.{_≢_}
 use mathlib.Core.Bool.{Bool, true, false, not, _&&_, true≢false, false≢true}
 use mathlib.Core.List.{List, map}
 use lib.ListN.{length, length-map}
-use lib.Dec.{ltb, eqb}
+use lib.Dec.{eqb}
 use borrow.Author.Tests.{eqb-true, eqb-false, eq-eqb}
 use Rattle.basics.proofs.BoolLaws.{by-test, and-left, and-false}
 use Rattle.basics.specs.declared.kind.CircuitKind.{CircuitKind}
@@ -17,17 +17,16 @@ use Rattle.room.specs.Table.{find, sweep}
 use Rattle.basics.specs.Lists.{some}
 use Rattle.timers.specs.Timers.{toT3}
 use Rattle.settings.specs.declared.mode.Mode.the-variants.{Running}
-use Rattle.timers.specs.declared.outcome.TimerOutcome.{TimerOutcome}
 use Rattle.timers.proofs.TimersLaws.{mode-running}
 use Rattle.settings.specs.Settings.{enabledLevels}
 use Rattle.settings.specs.declared.circuit.Circuit.{Circuit}
 use Rattle.control.specs.Common.{Common, circuitOf}
 use Rattle.settings.specs.declared.circuit.Chosen.{Chosen}
 use Rattle.settings.specs.declared.circuit.Chosen.the-variants.{Known, Unknown}
-use Rattle.model.specs.Answers.{Answer}
+use Rattle.model.specs.Answers.{Answer, TimersAnswer}
 use Rattle.model.specs.Gateway.{Room, Gateway, numbered, renew, noRoom, roomOf, recordAt}
 use Rattle.model.specs.Receive.{Acted}
-use Rattle.model.specs.Step.{Local, Global, Tick, DatabaseComplete, Waiting, Call, At, Over, Outcome, act, lift, on, Judged, Refused as RefusedCall, Sweep, Tell, noneOf, tickOf, databaseOf, judge, sweptRoom, lapsed, carry, step}
+use Rattle.model.specs.Step.{Local, Global, Tick, DatabaseComplete, Waiting, Call, At, Over, Outcome, act, lift, on, Judged, Refused as RefusedCall, Sweep, Tell, noneOf, isBack, tickOf, databaseOf, judge, sweptRoom, lapsed, carry, step}
 use Rattle.model.specs.Claim.{Neighbour, isSent, isIts, isLan, isThere, still, Observation, withoutLost, compared, Agree}
 use Rattle.model.proofs.Lists.{renew-both, length-renew, renew-numbered, numbered-map, ext-numbered}
 use Rattle.model.proofs.ButFor.{ButFor, but-for-refl, but-for-sym, but-for-trans, but-for-find, but-for-sweep, Same, act-its, act-both, act-common}
@@ -101,7 +100,7 @@ kept-of-near b s₁ s₂ c x y n away there =
 
 data Steady (c : Common) : Judged → Type 0 where
   refusing : {x : Refusal} → Steady c (RefusedCall x)
-  sweeping : {clock : ℕ} {d : Common} {hellos : List Bool} {o : TimerOutcome} → d .timers .mode ≡ Running → d .circuits ≡ c .circuits
+  sweeping : {clock : ℕ} {d : Common} {hellos : List Bool} {o : TimersAnswer} → d .timers .mode ≡ Running → d .circuits ≡ c .circuits
       → Steady c (Sweep clock d hellos o)
   telling : {d : Common} {a : Answer} → d .timers .mode ≡ Running → d .circuits ≡ c .circuits → Steady c (Tell d a)
 
@@ -110,7 +109,7 @@ unfolding judge tickOf databaseOf
 judge-steady c (Tick clock) run =
     by-test (noneOf (c .circuits)) (λ h. rw h (telling run refl))
     (λ h.
-    by-test (ltb clock (c .clock)) (λ e. rw (h, e) refusing)
+    by-test (isBack clock c) (λ e. rw (h, e) refusing)
     (λ e. rw (h, e) (sweeping (mode-running (c .timers) run (toT3 (c .lengths) clock)) refl)))
 judge-steady c (DatabaseComplete level) run =
     by-test (hasLevel (enabledLevels (c .circuits)) level) (λ h. rw (h, run) refusing) (λ h. rw h refusing)

@@ -4,8 +4,6 @@ use native.Mathlib.Omega.{arith}
 use mathlib.Core.Path.{_≡_, refl, ap, _∙_}
 use mathlib.Core.Bool.{Bool, true, false, cond}
 use mathlib.Core.List.{List, []}
-use lib.ListN.{length}
-use lib.Dec.{ltb}
 use Rattle.basics.proofs.BoolLaws.{by-test}
 use Rattle.hello.specs.Hello.{helloRead}
 use Rattle.hello.specs.declared.read.Hello.{Hello}
@@ -19,7 +17,6 @@ use Rattle.adjacency.specs.declared.react.Reaction.{Reaction}
 use Rattle.adjacency.specs.declared.react.Reaction.the-variants.{Refused as RefusedReaction, Accepted}
 use Rattle.adjacency.specs.declared.record.Key.{Key}
 use Rattle.settings.specs.Mode.{isRestarting}
-use Rattle.timers.specs.declared.outcome.TimerOutcome.{TimerOutcome}
 use Rattle.settings.specs.Settings.{enabledLevels}
 use Rattle.settings.specs.declared.circuit.Circuit.{Circuit}
 use Rattle.control.specs.Common.{Common, circuitOf}
@@ -27,10 +24,10 @@ use Rattle.settings.specs.declared.circuit.Chosen.{Chosen}
 use Rattle.settings.specs.declared.circuit.Chosen.the-variants.{Known, Unknown}
 use Rattle.adjacency.specs.Keys.{keyIn}
 use Rattle.room.specs.Accept.{decided}
-use Rattle.model.specs.Answers.{Refused, Told, Fact}
+use Rattle.model.specs.Answers.{Refused, Told, Fact, TimersAnswer}
 use Rattle.model.specs.Gateway.{Gateway, Room, withRooms, renew, noRoom, roomOf}
-use Rattle.model.specs.Receive.{Acted, refuse, hereOf, accepted, reacted, decidedIn, checked, readIn, receive}
-use Rattle.model.specs.Step.{Outcome, Local, Receive, Release, CsnpComplete, LookUp, LinkMetric, NextHello, Global, Tick, DatabaseComplete, Waiting, At, Over, told, asksLevel, csnpComplete, lookUp, linkMetricOf, nextHello, act, lent, lift, on, Judged, Refused as RefusedCall, Sweep, Tell, noneOf, quiet, tickOf, databaseOf, judge, carry, step}
+use Rattle.model.specs.Receive.{Acted, refuse, hereOf, accepted, reacted, decidedIn, checked, readIn, isShort, receive}
+use Rattle.model.specs.Step.{Outcome, Local, Receive, Release, CsnpComplete, LookUp, LinkMetric, NextHello, Global, Tick, DatabaseComplete, Waiting, At, Over, told, asksLevel, csnpComplete, lookUp, linkMetricOf, nextHello, act, lent, lift, on, Judged, Refused as RefusedCall, Sweep, Tell, noneOf, quiet, isBack, tickOf, databaseOf, judge, carry, step}
 use Rattle.model.specs.Refusals.{RefusalsKeep}
 use Rattle.model.proofs.Lists.{renew-numbered}
 
@@ -44,7 +41,7 @@ pub record Left (b : List ℕ) (c : Common) (r : Room) (a : Acted) : Type 0 wher
 
 module _ (b : List ℕ) (c : Common) (r : Room) where
   abbrev Keeps : Acted → Type 0
-  Keeps a = (x : Refusal) → a .answer ≡ Refused x → Left b c r a
+  Keeps a = (x : ℕ) → a .answer ≡ Refused x → Left b c r a
 
   refuse-keeps : (x : Refusal) → Keeps (refuse b x c r)
   unfolding refuse
@@ -69,7 +66,7 @@ module _ (b : List ℕ) (c : Common) (r : Room) where
   receive-keeps : (n : ℕ) (s : Circuit) (mac : ℕ) (frame : List ℕ) → Keeps (receive n s mac frame b c r)
   unfolding receive
   receive-keeps n s mac frame =
-      by-test (ltb (length b) 11) (λ t. rw t (refuse-keeps ReplyRoom)) (λ t. rw t (read-keeps n s mac (helloRead (s .kind) (s .mac) frame)))
+      by-test (isShort b) (λ t. rw t (refuse-keeps ReplyRoom)) (λ t. rw t (read-keeps n s mac (helloRead (s .kind) (s .mac) frame)))
 
 told-keeps : (b : List ℕ) (c d : Common) (r q : Room) (f : Fact) → Keeps b c r (told f d q)
 told-keeps b c d r q f x e = absurd (let z : _≡_ {A = ℕ} 0 1 = cc in omega arith)
@@ -89,7 +86,7 @@ act-keeps n s NextHello c r = told-keeps [] c _ r _ _
 -- ---- every call
 
 abbrev Stays : Gateway → List ℕ → Outcome → Type 0
-Stays g b o = (x : Refusal) → o .answer ≡ Refused x → (o .next ≡ g) × (o .reply ≡ b)
+Stays g b o = (x : ℕ) → o .answer ≡ Refused x → (o .next ≡ g) × (o .reply ≡ b)
 
 on-stays : (g : Gateway) (n : ℕ) (l : Local) (q : Chosen) → Stays g (lent l) (on g n l q)
 unfolding on lift
@@ -111,7 +108,7 @@ module _ (g : Gateway) where
   unfolding carry
   refusing x = λ y e. (refl, refl)
 
-  swept-carried : (clock : ℕ) (c : Common) (hellos : List Bool) (o : TimerOutcome) → Carried (Sweep clock c hellos o)
+  swept-carried : (clock : ℕ) (c : Common) (hellos : List Bool) (o : TimersAnswer) → Carried (Sweep clock c hellos o)
   unfolding carry
   swept-carried clock c hellos o = λ y e. absurd (let z : _≡_ {A = ℕ} 0 1 = cc in omega arith)
 
@@ -127,7 +124,7 @@ module _ (g : Gateway) where
   unfolding judge tickOf databaseOf
   judged c (Tick clock) =
       cond-carried (noneOf (c .circuits)) _ _ (quiet-carried c)
-      (cond-carried (ltb clock (c .clock)) _ _ (refusing ClockBack) (swept-carried clock _ _ _))
+      (cond-carried (isBack clock c) _ _ (refusing ClockBack) (swept-carried clock _ _ _))
   judged c (DatabaseComplete level) =
       cond-carried (hasLevel (enabledLevels (c .circuits)) level) _ _ (cond-carried (isRestarting (c .timers .mode)) _ _ (told-carried _ _) (refusing NotRestarting)) (refusing NoCircuit)
   judged c Waiting = told-carried c _

@@ -1,4 +1,4 @@
--- Document 01, "Sample runs", C1 to C10, evaluated.
+-- Document 01, "Sample runs", C1 to C10, and the rows beside them, evaluated.
 use mathlib.Core.Path.{refl}
 use lib.Count.{ones}
 use Rattle.basics.specs.Octets.{big, hasBits, octetsOf}
@@ -22,7 +22,7 @@ use Rattle.timer_parts.specs.T1.{startEntry, due, helloDue, tickT1, done, satis
 use Rattle.timer_parts.specs.T2.{startTimer, startT2s, anyT2, anyAfter, cancelT2, cancelBoth, expireT2, expireBoth, spfDue}
 use Rattle.timer_parts.specs.T3.{lowerT3, heardT3, expiresT3, expiredT3}
 use Rattle.timers.specs.Timers.{withT1s, withT2s, withT3, anyRuns, noT1, atT1, tickT1s, expireT2s, waits, cancelT2s, tickT3, finish, closed, settled, toT3, heardIn}
-use Rattle.timers.specs.Outcome.{overloadOf, overloadDue, outcomeWith, outcomeOf, ordered, heardFreed}
+use Rattle.timers.specs.Outcome.{overloadOf, overloadDue, outcomeWith, outcomeOf, ordered, tickHellos, heardFreed}
 use Rattle.timers.specs.Events.{startHead, startT1, startHellos, started}
 use Rattle.basics.specs.Lists.{every, some}
 use Rattle.settings.specs.Settings.{circuitOk, lengthsOk, settingsOk, enabledLevels}
@@ -30,10 +30,18 @@ use Rattle.control.specs.Common.{circuitOf, setupCommon}
 use Rattle.room.specs.Accept.{ifRoom, decided, kept, written, csnpsIn}
 use Rattle.model.specs.Gateway.{numbered, renew, recordAt, newGateway, setup}
 use Rattle.model.specs.Receive.{refuse, accepted, reacted, decidedIn, checked, readIn, receive}
-use Rattle.model.specs.Step.{linkMetricOf, act, lift, on, noneOf, tickOf, judge, carry, step}
-use Rattle.model.specs.SampleFrames.{taken, played, playedAll}
+use Rattle.model.specs.Step.{csnpComplete, lookUp, linkMetricOf, act, lift, on, noneOf, tickOf, databaseOf, judge, carry, step}
+use Rattle.model.specs.Trace.{trace, leftBy}
+use Rattle.model.specs.SampleFrames.{callsOf, seenBy}
 use Rattle.model.specs.SampleRuns.{SampleRuns}
+use Rattle.model.specs.SampleCalls.{SampleCalls}
+
+rows : SampleRuns × SampleCalls
+unfolding ones big hasBits octetsOf tlvs tlvsUp cutAt ofType loneFault unless counted without invalid needsNeighbor needsTime leastLength restartBad restartWith timeOf neighborOf restartOctets layoutOf notHello badLength threeWayBad threeWayLength stateOf identifiersOf reverseBad reverseOf linkFault earlier ruleFault tlvsRead pduRead layoutRead helloRead wrongSource wrongId wrongNeighbor linkStep keptUp stepOf planned lineBy lineOf dataBy acceptedBy lineIn reactOf csnpsOf sameKey find has full crowded replace insert put sweep firstState emptyRoom heldTo bitsOf acknowledges heardTlv heardOf startEntry due helloDue tickT1 done satisfied acknowledged heardT1 freedBy startTimer startT2s anyT2 anyAfter cancelT2 cancelBoth expireT2 expireBoth spfDue lowerT3 heardT3 expiresT3 expiredT3 withT1s withT2s withT3 anyRuns noT1 atT1 tickT1s expireT2s waits cancelT2s tickT3 finish closed settled toT3 heardIn overloadOf overloadDue outcomeWith outcomeOf ordered tickHellos heardFreed startHead startT1 startHellos started every some circuitOk lengthsOk settingsOk enabledLevels circuitOf setupCommon keyOn ifRoom decided kept written csnpsIn numbered renew recordAt newGateway setup refuse accepted reacted decidedIn checked readIn receive csnpComplete lookUp linkMetricOf act lift on noneOf tickOf databaseOf judge carry step trace leftBy callsOf seenBy
+rows = ((refl, refl, (refl, refl), refl, (refl, refl, refl)), (refl, refl, refl, refl, refl))
 
 pub sample-runs : SampleRuns
-unfolding ones big hasBits octetsOf tlvs tlvsUp cutAt ofType loneFault unless counted without invalid needsNeighbor needsTime leastLength restartBad restartWith timeOf neighborOf restartOctets layoutOf notHello badLength threeWayBad threeWayLength stateOf identifiersOf reverseBad reverseOf linkFault earlier ruleFault tlvsRead pduRead layoutRead helloRead wrongSource wrongId wrongNeighbor linkStep keptUp stepOf planned lineBy lineOf dataBy acceptedBy lineIn reactOf csnpsOf sameKey find has full crowded replace insert put sweep firstState emptyRoom heldTo bitsOf acknowledges heardTlv heardOf startEntry due helloDue tickT1 done satisfied acknowledged heardT1 freedBy startTimer startT2s anyT2 anyAfter cancelT2 cancelBoth expireT2 expireBoth spfDue lowerT3 heardT3 expiresT3 expiredT3 withT1s withT2s withT3 anyRuns noT1 atT1 tickT1s expireT2s waits cancelT2s tickT3 finish closed settled toT3 heardIn overloadOf overloadDue outcomeWith outcomeOf ordered heardFreed startHead startT1 startHellos started every some circuitOk lengthsOk settingsOk enabledLevels circuitOf setupCommon keyOn ifRoom decided kept written csnpsIn numbered renew recordAt newGateway setup refuse accepted reacted decidedIn checked readIn receive linkMetricOf act lift on noneOf tickOf judge carry step taken played playedAll
-sample-runs = (refl, refl, (refl, refl), refl, (refl, refl, refl))
+sample-runs = rows .0
+
+pub sample-calls : SampleCalls
+sample-calls = rows .1

@@ -1,21 +1,21 @@
--- What calls answer (document 01, "What the gateway holds" and "Refusals by number"), and for each answer of the code, case by case,
--- which one it is.
+-- What calls answer, in numbers (document 01, "What the gateway holds" and "Refusals by number"), and for each answer of the code, case by
+-- case, which one it is.
 use Prim.Native.Nat.{ℕ}
-use mathlib.Core.Bool.{Bool}
+use mathlib.Core.Bool.{Bool, true, false}
 use mathlib.Core.List.{List}
-use Rattle.timers.specs.Events.{helloBits}
-use Rattle.restart_tlv.specs.Restart.{ackFlag}
-use Rattle.restart_tlv.specs.declared.flags.Flags.{Flags}
-use Rattle.basics.specs.Refusal.{refusalNo}
-use Rattle.basics.specs.declared.refusal.Refusal.{Refusal}
-use Rattle.adjacency.specs.declared.marks.Acknowledgement.{Acknowledgement}
-use Rattle.adjacency.specs.declared.marks.Acknowledgement.the-variants.{Nothing, Send}
+use Rattle.basics.specs.Mask.{circuits, bitsOf}
+use Rattle.hello.specs.declared.reverse.ReverseMetric.{ReverseMetric}
+use Rattle.hello.specs.declared.reverse.ReverseMetric.the-variants.{Absent as NoReverse, Present as Reverse}
+use Rattle.adjacency.specs.Record.{advertised, expiryOf, markOf, suppressedOf}
 use Rattle.adjacency.specs.declared.record.Adjacency.{Adjacency}
 use Rattle.adjacency.specs.declared.record.Adjacency.the-variants.{Absent, Present}
-use Rattle.basics.specs.Mask.{circuits, bitsOf}
-use Rattle.basics.specs.declared.mask.Lowest.{Lowest}
-use Rattle.basics.specs.declared.mask.Lowest.the-variants.{Circuit, Nothing as NoCircuit}
+use Rattle.adjacency.specs.declared.record.Last.{Last}
+use Rattle.adjacency.specs.declared.record.State.{State}
+use Rattle.adjacency.specs.declared.record.State.the-variants.{Init, Up}
+use Rattle.timers.specs.Events.{helloBits}
 use Rattle.timers.specs.declared.outcome.TimerOutcome.{TimerOutcome}
+use Rattle.timers.specs.declared.outcome.TimerOutcome.the-variants.{Idle, Goes, Ended}
+use Rattle.model.specs.Numbers.{refusalNo, replyFlags, replyTime, lowestNo, levelsNo, csnpsNo, freedNo, overloadNo, markNo, stateNo}
 use Rattle.model.specs.declared.answers.Orders.{Orders}
 use Rattle.model.specs.declared.answers.Received.{Received as ReceivedCode}
 use Rattle.model.specs.declared.answers.Received.the-variants.{Refused as RefusedFrame, Done as DoneFrame}
@@ -33,44 +33,136 @@ use Rattle.model.specs.declared.answers.NextFlags.{NextFlags}
 use Rattle.model.specs.declared.answers.NextFlags.the-variants.{Refused as RefusedFlags, Next}
 use Rattle.model.specs.declared.answers.Waiting.{Waiting}
 
+-- ---- the parts of an answer
+
+-- how the timers ended: 0 in the mode Running before the call, 1 the restart goes on, 2 it ended in this call; the levels whose SPF is
+-- ordered; and what is ordered of overload
+pub record TimersAnswer : Type 0 where
+  pub restart : ℕ
+  pub spf : ℕ
+  pub overload : ℕ
+
+-- an accepted frame: the reply's flags and Remaining Time, the levels of line 1's order, T1's end for want of a Restart TLV, the timers
+pub record FrameAnswer : Type 0 where
+  pub reply : ℕ
+  pub time : ℕ
+  pub csnps : ℕ
+  pub freed : ℕ
+  pub timers : TimersAnswer
+
+-- a record with all its data; of one that is not there every number is 0
+pub record RecordAnswer : Type 0 where
+  pub state : ℕ
+  pub advertised : Bool
+  pub expiry : ℕ
+  pub mark : ℕ
+  pub suppressed : Bool
+  pub tlv : Bool
+  pub priority : ℕ
+  pub reversed : Bool
+  pub offset : ℕ
+  pub whole : Bool
+  pub unreachable : Bool
+
 -- what is told by a call that asks, or that only says it was done
 pub data Fact : Type 0 where
   Done : Fact
-  Noticed : TimerOutcome → Fact
-  Looked : Adjacency → Fact
+  Noticed : TimersAnswer → Fact
+  Looked : RecordAnswer → Fact
   Metric : ℕ → Fact
-  HelloFlags : Flags → Fact
-  Waits : (count : ℕ) → Lowest → Fact
+  HelloFlags : (flags : ℕ) → Fact
+  Waits : (count lowest : ℕ) → Fact
 
--- marks: the circuits that lost a record; hellos: those whose hello is ordered; circuit 1 first
+-- "A refusal returns its number only". Of a tick, lost: the circuits that lost a record; hellos: those whose hello is ordered; circuit 1
+-- first.
 pub data Answer : Type 0 where
-  Refused : Refusal → Answer
-  Received : Orders → Answer
-  Ticked : (lost hellos : List Bool) → TimerOutcome → Answer
+  Refused : (number : ℕ) → Answer
+  Received : FrameAnswer → Answer
+  Ticked : (lost hellos : List Bool) → TimersAnswer → Answer
   Told : Fact → Answer
 
--- ---- document 01's numbers
-
--- "A refusal returns its number only"; 0 where the call was done
+-- the number of a refusal; 0 where the call was done
 abbrev pub numberOf : Answer → ℕ
-numberOf (Refused x) = refusalNo x
-numberOf (Received o) = 0
-numberOf (Ticked lost hellos o) = 0
+numberOf (Refused n) = n
+numberOf (Received f) = 0
+numberOf (Ticked lost hellos t) = 0
 numberOf (Told f) = 0
 
--- the flags of the reply, "RA or PA alone", 0 without one; and its Remaining Time
-abbrev pub replyFlags : Acknowledgement → ℕ
-replyFlags Nothing = 0
-replyFlags (Send ack time) = ackFlag ack
+-- ---- the parts, of the code's
 
-abbrev pub replyTime : Acknowledgement → ℕ
-replyTime Nothing = 0
-replyTime (Send ack time) = time
+abbrev pub timersAnswer : TimerOutcome → TimersAnswer
+timersAnswer Idle = record { restart = 0; spf = 0; overload = 0 }
+timersAnswer (Goes spf overload) = record { restart = 1; spf = levelsNo spf; overload = overloadNo overload }
+timersAnswer (Ended spf overload) = record { restart = 2; spf = levelsNo spf; overload = overloadNo overload }
 
--- "the lowest such circuit (or none)": 0 for none
-abbrev pub lowestNo : Lowest → ℕ
-lowestNo NoCircuit = 0
-lowestNo (Circuit n) = n
+abbrev pub frameAnswer : Orders → FrameAnswer
+frameAnswer o =
+    record {
+      reply = replyFlags (o .reply);
+      time = replyTime (o .reply);
+      csnps = csnpsNo (o .csnps);
+      freed = freedNo (o .freed);
+      timers = timersAnswer (o .outcome);
+    }
+
+-- what is kept of a record's last frame
+abbrev pub lastOf : State → Last
+lastOf (Init d) = d .last
+lastOf (Up d m) = d .last
+
+abbrev pub isReversed : ReverseMetric → Bool
+isReversed NoReverse = false
+isReversed (Reverse offset whole unreachable) = true
+
+abbrev pub offsetOf : ReverseMetric → ℕ
+offsetOf NoReverse = 0
+offsetOf (Reverse offset whole unreachable) = offset
+
+abbrev pub wholeOf : ReverseMetric → Bool
+wholeOf NoReverse = false
+wholeOf (Reverse offset whole unreachable) = whole
+
+abbrev pub unreachableOf : ReverseMetric → Bool
+unreachableOf NoReverse = false
+unreachableOf (Reverse offset whole unreachable) = unreachable
+
+-- a record in this state, which is advertised or not
+abbrev pub stateAnswer : State → Bool → RecordAnswer
+stateAnswer s shown =
+    record {
+      state = stateNo s;
+      advertised = shown;
+      expiry = expiryOf s;
+      mark = markNo (markOf (Present s));
+      suppressed = suppressedOf (Present s);
+      tlv = lastOf s .tlv;
+      priority = lastOf s .priority;
+      reversed = isReversed (lastOf s .reverse);
+      offset = offsetOf (lastOf s .reverse);
+      whole = wholeOf (lastOf s .reverse);
+      unreachable = unreachableOf (lastOf s .reverse);
+    }
+
+abbrev pub noRecord : RecordAnswer
+noRecord =
+    record {
+      state = 0;
+      advertised = false;
+      expiry = 0;
+      mark = 0;
+      suppressed = false;
+      tlv = false;
+      priority = 0;
+      reversed = false;
+      offset = 0;
+      whole = false;
+      unreachable = false;
+    }
+
+-- "A record is advertised exactly when it is UP and not Suppressed."
+abbrev pub recordAnswer : Adjacency → RecordAnswer
+recordAnswer Absent = noRecord
+recordAnswer (Present s) = stateAnswer s (advertised s)
 
 -- ---- the code's answers
 
@@ -79,33 +171,33 @@ abbrev pub lostBits : ℕ → List Bool
 lostBits m = bitsOf circuits m
 
 abbrev pub receivedOf : ReceivedCode → Answer
-receivedOf (RefusedFrame x) = Refused x
-receivedOf (DoneFrame o) = Received o
+receivedOf (RefusedFrame x) = Refused (refusalNo x)
+receivedOf (DoneFrame o) = Received (frameAnswer o)
 
 abbrev pub tickedOf : TickedCode → Answer
-tickedOf (RefusedTick x) = Refused x
-tickedOf (DoneTick lost hellos o) = Ticked (lostBits lost) (helloBits hellos) o
+tickedOf (RefusedTick x) = Refused (refusalNo x)
+tickedOf (DoneTick lost hellos o) = Ticked (lostBits lost) (helloBits hellos) (timersAnswer o)
 
 abbrev pub releasedOf : Released → Answer
-releasedOf (RefusedRelease x) = Refused x
+releasedOf (RefusedRelease x) = Refused (refusalNo x)
 releasedOf DoneRelease = Told Done
 
 abbrev pub noticedOf : NoticedCode → Answer
-noticedOf (RefusedNotice x) = Refused x
-noticedOf (DoneNotice o) = Told (Noticed o)
+noticedOf (RefusedNotice x) = Refused (refusalNo x)
+noticedOf (DoneNotice o) = Told (Noticed (timersAnswer o))
 
 abbrev pub lookedOf : LookedCode → Answer
-lookedOf (RefusedLook x) = Refused x
-lookedOf NoRecord = Told (Looked Absent)
-lookedOf (Found s) = Told (Looked (Present s))
+lookedOf (RefusedLook x) = Refused (refusalNo x)
+lookedOf NoRecord = Told (Looked noRecord)
+lookedOf (Found s shown) = Told (Looked (stateAnswer s shown))
 
 abbrev pub metricOf : MetricCode → Answer
-metricOf (RefusedMetric x) = Refused x
+metricOf (RefusedMetric x) = Refused (refusalNo x)
 metricOf (Link n) = Told (Metric n)
 
 abbrev pub flagsOf : NextFlags → Answer
-flagsOf (RefusedFlags x) = Refused x
-flagsOf (Next f) = Told (HelloFlags f)
+flagsOf (RefusedFlags x) = Refused (refusalNo x)
+flagsOf (Next f) = Told (HelloFlags (f .bits))
 
 abbrev pub waitingOf : Waiting → Answer
-waitingOf w = Told (Waits (w .count) (w .lowest))
+waitingOf w = Told (Waits (w .count) (lowestNo (w .lowest)))

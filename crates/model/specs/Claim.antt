@@ -5,20 +5,18 @@ use mathlib.Core.Logic.{_≢_}
 use mathlib.Core.Bool.{Bool, true, false, cond, not, _&&_}
 use mathlib.Core.List.{List, [], _∷_}
 use lib.Dec.{eqb}
-use Rattle.basics.specs.Refusal.{refusalNo}
 use Rattle.basics.specs.declared.kind.CircuitKind.{CircuitKind}
 use Rattle.basics.specs.declared.kind.CircuitKind.the-variants.{Lan, P2p}
-use Rattle.adjacency.specs.declared.duty.Csnps.the-variants.{Nothing}
 use Rattle.adjacency.specs.declared.record.Key.{Key}
 use Rattle.settings.specs.declared.mode.Mode.the-variants.{Running}
 use Rattle.settings.specs.declared.setup.Settings.{Settings}
 use Rattle.control.specs.Common.{circuitOf}
 use Rattle.settings.specs.declared.circuit.Chosen.{Chosen}
 use Rattle.settings.specs.declared.circuit.Chosen.the-variants.{Known, Unknown}
-use Rattle.model.specs.declared.answers.Orders.{Orders}
-use Rattle.model.specs.Answers.{Answer, Refused, Received, Ticked, Told, Done}
+use Rattle.model.specs.Answers.{Answer, Refused, Received, Ticked, Told, Done, FrameAnswer}
 use Rattle.model.specs.Gateway.{Gateway, Started, setup, renew, recordAt}
-use Rattle.model.specs.Step.{Local, Receive, Release, CsnpComplete, LookUp, LinkMetric, NextHello, Call, At, Over, Outcome, step}
+use Rattle.model.specs.Step.{Local, Receive, Release, CsnpComplete, LookUp, LinkMetric, NextHello, Call, At, Over, Outcome}
+use Rattle.model.specs.Trace.{Turn, trace}
 
 -- a bad neighbour: one source MAC on one circuit
 pub record Neighbour : Type 0 where
@@ -61,9 +59,9 @@ isThere b (At n l) = eqb n (b .circuit)
 isThere b (Over w) = false
 
 unfoldable pub isNine : Answer → Bool
-isNine (Refused x) = eqb (refusalNo x) 9
-isNine (Received o) = false
-isNine (Ticked lost hellos o) = false
+isNine (Refused n) = eqb n 9
+isNine (Received f) = false
+isNine (Ticked lost hellos t) = false
 isNine (Told f) = false
 
 -- the promise for its LAN stood before a call, and stands after it
@@ -78,31 +76,30 @@ pub record Observation : Type 0 where
   pub stands : Bool
   pub outcome : Outcome
 
--- the shared calls of a run from g: "Each call gets the gateway that the last one returned or left"
-unfoldable pub run : Neighbour → Bool → Gateway → List Call → List Observation
-run b s g [] = []
-run b s g (c ∷ cs) =
-    let o : Outcome = step g c in
-    let z : Bool = still b s c (o .answer) in
-    cond (isIts b c) (run b z (o .next) cs) (record { call = c; stands = z; outcome = o } ∷ run b z (o .next) cs)
+-- the shared calls of a run
+unfoldable pub observed : Neighbour → Bool → List Turn → List Observation
+observed b s [] = []
+observed b s (t ∷ ts) =
+    let z : Bool = still b s (t .call) (t .outcome .answer) in
+    cond (isIts b (t .call)) (observed b z ts) (record { call = t .call; stands = z; outcome = t .outcome } ∷ observed b z ts)
 
 -- ---- what is compared
 
 -- ".. but for a tick's mark of the bad neighbour's circuit"
 unfoldable pub withoutLost : ℕ → Answer → Answer
-withoutLost n (Ticked lost hellos o) = Ticked (renew lost n false) hellos o
+withoutLost n (Ticked lost hellos t) = Ticked (renew lost n false) hellos t
 withoutLost n (Refused x) = Refused x
-withoutLost n (Received o) = Received o
+withoutLost n (Received f) = Received f
 withoutLost n (Told f) = Told f
 
 -- ".. but for line 1's orders"
-abbrev pub withoutCsnps : Orders → Orders
-withoutCsnps o = record { reply = o .reply; csnps = Nothing; outcome = o .outcome; freed = o .freed }
+abbrev pub withoutCsnps : FrameAnswer → FrameAnswer
+withoutCsnps f = record { reply = f .reply; time = f .time; csnps = 0; freed = f .freed; timers = f .timers }
 
 unfoldable pub unordered : Answer → Answer
-unordered (Received o) = Received (withoutCsnps o)
+unordered (Received f) = Received (withoutCsnps f)
 unordered (Refused x) = Refused x
-unordered (Ticked lost hellos o) = Ticked lost hellos o
+unordered (Ticked lost hellos t) = Ticked lost hellos t
 unordered (Told f) = Told f
 
 -- ".. and look-ups of keys with its MAC"
@@ -137,9 +134,13 @@ pub data Agreeing (b : Neighbour) : List Observation → List Observation → Ty
 
 -- ---- the claim
 
+-- what is observed of turns from the gateway g: the promise for its LAN stands at first where the circuit is a LAN
+abbrev pub observedFrom : Neighbour → Gateway → List Turn → List Observation
+observedFrom b g ts = observed b (isLan (circuitOf (g .common) (b .circuit))) ts
+
 -- Any gateway that setup returned in the mode Running, any bad neighbour, any two lists whose calls are equal without its frames.
 abbrev pub Isolation : Type 0
 Isolation =
     (s : Settings) (g : Gateway) (hellos : List Bool) → s .mode ≡ Running → setup s ≡ Started g hellos
     → (b : Neighbour) (xs ys : List Call) → shared b xs ≡ shared b ys
-    → Agreeing b (run b (isLan (circuitOf (g .common) (b .circuit))) g xs) (run b (isLan (circuitOf (g .common) (b .circuit))) g ys)
+    → Agreeing b (observedFrom b g (trace g xs)) (observedFrom b g (trace g ys))

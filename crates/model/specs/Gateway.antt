@@ -3,7 +3,6 @@ use Prim.Native.Nat.{ℕ, zero, suc}
 use mathlib.Core.Bool.{Bool, cond}
 use mathlib.Core.List.{List, [], map}
 use lib.ListN.{getD, set}
-use Rattle.basics.specs.declared.refusal.Refusal.{Refusal}
 use Rattle.basics.specs.declared.refusal.Refusal.the-variants.{BadSetting}
 use Rattle.adjacency.specs.declared.record.Adjacency.{Adjacency}
 use Rattle.adjacency.specs.declared.record.Key.{Key}
@@ -14,6 +13,7 @@ use Rattle.settings.specs.Settings.{settingsOk}
 use Rattle.settings.specs.declared.circuit.Circuit.{Circuit}
 use Rattle.settings.specs.declared.setup.Settings.{Settings}
 use Rattle.control.specs.Common.{Common, startOf, setupCommon}
+use Rattle.model.specs.Numbers.{refusalNo}
 
 -- one circuit's own
 pub record Room : Type 0 where
@@ -66,9 +66,9 @@ newGateway s = record { common = setupCommon s; rooms = map newRoom (s .circuits
 
 -- the gateway, and the circuits whose hello with RR is ordered
 pub data Setup : Type 0 where
-  Refused : Refusal → Setup
+  Refused : (number : ℕ) → Setup
   Started : Gateway → (hellos : List Bool) → Setup
 
 -- "A setting outside its range is refused (12) and no gateway results."
 unfoldable pub setup : Settings → Setup
-setup s = cond (settingsOk s) (Started (newGateway s) (startHellos (startOf s))) (Refused BadSetting)
+setup s = cond (settingsOk s) (Started (newGateway s) (startHellos (startOf s))) (Refused (refusalNo BadSetting))

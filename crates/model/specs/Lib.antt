@@ -1,8 +1,12 @@
+pub mod Numbers
 pub mod Answers
 pub mod Gateway
 pub mod Receive
 pub mod Step
+pub mod Trace
+pub mod TimerEvents
 pub mod Refusals
 pub mod Claim
 pub mod SampleFrames
 pub mod SampleRuns
+pub mod SampleCalls

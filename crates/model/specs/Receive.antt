@@ -1,7 +1,7 @@
 -- Receive on a circuit, by stages in the order of the refusals (document 01, "Refusals by number"). A stage is a function of the common
 -- part and of the circuit's own; n is the circuit's number, s its settings, b the lent reply buffer.
 use Prim.Native.Nat.{ℕ, _-_}
-use mathlib.Core.Bool.{cond}
+use mathlib.Core.Bool.{Bool, cond}
 use mathlib.Core.List.{List}
 use lib.ListN.{length}
 use lib.Dec.{ltb}
@@ -30,7 +30,8 @@ use Rattle.control.specs.Common.{Common, withTimers}
 use Rattle.adjacency.specs.Keys.{levelIn, keyIn}
 use Rattle.room.specs.Accept.{decided, kept, written, csnpsIn}
 use Rattle.model.specs.declared.answers.Orders.{Orders}
-use Rattle.model.specs.Answers.{Answer, Refused, Received}
+use Rattle.model.specs.Numbers.{refusalNo}
+use Rattle.model.specs.Answers.{Answer, Refused, Received, frameAnswer}
 use Rattle.model.specs.Gateway.{Room, withSlots}
 
 -- what a call on a circuit answers and replies, and what it makes of the common part and of the circuit's own
@@ -42,7 +43,7 @@ pub record Acted : Type 0 where
 
 -- "A refusal changes no record, timer, clock or octet of a lent buffer"
 unfoldable pub refuse : List ℕ → Refusal → Common → Room → Acted
-refuse b x c r = record { answer = Refused x; reply = b; common = c; room = r }
+refuse b x c r = record { answer = Refused (refusalNo x); reply = b; common = c; room = r }
 
 -- ---- an accepted frame
 
@@ -71,7 +72,7 @@ ordersOf n s h reply line c r =
 unfoldable pub accepted : ℕ → Circuit → Hello → Key → List ℕ → Adjacency → Acknowledgement → Line → Common → Room → Acted
 accepted n s h k b after reply line c r =
     record {
-      answer = Received (ordersOf n s h reply line c (withSlots r (kept k after (r .slots))));
+      answer = Received (frameAnswer (ordersOf n s h reply line c (withSlots r (kept k after (r .slots)))));
       reply = written (h .system) reply b;
       common = withTimers (heard (c .clock) (n - 1) (s .levels) (saidOf c s h) (c .timers)) c;
       room = withSlots r (kept k after (r .slots));
@@ -96,6 +97,9 @@ unfoldable pub readIn : ℕ → Circuit → ℕ → List ℕ → Read → Common
 readIn n s mac b (RefusedRead x) = refuse b x
 readIn n s mac b (ReadAs h) = checked n s mac b h
 
--- refusal 2
+-- refusal 2: "reply buffer under 11 octets, reply due or not"
+abbrev pub isShort : List ℕ → Bool
+isShort b = ltb (length b) 11
+
 unfoldable pub receive : ℕ → Circuit → ℕ → List ℕ → List ℕ → Common → Room → Acted
-receive n s mac frame b = cond (ltb (length b) 11) (refuse b ReplyRoom) (readIn n s mac b (helloRead (s .kind) (s .mac) frame))
+receive n s mac frame b = cond (isShort b) (refuse b ReplyRoom) (readIn n s mac b (helloRead (s .kind) (s .mac) frame))

@@ -3,7 +3,6 @@
 use Prim.Native.Nat.{ℕ}
 use mathlib.Core.Path.{_≡_}
 use mathlib.Core.List.{List, []}
-use Rattle.basics.specs.declared.refusal.Refusal.{Refusal}
 use Rattle.model.specs.Answers.{Refused}
 use Rattle.model.specs.Gateway.{Gateway}
 use Rattle.model.specs.Step.{Call, At, Over, lent, step}
@@ -14,4 +13,4 @@ lentBy (At n l) = lent l
 lentBy (Over w) = []
 
 abbrev pub RefusalsKeep : Type 0
-RefusalsKeep = (g : Gateway) (c : Call) (x : Refusal) → step g c .answer ≡ Refused x → (step g c .next ≡ g) × (step g c .reply ≡ lentBy c)
+RefusalsKeep = (g : Gateway) (c : Call) (x : ℕ) → step g c .answer ≡ Refused x → (step g c .next ≡ g) × (step g c .reply ≡ lentBy c)

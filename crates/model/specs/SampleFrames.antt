@@ -10,7 +10,8 @@ use Rattle.settings.specs.declared.mode.Mode.{Mode}
 use Rattle.settings.specs.declared.circuit.Circuit.{Circuit}
 use Rattle.settings.specs.declared.setup.Settings.{Settings}
 use Rattle.model.specs.Gateway.{Gateway, Setup, Refused as RefusedSetup, Started}
-use Rattle.model.specs.Step.{Outcome, Receive, Tick, At, Over, step}
+use Rattle.model.specs.Step.{Outcome, Call, Receive, Tick, At, Over}
+use Rattle.model.specs.Trace.{Turn, trace}
 
 -- ---- settings
 
@@ -34,12 +35,14 @@ settings mode metric clock =
 
 -- ---- frames
 
--- the neighbour's hello with Holding Time 27, this three-way state (0 Up, 1 Initializing, 2 Down) and then these TLVs
+-- the neighbour's hello with Holding Time 27 and these TLVs
+abbrev pub frameOf : List ℕ → List ℕ
+frameOf tlvs =
+    0x83 ∷ 20 ∷ 1 ∷ 0 ∷ 17 ∷ 1 ∷ 0 ∷ 0 ∷ 3 ∷ 0x19 ∷ 0x21 ∷ 0x68 ∷ 0x00 ∷ 0x10 ∷ 0x02 ∷ 0 ∷ 27 ∷ 0 ∷ (20 + length tlvs) ∷ 1 ∷ tlvs
+
+-- .. with this three-way state (0 Up, 1 Initializing, 2 Down) and then these
 abbrev pub frameWith : ℕ → List ℕ → List ℕ
-frameWith state tlvs =
-    0x83 ∷ 20 ∷ 1 ∷ 0 ∷ 17 ∷ 1 ∷ 0 ∷ 0 ∷ 3 ∷ 0x19 ∷ 0x21 ∷ 0x68 ∷ 0x00 ∷ 0x10 ∷ 0x02 ∷ 0 ∷ 27 ∷ 0 ∷ (23 + length tlvs) ∷ 1
-    ∷ 240 ∷ 1 ∷ state
-    ∷ tlvs
+frameWith state tlvs = frameOf (240 ∷ 1 ∷ state ∷ tlvs)
 
 -- the same with a Restart TLV of this value
 abbrev pub hello : ℕ → List ℕ → List ℕ
@@ -67,18 +70,25 @@ row clock state v = record { clock = clock; frame = hello state v }
 abbrev pub lentOctets : List ℕ
 lentOctets = replicate 12 0xFF
 
-unfoldable pub taken : Gateway → List ℕ → Outcome
-taken g octets = step g (At 1 (Receive 0x020000000002 octets lentOctets))
+-- the frame is received on circuit 1
+abbrev pub receiving : List ℕ → Call
+receiving octets = At 1 (Receive 0x020000000002 octets lentOctets)
 
-unfoldable pub played : Gateway → Row → Outcome
-played g r = taken (step g (Over (Tick (r .clock))) .next) (r .frame)
+unfoldable pub callsOf : List Row → List Call
+callsOf [] = []
+callsOf (r ∷ rs) = Over (Tick (r .clock)) ∷ receiving (r .frame) ∷ callsOf rs
 
--- what is seen of each row, where each gets the gateway that the last one left
-unfoldable pub playedAll : {A : Type 0} → (Outcome → A) → Gateway → List Row → List A
-playedAll see g [] = []
-playedAll see g (r ∷ rs) =
-    let o : Outcome = played g r in
-    see o ∷ playedAll see (o .next) rs
+-- what is seen of the calls that name a circuit, in a run
+abbrev pub seenAt : {A : Type 0} → (Outcome → A) → Outcome → Call → List A → List A
+seenAt see o (At n l) rest = see o ∷ rest
+seenAt see o (Over w) rest = rest
+
+unfoldable pub seenBy : {A : Type 0} → (Outcome → A) → List Turn → List A
+seenBy see [] = []
+seenBy see (t ∷ ts) = let rest = seenBy see ts in seenAt see (t .outcome) (t .call) rest
+
+abbrev pub played : {A : Type 0} → (Outcome → A) → Gateway → List Row → List A
+played see g rs = seenBy see (trace g (callsOf rs))
 
 -- a gateway results from setup, and this holds of it
 abbrev pub From : Setup → (Gateway → Type 0) → Type 0

@@ -6,13 +6,7 @@ use mathlib.Core.Bool.{true, false}
 use mathlib.Core.Path.{_≡_}
 use mathlib.Core.List.{List, [], _∷_, _++_, map}
 use lib.ListN.{replicate}
-use Rattle.restart_tlv.specs.declared.writer.Ack.the-variants.{Restart as RA, Planned as PA}
-use Rattle.basics.specs.declared.refusal.Refusal.the-variants.{BadTlv}
 use Rattle.hello.specs.declared.reverse.ReverseMetric.the-variants.{Absent as NoMetric}
-use Rattle.adjacency.specs.declared.duty.Csnps.{Csnps}
-use Rattle.adjacency.specs.declared.duty.Csnps.the-variants.{Nothing as NoCsnps, Ordered}
-use Rattle.adjacency.specs.declared.marks.Acknowledgement.{Acknowledgement}
-use Rattle.adjacency.specs.declared.marks.Acknowledgement.the-variants.{Nothing, Send}
 use Rattle.adjacency.specs.declared.record.Adjacency.{Adjacency}
 use Rattle.adjacency.specs.declared.record.Adjacency.the-variants.{Present}
 use Rattle.adjacency.specs.declared.record.Data.{Data}
@@ -20,17 +14,14 @@ use Rattle.adjacency.specs.declared.record.Key.{Key}
 use Rattle.adjacency.specs.declared.record.Mark.{Mark}
 use Rattle.adjacency.specs.declared.record.Mark.the-variants.{Clear, Restart, Planned}
 use Rattle.adjacency.specs.declared.record.State.the-variants.{Init, Up}
-use Rattle.timer_parts.specs.declared.t1.Freed.the-variants.{Kept}
 use Rattle.timer_parts.specs.declared.t3.T3.{T3}
 use Rattle.timer_parts.specs.declared.t3.T3.the-variants.{Runs}
 use Rattle.settings.specs.declared.mode.Mode.the-variants.{Running, Restarting}
-use Rattle.timers.specs.declared.outcome.TimerOutcome.{TimerOutcome}
-use Rattle.timers.specs.declared.outcome.TimerOutcome.the-variants.{Idle, Goes}
-use Rattle.timers.specs.declared.outcome.Overload.the-variants.{Quiet}
-use Rattle.model.specs.Answers.{Answer, Refused, Received, Told, Metric, numberOf}
+use Rattle.model.specs.Answers.{Answer, Refused, Received, Told, Metric}
 use Rattle.model.specs.Gateway.{Gateway, setup, recordAt}
 use Rattle.model.specs.Step.{Outcome, LinkMetric, At, step}
-use Rattle.model.specs.SampleFrames.{both, settings, hello, acknowledging, reversing, row, lentOctets, taken, played, playedAll, From}
+use Rattle.model.specs.Trace.{after}
+use Rattle.model.specs.SampleFrames.{settings, hello, acknowledging, reversing, row, lentOctets, receiving, callsOf, played, From}
 
 -- ---- what is seen of a row
 
@@ -58,12 +49,14 @@ up expiry mark = Present (Up (kept expiry) mark)
 abbrev pub octets : ℕ → ℕ → ℕ → List ℕ
 octets flag high low = 0xD3 ∷ 0x09 ∷ flag ∷ high ∷ low ∷ 0x19 ∷ 0x21 ∷ 0x68 ∷ 0x00 ∷ 0x10 ∷ 0x02 ∷ 0xFF ∷ []
 
-abbrev pub accepted : Acknowledgement → Csnps → TimerOutcome → Answer
-accepted reply csnps outcome = Received (record { reply = reply; csnps = csnps; outcome = outcome; freed = Kept })
+-- the flags and the Remaining Time of the reply, the levels of line 1's order (3 for both), whether the restart goes on (1)
+abbrev pub accepted : ℕ → ℕ → ℕ → ℕ → Answer
+accepted flags time csnps restart =
+    Received (record { reply = flags; time = time; csnps = csnps; freed = 0; timers = record { restart = restart; spf = 0; overload = 0 } })
 
 -- in the mode Running
-abbrev pub received : Acknowledgement → Csnps → Answer
-received reply csnps = accepted reply csnps Idle
+abbrev pub received : ℕ → ℕ → ℕ → Answer
+received flags time csnps = accepted flags time csnps 0
 
 -- ---- C1 to C7: marks and holding time
 
@@ -72,7 +65,7 @@ abbrev pub C1toC6 : Type 0
 C1toC6 =
     From (setup (settings Running 10 80))
     (λ g.
-    playedAll seen g
+    played seen g
     (row 83 1 (0 ∷ 0 ∷ 0 ∷ [])
     ∷ row 100 0 (1 ∷ 0 ∷ 0 ∷ [])
     ∷ row 105 0 (1 ∷ 0 ∷ 0 ∷ [])
@@ -81,13 +74,13 @@ C1toC6 =
     ∷ row 120 0 (8 ∷ 0x02 ∷ 0x58 ∷ [])
     ∷ row 130 0 (1 ∷ 0 ∷ 0 ∷ [])
     ∷ [])
-    ≡ saw (up 110 Clear) lentOctets (received Nothing NoCsnps)
-    ∷ saw (up 127 Restart) (octets 0x02 0x00 0x1B) (received (Send RA 27) (Ordered both))
-    ∷ saw (up 127 Restart) (octets 0x02 0x00 0x16) (received (Send RA 22) (Ordered both))
-    ∷ saw (up 133 Clear) lentOctets (received Nothing NoCsnps)
-    ∷ saw (up 410 Planned) (octets 0x10 0x01 0x2C) (received (Send PA 300) NoCsnps)
-    ∷ saw (up 410 Planned) (octets 0x10 0x01 0x22) (received (Send PA 290) NoCsnps)
-    ∷ saw (up 160 Restart) (octets 0x02 0x00 0x1E) (received (Send RA 30) (Ordered both))
+    ≡ saw (up 110 Clear) lentOctets (received 0 0 0)
+    ∷ saw (up 127 Restart) (octets 0x02 0x00 0x1B) (received 2 27 3)
+    ∷ saw (up 127 Restart) (octets 0x02 0x00 0x16) (received 2 22 3)
+    ∷ saw (up 133 Clear) lentOctets (received 0 0 0)
+    ∷ saw (up 410 Planned) (octets 0x10 0x01 0x2C) (received 16 300 0)
+    ∷ saw (up 410 Planned) (octets 0x10 0x01 0x22) (received 16 290 0)
+    ∷ saw (up 160 Restart) (octets 0x02 0x00 0x1E) (received 2 30 3)
     ∷ [])
 
 -- C7: no record stands
@@ -95,8 +88,8 @@ abbrev pub C7 : Type 0
 C7 =
     From (setup (settings Running 10 100))
     (λ g.
-    playedAll seen g (row 100 2 (1 ∷ 0 ∷ 0 ∷ []) ∷ [])
-    ≡ saw (Present (Init (kept 127))) (octets 0x02 0x00 0x1B) (received (Send RA 27) NoCsnps) ∷ [])
+    played seen g (row 100 2 (1 ∷ 0 ∷ 0 ∷ []) ∷ [])
+    ≡ saw (Present (Init (kept 127))) (octets 0x02 0x00 0x1B) (received 2 27 0) ∷ [])
 
 -- ---- C8: lengths of the Restart TLV
 
@@ -109,26 +102,22 @@ abbrev pub goodValue : List ℕ
 goodValue = 8 ∷ 0x01 ∷ 0x2C ∷ []
 
 abbrev pub trial : Gateway → List ℕ → Outcome
-trial g v = taken g (hello 0 v)
-
--- with the refusal's number, or 0
-abbrev pub judged : Outcome → ℕ × Seen
-judged o = (numberOf (o .answer), seen o)
+trial g v = step g (receiving (hello 0 v))
 
 -- Each value is tried on the gateway g, at clock 83, with the record UP and expiry 110. What is refused leaves g as it was.
 abbrev pub C8On : Gateway → Type 0
 C8On g =
-    (map (λ v. judged (trial g v)) (badValues ++ goodValue ∷ [])
-    ≡ (6, saw (up 110 Clear) lentOctets (Refused BadTlv))
-    ∷ (6, saw (up 110 Clear) lentOctets (Refused BadTlv))
-    ∷ (6, saw (up 110 Clear) lentOctets (Refused BadTlv))
-    ∷ (6, saw (up 110 Clear) lentOctets (Refused BadTlv))
-    ∷ (0, saw (up 383 Planned) (octets 0x10 0x01 0x2C) (received (Send PA 300) NoCsnps))
+    (map (λ v. seen (trial g v)) (badValues ++ goodValue ∷ [])
+    ≡ saw (up 110 Clear) lentOctets (Refused 6)
+    ∷ saw (up 110 Clear) lentOctets (Refused 6)
+    ∷ saw (up 110 Clear) lentOctets (Refused 6)
+    ∷ saw (up 110 Clear) lentOctets (Refused 6)
+    ∷ saw (up 383 Planned) (octets 0x10 0x01 0x2C) (received 16 300 0)
     ∷ [])
     × (map (λ v. trial g v .next) badValues ≡ replicate 4 g)
 
 abbrev pub C8 : Type 0
-C8 = From (setup (settings Running 10 80)) (λ g. C8On (played g (row 83 1 (0 ∷ 0 ∷ 0 ∷ [])) .next))
+C8 = From (setup (settings Running 10 80)) (λ g. C8On (after g (callsOf (row 83 1 (0 ∷ 0 ∷ 0 ∷ []) ∷ []))))
 
 -- ---- C9: T3 while Restarting
 
@@ -137,14 +126,14 @@ timed o = (o .next .common .timers .t3, seen o)
 
 -- every frame is accepted with no reply, and no timer ends
 abbrev pub goesOn : Answer
-goesOn = accepted Nothing NoCsnps (Goes (record { one = false; two = false }) Quiet)
+goesOn = accepted 0 0 0 1
 
 -- RA 40, Up; RA 50, Up; RA 20, not Up
 abbrev pub C9 : Type 0
 C9 =
     From (setup (settings Restarting 10 0))
     (λ g.
-    playedAll timed g (row 5 0 (acknowledging 40) ∷ row 10 0 (acknowledging 50) ∷ row 12 1 (acknowledging 20) ∷ [])
+    played timed g (row 5 0 (acknowledging 40) ∷ row 10 0 (acknowledging 50) ∷ row 12 1 (acknowledging 20) ∷ [])
     ≡ (Runs 45, saw (up 32 Clear) lentOctets goesOn)
     ∷ (Runs 45, saw (up 37 Clear) lentOctets goesOn)
     ∷ (Runs 45, saw (up 39 Clear) lentOctets goesOn)
@@ -156,7 +145,7 @@ C9 =
 abbrev pub Measures : ℕ → ℕ → ℕ → ℕ → Type 0
 Measures configured flags offset metric =
     From (setup (settings Running configured 100))
-    (λ g. step (taken g (reversing flags offset) .next) (At 1 LinkMetric) .answer ≡ Told (Metric metric))
+    (λ g. step (after g (receiving (reversing flags offset) ∷ [])) (At 1 LinkMetric) .answer ≡ Told (Metric metric))
 
 -- 10 + 5; 16,777,210 + 10 without U, with U
 abbrev pub C10 : Type 0

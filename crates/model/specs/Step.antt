@@ -19,7 +19,6 @@ use Rattle.timer_parts.specs.T1.{helloFlags}
 use Rattle.timers.specs.Timers.{Timers, settled, ticked, toT3, csnpIn, noticeT2s, noT1, countRuns, firstRuns}
 use Rattle.settings.specs.Mode.{isRestarting}
 use Rattle.timers.specs.Outcome.{ordered, tickHellos}
-use Rattle.timers.specs.declared.outcome.TimerOutcome.{TimerOutcome}
 use Rattle.timers.specs.declared.outcome.TimerOutcome.the-variants.{Idle}
 use Rattle.settings.specs.Settings.{enabledLevels}
 use Rattle.settings.specs.declared.circuit.Circuit.{Circuit}
@@ -27,7 +26,8 @@ use Rattle.control.specs.Common.{Common, withClock, withTimers, circuitOf}
 use Rattle.settings.specs.declared.circuit.Chosen.{Chosen}
 use Rattle.settings.specs.declared.circuit.Chosen.the-variants.{Known, Unknown}
 use Rattle.adjacency.specs.Keys.{keyOn}
-use Rattle.model.specs.Answers.{Answer, Refused as RefusedAnswer, Ticked, Told, Fact, Done, Noticed, Looked, Metric, HelloFlags, Waits}
+use Rattle.model.specs.Numbers.{refusalNo, lowestNo}
+use Rattle.model.specs.Answers.{Answer, Refused as RefusedAnswer, Ticked, Told, Fact, Done, Noticed, Looked, Metric, HelloFlags, Waits, TimersAnswer, timersAnswer, recordAnswer}
 use Rattle.model.specs.Gateway.{Room, Gateway, withSlots, roomOf, renew}
 use Rattle.model.specs.Receive.{Acted, refuse, receive}
 
@@ -64,7 +64,7 @@ told f c r = record { answer = Told f; reply = []; common = c; room = r }
 
 -- a notice whose own step is f: "11: CSNP or database notice outside Restarting mode"
 abbrev pub noticeOf : (Timers → Timers) → Common → Fact
-noticeOf f c = Noticed (ordered f (c .timers))
+noticeOf f c = Noticed (timersAnswer (ordered f (c .timers)))
 
 abbrev pub settledBy : (Timers → Timers) → Common → Common
 settledBy f c = withTimers (settled f (c .timers)) c
@@ -86,7 +86,7 @@ asksLevel P2p l level = true
 -- "Look up answers 'none' where no such record stands."
 unfoldable pub lookUp : Circuit → Key → Common → Room → Acted
 lookUp s k c r =
-    cond (asksLevel (s .kind) (s .levels) (k .level)) (told (Looked (find (keyOn (s .kind) k) (r .slots))) c r) (refuse [] NoCircuit c r)
+    cond (asksLevel (s .kind) (s .levels) (k .level)) (told (Looked (recordAnswer (find (keyOn (s .kind) k) (r .slots)))) c r) (refuse [] NoCircuit c r)
 
 -- a P2P room has one record at most
 unfoldable pub linkMetricOf : Circuit → Common → Room → Acted
@@ -94,7 +94,7 @@ linkMetricOf s c r = told (Metric (linkMetric (s .kind) (s .metric) (firstState 
 
 -- "The next hello carries RR exactly while T1 runs"
 unfoldable pub nextHello : ℕ → Common → Room → Acted
-nextHello n c r = told (HelloFlags (helloFlags (getD (c .timers .t1s) (n - 1) noT1))) c r
+nextHello n c r = told (HelloFlags (helloFlags (getD (c .timers .t1s) (n - 1) noT1) .bits)) c r
 
 unfoldable pub act : ℕ → Circuit → Local → Common → Room → Acted
 act n s (Receive mac frame b) c r = receive n s mac frame b c r
@@ -120,7 +120,7 @@ lift g n f =
     record { answer = a .answer; reply = a .reply; next = record { common = a .common; rooms = renew (g .rooms) n (a .room) } }
 
 abbrev pub refused : Gateway → List ℕ → Refusal → Outcome
-refused g b x = record { answer = RefusedAnswer x; reply = b; next = g }
+refused g b x = record { answer = RefusedAnswer (refusalNo x); reply = b; next = g }
 
 -- 1: "no circuit of that number"
 unfoldable pub on : Gateway → ℕ → Local → Chosen → Outcome
@@ -132,7 +132,7 @@ on g n l (Known s) = lift g n (act n s l)
 -- what such a call comes to, by the common part alone
 pub data Judged : Type 0 where
   Refused : Refusal → Judged
-  Sweep : (clock : ℕ) (next : Common) (hellos : List Bool) → TimerOutcome → Judged
+  Sweep : (clock : ℕ) (next : Common) (hellos : List Bool) → TimersAnswer → Judged
   Tell : (next : Common) → Answer → Judged
 
 unfoldable pub noneOf : {A : Type 0} → List A → Bool
@@ -140,15 +140,19 @@ noneOf [] = true
 noneOf (x ∷ xs) = false
 
 abbrev pub quiet : Answer
-quiet = Ticked (replicate circuits false) (replicate circuits false) Idle
+quiet = Ticked (replicate circuits false) (replicate circuits false) (timersAnswer Idle)
 
--- 10: "clock lower than the held clock". Memory that was never set up holds no circuit and no clock: there a tick does nothing.
+-- 10: "clock lower than the held clock"
+abbrev pub isBack : ℕ → Common → Bool
+isBack clock c = ltb clock (c .clock)
+
+-- Memory that was never set up holds no circuit and no clock: there a tick does nothing.
 unfoldable pub tickOf : ℕ → Common → Judged
 tickOf clock c =
     cond (noneOf (c .circuits)) (Tell c quiet)
-    (cond (ltb clock (c .clock)) (Refused ClockBack)
+    (cond (isBack clock c) (Refused ClockBack)
     (Sweep clock (withTimers (ticked (c .lengths) clock (c .timers)) (withClock clock c)) (tickHellos (c .lengths) clock (c .timers))
-    (ordered (toT3 (c .lengths) clock) (c .timers))))
+    (timersAnswer (ordered (toT3 (c .lengths) clock) (c .timers)))))
 
 -- 1: a level not enabled, "for database complete: on no circuit"
 unfoldable pub databaseOf : ℕ → Common → Judged
@@ -161,7 +165,7 @@ databaseOf level c =
 
 -- "how many circuits still wait for T1, and the lowest such circuit (or none)"
 abbrev pub waitsOf : Timers → Fact
-waitsOf t = Waits (countRuns (t .t1s)) (firstRuns (t .t1s) 1)
+waitsOf t = Waits (countRuns (t .t1s)) (lowestNo (firstRuns (t .t1s) 1))
 
 unfoldable pub judge : Common → Global → Judged
 judge c (Tick clock) = tickOf clock c

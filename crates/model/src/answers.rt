@@ -45,11 +45,11 @@ pub enum Noticed {
     Done(TimerOutcome),
 }
 
-// Of a look up: the state of the record with the key, or that there is none.
+// Of a look up: the state of the record with the key and whether it is advertised, or that there is none.
 pub enum Looked {
     Refused(Refusal),
     Nothing,
-    Found(State),
+    Found { state: State, advertised: bool },
 }
 
 pub enum Metric {

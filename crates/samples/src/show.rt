@@ -5,12 +5,12 @@ use adjacency::record::Mark;
 use adjacency::record::State;
 use basics::levels::Levels;
 use basics::refusal::Refusal;
-use basics::refusal::number_of;
 use libc::STDOUT_FILENO;
 use model::answers::Looked;
 use model::answers::Metric;
 use model::answers::Orders;
 use model::answers::Received;
+use model::numbers::number_of;
 use restart_tlv::writer::Ack;
 
 // Octets, as they are.
@@ -75,7 +75,10 @@ pub fn looked(l: Looked) {
     match l {
         Looked::Refused(why) => refusal(why),
         Looked::Nothing => cell(b"none", 23),
-        Looked::Found(state) => match state {
+        Looked::Found {
+            state,
+            advertised: _,
+        } => match state {
             State::Init(kept) => {
                 cell(b"INIT", 6);
                 number_cell(kept.expiry, 8);

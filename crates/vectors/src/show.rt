@@ -1,6 +1,5 @@
 // What is printed of a frame: `NAME refused N`, or `NAME LAYOUT SYSTEM hold TIME ..; restart ..; metric ..`.
 use basics::kind::CircuitKind;
-use basics::refusal::number_of;
 use hello::read::Hello;
 use hello::read::Link;
 use hello::read::Read;
@@ -10,6 +9,7 @@ use hello::three_way::Identifiers;
 use hello::three_way::ThreeWay;
 use hello::three_way::ThreeWayState;
 use libc::STDOUT_FILENO;
+use model::numbers::number_of;
 use restart_tlv::flags::Flags;
 use restart_tlv::reader::Neighbor;
 use restart_tlv::reader::RestartTlv;

@@ -156,6 +156,7 @@ impl Memory {
             tlv: bit(3),
             reverse: bit(4).then(|| Reverse { offset: (small >> 32) as u32, whole: bit(5), unreachable: bit(6) }),
         });
+        assert_eq!(found.as_ref().is_some_and(Record::advertised), word >> 16 == 1, "advertised: UP and not Suppressed");
         code(u64::from(word), found)
     }
 
@@ -177,6 +178,6 @@ impl Memory {
     pub fn waiting(&self) -> (u32, Option<u8>) {
         // SAFETY: the reference is valid for the words of a gateway.
         let word = unsafe { isis_gr_raw_waiting(self.0.as_ptr()) };
-        (word & 0xFF, Some((word >> 8) as u8).filter(|n| *n != 0))
+        (word >> 8 & 0xFF, Some((word >> 16) as u8).filter(|n| *n != 0))
     }
 }

@@ -248,6 +248,8 @@ pub struct ReverseMetric {
 pub struct Record {
     /// INIT or UP.
     pub phase: Phase,
+    /// Whether it goes into our LSPs: it is UP and not suppressed.
+    pub advertised: bool,
     /// The clock at which a tick removes it.
     pub expiry: u64,
     /// Mark Suppressed.
@@ -261,25 +263,20 @@ pub struct Record {
 }
 
 impl Record {
-    /// Whether it goes into our LSPs: it is UP and not suppressed.
-    pub fn is_advertised(&self) -> bool {
-        matches!(self.phase, Phase::Up(_)) && !self.suppressed
-    }
-
-    pub(crate) fn of_words(state: u8, [expiry, word]: [u64; 2]) -> Option<Record> {
+    pub(crate) fn of_words(answer: u32, [expiry, word]: [u64; 2]) -> Option<Record> {
         let bit = |at: u32| word >> at & 1 == 1;
         let mark = match word & 3 {
             0 => Mark::Clear,
             1 => Mark::Restart,
             _ => Mark::Planned,
         };
-        let phase = match state {
+        let phase = match (answer >> 8) as u8 {
             0 => return None,
             1 => Phase::Init,
             _ => Phase::Up(mark),
         };
         let reverse = bit(4).then(|| ReverseMetric { offset: (word >> 32) as u32, whole_lan: bit(5), unreachable: bit(6) });
-        Some(Record { phase, expiry, suppressed: bit(2), priority: (word >> 8) as u8, tlv: bit(3), reverse })
+        Some(Record { phase, advertised: answer >> 16 & 1 == 1, expiry, suppressed: bit(2), priority: (word >> 8) as u8, tlv: bit(3), reverse })
     }
 }
 

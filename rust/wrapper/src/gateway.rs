@@ -68,7 +68,7 @@ impl Gateway {
     pub fn look_up(&self, circuit: Circuit, level: Level, system: SystemId, mac: Mac) -> Result<Option<Record>, Refusal> {
         let mut record = [0; 2];
         let word = ffi::look_up(&self.words, circuit.number(), level.number(), &system.0, &mac.0, &mut record);
-        Refusal::unless(u64::from(word), Record::of_words((word >> 8) as u8, record))
+        Refusal::unless(u64::from(word), Record::of_words(word, record))
     }
 
     /// The metric of a circuit's link. Refused 1.
@@ -86,7 +86,7 @@ impl Gateway {
     /// How many circuits still wait for T1, and the lowest of them.
     pub fn waiting(&self) -> Waiting {
         let word = ffi::waiting(&self.words);
-        Waiting { count: word & 0xFF, lowest: Circuit::new((word >> 8) as u8) }
+        Waiting { count: word >> 8 & 0xFF, lowest: Circuit::new((word >> 16) as u8) }
     }
 }
 

@@ -28,6 +28,18 @@ cast-result-2 c = search needs
 mul-result : tie.Need-mul-result
 mul-result c = search needs
 
+digit-requires : tie.Need-digit-requires
+digit-requires c κs = search needs
+
+cast-result-3 : tie.Need-cast-result-3
+cast-result-3 c = search needs
+
+mul-result-2 : tie.Need-mul-result-2
+mul-result-2 c = search needs
+
+add-result : tie.Need-add-result
+add-result c = search needs
+
 returns : tie.Need-returns
 returns c = search needs
 
@@ -35,7 +47,7 @@ returns-2 : tie.Need-returns-2
 returns-2 c = search needs
 
 returns-3 : tie.Need-returns-3
-returns-3 c = rw (c .before .before .a2 .given .1) (omega arith)
+returns-3 c = rw (c .before .before .before .a2 .given .1) (omega arith)
 
 pub looked-word-spec : {M : Type 1} → statement M
 looked-word-spec =
@@ -49,6 +61,10 @@ looked-word-spec =
     state-number-requires
     cast-result-2
     mul-result
+    digit-requires
+    cast-result-3
+    mul-result-2
+    add-result
     returns
     returns-2
     returns-3)

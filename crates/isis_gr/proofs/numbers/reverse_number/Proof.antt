@@ -38,7 +38,7 @@ add-result-3 : tie.Need-add-result-3
 add-result-3 c = search needs
 
 returns : tie.Need-returns
-returns c = search needs
+returns c = (rw (c .enum-told .given .1) (omega arith), omega arith)
 
 returns-2 : tie.Need-returns-2
 returns-2 c = (rw (c .before .before .before .m .given .1) (omega arith), omega arith)

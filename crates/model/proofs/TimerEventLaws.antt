@@ -1,0 +1,99 @@
+-- The timers after a call are those that its event leaves: stage by stage, then of a whole run.
+use Prim.Native.Nat.{ℕ, _-_}
+use mathlib.Core.Path.{_≡_, refl, ap, _∙_}
+use mathlib.Core.Bool.{Bool, true, false, cond}
+use mathlib.Core.List.{List, [], _∷_}
+use Rattle.basics.proofs.BoolLaws.{by-test}
+use Rattle.basics.specs.Levels.{hasLevel}
+use Rattle.basics.specs.declared.refusal.Refusal.{Refusal}
+use Rattle.basics.specs.declared.refusal.Refusal.the-variants.{ReplyRoom, WrongSource}
+use Rattle.hello.specs.Hello.{helloRead}
+use Rattle.hello.specs.declared.read.Hello.{Hello}
+use Rattle.hello.specs.declared.read.Read.{Read}
+use Rattle.hello.specs.declared.read.Read.the-variants.{Refused as RefusedRead, Accepted as ReadAs}
+use Rattle.adjacency.specs.Keys.{keyIn}
+use Rattle.adjacency.specs.Step.{wrongSource}
+use Rattle.adjacency.specs.declared.react.Reaction.{Reaction}
+use Rattle.adjacency.specs.declared.react.Reaction.the-variants.{Refused as RefusedReaction, Accepted}
+use Rattle.adjacency.specs.declared.record.Key.{Key}
+use Rattle.room.specs.Accept.{decided}
+use Rattle.settings.specs.Mode.{isRestarting}
+use Rattle.settings.specs.Settings.{enabledLevels}
+use Rattle.settings.specs.declared.circuit.Circuit.{Circuit}
+use Rattle.settings.specs.declared.circuit.Chosen.{Chosen}
+use Rattle.settings.specs.declared.circuit.Chosen.the-variants.{Known, Unknown}
+use Rattle.control.specs.Common.{Common, circuitOf}
+use Rattle.timers.specs.Timers.{Timers}
+use Rattle.model.specs.Gateway.{Gateway, Room, roomOf}
+use Rattle.model.specs.Receive.{Acted, refuse, hereOf, saidOf, accepted, reacted, decidedIn, checked, readIn, isShort, receive}
+use Rattle.model.specs.Step.{Local, Receive, Release, CsnpComplete, LookUp, LinkMetric, NextHello, Global, Tick, DatabaseComplete, Waiting, Call, At, Over, Outcome, asksLevel, csnpComplete, lookUp, linkMetricOf, nextHello, act, lift, on, noneOf, isBack, tickOf, databaseOf, judge, carry, step}
+use Rattle.model.specs.Trace.{trace, leftBy, after}
+use Rattle.model.specs.TimerEvents.{TimerEvent, Nothing, Hello as Heard, moved, movedAll, heardFrom, offeredOn, offeredOver, offered, whereDone, eventOf, eventsOf}
+
+module _ (n : ℕ) (s : Circuit) (c : Common) (r : Room) where
+  -- what a stage leaves, where the call is the event e if it is not refused
+  abbrev Moves : TimerEvent → Acted → Type 0
+  Moves e a = a .common .timers ≡ moved (whereDone (a .answer) e) (c .timers)
+
+  refuse-moves : (e : TimerEvent) (b : List ℕ) (x : Refusal) → Moves e (refuse b x c r)
+  unfolding refuse moved whereDone
+  refuse-moves e b x = refl
+
+  reacted-moves : (h : Hello) (k : Key) (b : List ℕ) (d : Reaction)
+      → Moves (Heard (c .clock) (n - 1) (s .levels) (saidOf c s h)) (reacted n s h k b d c r)
+  unfolding reacted accepted moved whereDone
+  reacted-moves h k b (RefusedReaction x) = refuse-moves _ b x
+  reacted-moves h k b (Accepted after reply line) = refl
+
+  read-moves : (mac : ℕ) (b : List ℕ) (d : Read) → Moves (heardFrom n s c d) (readIn n s mac b d c r)
+  unfolding readIn checked decidedIn heardFrom
+  read-moves mac b (RefusedRead x) = refuse-moves _ b x
+  read-moves mac b (ReadAs h) =
+      by-test (wrongSource (s .levels) (c .system) h) (λ e. rw e (refuse-moves _ b WrongSource))
+      (λ e. rw e (reacted-moves h _ b _))
+
+  receive-moves : (mac : ℕ) (frame b : List ℕ) → Moves (heardFrom n s c (helloRead (s .kind) (s .mac) frame)) (receive n s mac frame b c r)
+  unfolding receive
+  receive-moves mac frame b =
+      by-test (isShort b) (λ e. rw e (refuse-moves _ b ReplyRoom)) (λ e. rw e (read-moves mac b (helloRead (s .kind) (s .mac) frame)))
+
+  act-moves : (l : Local) → Moves (offeredOn n c l (Known s)) (act n s l c r)
+  unfolding act csnpComplete lookUp linkMetricOf nextHello refuse offeredOn moved whereDone
+  act-moves (Receive mac frame b) = receive-moves mac frame b
+  act-moves Release = refl
+  act-moves (CsnpComplete level) =
+      by-test (hasLevel (s .levels) level)
+      (λ e. by-test (isRestarting (c .timers .mode)) (λ m. rw (e, m) refl) (λ m. rw (e, m) refl))
+      (λ e. rw e refl)
+  act-moves (LookUp k) = by-test (asksLevel (s .kind) (s .levels) (k .level)) (λ e. rw e refl) (λ e. rw e refl)
+  act-moves LinkMetric = refl
+  act-moves NextHello = refl
+
+on-moves : (g : Gateway) (n : ℕ) (l : Local) (q : Chosen)
+    → on g n l q .next .common .timers ≡ moved (whereDone (on g n l q .answer) (offeredOn n (g .common) l q)) (g .common .timers)
+unfolding on lift moved whereDone
+on-moves g n l Unknown = refl
+on-moves g n l (Known s) = act-moves n s (g .common) (roomOf g n) l
+
+over-moves : (g : Gateway) (w : Global)
+    → carry g (judge (g .common) w) .next .common .timers
+    ≡ moved (whereDone (carry g (judge (g .common) w) .answer) (offeredOver (g .common) w)) (g .common .timers)
+unfolding judge tickOf databaseOf carry offeredOver moved whereDone
+over-moves g (Tick clock) =
+    by-test (noneOf (g .common .circuits)) (λ e. rw e refl)
+    (λ e. by-test (isBack clock (g .common)) (λ q. rw (e, q) refl) (λ q. rw (e, q) refl))
+over-moves g (DatabaseComplete level) =
+    by-test (hasLevel (enabledLevels (g .common .circuits)) level)
+    (λ e. by-test (isRestarting (g .common .timers .mode)) (λ m. rw (e, m) refl) (λ m. rw (e, m) refl))
+    (λ e. rw e refl)
+over-moves g Waiting = refl
+
+pub step-timers : (g : Gateway) (c : Call) → step g c .next .common .timers ≡ moved (eventOf g c) (g .common .timers)
+unfolding step eventOf offered
+step-timers g (At n l) = on-moves g n l (circuitOf (g .common) n)
+step-timers g (Over w) = over-moves g w
+
+pub after-timers : (g : Gateway) (cs : List Call) → after g cs .common .timers ≡ movedAll (eventsOf (trace g cs)) (g .common .timers)
+unfolding trace leftBy movedAll
+after-timers g [] = refl
+after-timers g (c ∷ cs) = after-timers (step g c .next) cs ∙ ap (movedAll (eventsOf (trace (step g c .next) cs))) (step-timers g c)

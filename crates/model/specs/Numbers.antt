@@ -1,0 +1,91 @@
+-- The numbers of every answer, case by case: the one table of them ("For any answer that is an enum, a definition gives this paper's
+-- number and values for each of its cases"). Refusals, flags, levels and circuits have document 01's numbers ("Refusals by number", "TLVs
+-- read"); the others are house. Every promise of crates gateway and isis_gr goes by this table, through Answers.
+use Prim.Native.Nat.{ℕ, _+_, _*_}
+use mathlib.Core.List.{List, [], _∷_}
+use mathlib.Core.Bool.{Bool}
+use Rattle.basics.specs.Bits.{bitOf}
+use Rattle.basics.specs.declared.levels.Levels.{Levels}
+use Rattle.basics.specs.declared.mask.Lowest.{Lowest}
+use Rattle.basics.specs.declared.mask.Lowest.the-variants.{Circuit, Nothing as NoneWaits}
+use Rattle.basics.specs.declared.refusal.Refusal.{Refusal}
+use Rattle.basics.specs.declared.refusal.Refusal.the-variants.{NoCircuit, ReplyRoom, NotHello, BadLength, TlvPastEnd, BadTlv, WrongSource, WrongNeighbor, NoRoom, ClockBack, NotRestarting, BadSetting}
+use Rattle.restart_tlv.specs.Restart.{ackFlag}
+use Rattle.adjacency.specs.declared.duty.Csnps.{Csnps}
+use Rattle.adjacency.specs.declared.duty.Csnps.the-variants.{Nothing as NoCsnps, Ordered}
+use Rattle.adjacency.specs.declared.marks.Acknowledgement.{Acknowledgement}
+use Rattle.adjacency.specs.declared.marks.Acknowledgement.the-variants.{Nothing as NoReply, Send}
+use Rattle.adjacency.specs.declared.record.Mark.{Mark}
+use Rattle.adjacency.specs.declared.record.Mark.the-variants.{Clear as Unmarked, Restart, Planned}
+use Rattle.adjacency.specs.declared.record.State.{State}
+use Rattle.adjacency.specs.declared.record.State.the-variants.{Init, Up}
+use Rattle.timer_parts.specs.declared.t1.Freed.{Freed}
+use Rattle.timer_parts.specs.declared.t1.Freed.the-variants.{Kept, Stopped, Reinitialise}
+use Rattle.timers.specs.declared.outcome.Overload.{Overload}
+use Rattle.timers.specs.declared.outcome.Overload.the-variants.{Quiet, Set, Clear, Both}
+
+-- ---- document 01's
+
+-- "Refusals by number, in the order checked"
+abbrev pub refusalNo : Refusal → ℕ
+refusalNo NoCircuit = 1
+refusalNo ReplyRoom = 2
+refusalNo NotHello = 3
+refusalNo BadLength = 4
+refusalNo TlvPastEnd = 5
+refusalNo BadTlv = 6
+refusalNo WrongSource = 7
+refusalNo WrongNeighbor = 8
+refusalNo NoRoom = 9
+refusalNo ClockBack = 10
+refusalNo NotRestarting = 11
+refusalNo BadSetting = 12
+
+-- the flags of the reply, "RA or PA alone" (2, 16), 0 without one; and its Remaining Time
+abbrev pub replyFlags : Acknowledgement → ℕ
+replyFlags NoReply = 0
+replyFlags (Send ack time) = ackFlag ack
+
+abbrev pub replyTime : Acknowledgement → ℕ
+replyTime NoReply = 0
+replyTime (Send ack time) = time
+
+-- "the lowest such circuit (or none)": 0 for none
+abbrev pub lowestNo : Lowest → ℕ
+lowestNo NoneWaits = 0
+lowestNo (Circuit n) = n
+
+-- ---- house
+
+-- levels: 1, 2, or 3 for both; 0 for none
+abbrev pub levelsNo : Levels → ℕ
+levelsNo l = bitOf (l .one) + 2 * bitOf (l .two)
+
+-- the levels of line 1's order
+abbrev pub csnpsNo : Csnps → ℕ
+csnpsNo NoCsnps = 0
+csnpsNo (Ordered l) = levelsNo l
+
+-- whether the frame stopped T1 for want of a Restart TLV, and whether the adjacency is to reinitialise (RFC 8706, 3.3.1)
+abbrev pub freedNo : Freed → ℕ
+freedNo Kept = 0
+freedNo Stopped = 1
+freedNo Reinitialise = 2
+
+-- overload: nothing, to be set, to be cleared, set and then cleared
+abbrev pub overloadNo : Overload → ℕ
+overloadNo Quiet = 0
+overloadNo Set = 1
+overloadNo Clear = 2
+overloadNo Both = 3
+
+-- the marks Restart and Planned
+abbrev pub markNo : Mark → ℕ
+markNo Unmarked = 0
+markNo Restart = 1
+markNo Planned = 2
+
+-- INIT and UP; 0 is no record
+abbrev pub stateNo : State → ℕ
+stateNo (Init d) = 1
+stateNo (Up d m) = 2

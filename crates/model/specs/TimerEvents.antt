@@ -1,0 +1,83 @@
+-- What a call is to the timers (document 01, "Timers while Restarting"): one event. The timers after a call are those that its event leaves
+-- (proofs/TimerEventLaws), so that a claim about the timers over lists of calls is one about lists of events.
+use Prim.Native.Nat.{ℕ, _-_}
+use mathlib.Core.Bool.{cond}
+use mathlib.Core.List.{List, [], _∷_, map}
+use Rattle.basics.specs.Levels.{onlyLevel}
+use Rattle.basics.specs.declared.levels.Levels.{Levels}
+use Rattle.hello.specs.Hello.{helloRead}
+use Rattle.hello.specs.declared.read.Read.{Read}
+use Rattle.hello.specs.declared.read.Read.the-variants.{Refused as RefusedRead, Accepted as ReadAs}
+use Rattle.settings.specs.declared.lengths.Lengths.{Lengths}
+use Rattle.settings.specs.declared.circuit.Circuit.{Circuit}
+use Rattle.settings.specs.declared.circuit.Chosen.{Chosen}
+use Rattle.settings.specs.declared.circuit.Chosen.the-variants.{Known, Unknown}
+use Rattle.timer_parts.specs.declared.heard.Heard.{Heard}
+use Rattle.timers.specs.Timers.{Timers, ticked, heard, csnpNoticed, databaseNoticed}
+use Rattle.control.specs.Common.{Common, circuitOf}
+use Rattle.model.specs.Answers.{Answer, Refused, Received, Ticked, Told}
+use Rattle.model.specs.Gateway.{Gateway}
+use Rattle.model.specs.Receive.{saidOf}
+use Rattle.model.specs.Step.{Local, Receive, Release, CsnpComplete, LookUp, LinkMetric, NextHello, Global, Tick, DatabaseComplete, Waiting, Call, At, Over, noneOf, step}
+use Rattle.model.specs.Trace.{Turn}
+
+-- Circuits' places count from 0. A hello: the clock at its arrival, the circuit's levels, and what the frame says. A CSNP notice: the circuit's
+-- levels, then the notice's.
+pub data TimerEvent : Type 0 where
+  Nothing : TimerEvent
+  Hello : (clock place : ℕ) → Levels → Heard → TimerEvent
+  Clock : Lengths → (clock : ℕ) → TimerEvent
+  CsnpSet : (place : ℕ) (levels notice : Levels) → TimerEvent
+  Database : (notice : Levels) → TimerEvent
+
+-- the timers that an event leaves
+unfoldable pub moved : TimerEvent → Timers → Timers
+moved Nothing t = t
+moved (Hello clock i l d) t = heard clock i l d t
+moved (Clock s clock) t = ticked s clock t
+moved (CsnpSet i l n) t = csnpNoticed i l n t
+moved (Database n) t = databaseNoticed n t
+
+unfoldable pub movedAll : List TimerEvent → Timers → Timers
+movedAll [] t = t
+movedAll (e ∷ es) t = movedAll es (moved e t)
+
+-- ---- of a call
+
+unfoldable pub heardFrom : ℕ → Circuit → Common → Read → TimerEvent
+heardFrom n s c (RefusedRead x) = Nothing
+heardFrom n s c (ReadAs h) = Hello (c .clock) (n - 1) (s .levels) (saidOf c s h)
+
+-- what it is if it is not refused
+unfoldable pub offeredOn : ℕ → Common → Local → Chosen → TimerEvent
+offeredOn n c l Unknown = Nothing
+offeredOn n c (Receive mac frame b) (Known s) = heardFrom n s c (helloRead (s .kind) (s .mac) frame)
+offeredOn n c Release (Known s) = Nothing
+offeredOn n c (CsnpComplete level) (Known s) = CsnpSet (n - 1) (s .levels) (onlyLevel level)
+offeredOn n c (LookUp k) (Known s) = Nothing
+offeredOn n c LinkMetric (Known s) = Nothing
+offeredOn n c NextHello (Known s) = Nothing
+
+-- memory that was never set up holds no timer for a tick
+unfoldable pub offeredOver : Common → Global → TimerEvent
+offeredOver c (Tick clock) = cond (noneOf (c .circuits)) Nothing (Clock (c .lengths) clock)
+offeredOver c (DatabaseComplete level) = Database (onlyLevel level)
+offeredOver c Waiting = Nothing
+
+unfoldable pub offered : Gateway → Call → TimerEvent
+offered g (At n l) = offeredOn n (g .common) l (circuitOf (g .common) n)
+offered g (Over w) = offeredOver (g .common) w
+
+-- a refused call is nothing to the timers
+unfoldable pub whereDone : Answer → TimerEvent → TimerEvent
+whereDone (Refused n) e = Nothing
+whereDone (Received f) e = e
+whereDone (Ticked lost hellos t) e = e
+whereDone (Told f) e = e
+
+unfoldable pub eventOf : Gateway → Call → TimerEvent
+eventOf g c = whereDone (step g c .answer) (offered g c)
+
+-- the events of a run
+abbrev pub eventsOf : List Turn → List TimerEvent
+eventsOf ts = map (λ t. eventOf (t .before) (t .call)) ts
