@@ -1,4 +1,4 @@
--- In the mode Running no T1 runs: setup starts none there, and no call's step on the timers starts one.
+-- In the mode Running no timer runs, and that mode stays: setup starts none there, and no call's step on the timers starts one.
 use Prim.Native.Nat.{ℕ}
 use mathlib.Core.Path.{_≡_, refl, ap, _∙_}
 use mathlib.Core.Bool.{false}
@@ -8,7 +8,7 @@ use Rattle.basics.proofs.BoolLaws.{by-test}
 use Rattle.basics.specs.declared.levels.Levels.{Levels}
 use Rattle.basics.specs.Mask.{bitsOf}
 use Rattle.timer_parts.specs.T1.{stopT1}
-use Rattle.timer_parts.specs.T2.{anyT2}
+use Rattle.timer_parts.specs.T2.{anyT2, startTimer, startT2s}
 use Rattle.timer_parts.specs.T3.{expiresT3}
 use Rattle.timer_parts.specs.declared.heard.Heard.{Heard}
 use Rattle.settings.specs.declared.lengths.Lengths.{Lengths}
@@ -26,25 +26,26 @@ unfolding anyRuns stopT1
 stopped [] = refl
 stopped (t ∷ ts) = stopped ts
 
+-- in the mode Restarting nothing is said
+restarting-quiet : (t : Timers) → t .mode ≡ Restarting → Quiet t
+restarting-quiet t m = record { t1s = λ e. cc; t2s = λ e. cc; t3 = λ e. cc }
+
 -- setup
-started-by : (s : Start) (m : Mode) → s .mode ≡ m → started s .mode ≡ Running → anyRuns (started s .t1s) ≡ false
-unfolding started startHead startHellos startT1 anyRuns bitsOf
-started-by s Running p e = rw p refl
-started-by s Restarting p e = let h : _≡_ {A = Mode} Restarting Running = rw p at e in cc
+started-by : (s : Start) (m : Mode) → s .mode ≡ m → Quiet (started s)
+unfolding started startHead startHellos startT1 startT2s startTimer anyRuns anyT2 bitsOf
+started-by s Running p = record { t1s = λ e. rw p refl; t2s = λ e. rw p refl; t3 = λ e. rw p refl }
+started-by s Restarting p = restarting-quiet (started s) (rw p refl)
 
 pub started-quiet : (s : Start) → Quiet (started s)
-started-quiet s = record { none = started-by s (s .mode) refl }
+started-quiet s = started-by s (s .mode) refl
 
 -- ---- the end of every call
 
-over-quiet : (t : Timers) → Quiet (over t)
-unfolding over
-over-quiet t = record { none = λ e. stopped (t .t1s) }
-
 finish-quiet : (t : Timers) → t .mode ≡ Restarting → Quiet (finish t)
-unfolding finish
+unfolding finish over
 finish-quiet t m =
-    by-test (anyT2 (t .t2s)) (λ a. rw a (record { none = λ e. cc })) (λ a. rw a (over-quiet t))
+    by-test (anyT2 (t .t2s)) (λ a. rw a (restarting-quiet t m))
+    (λ a. rw a (record { t1s = λ e. stopped (t .t1s); t2s = λ e. a; t3 = λ e. refl }))
 
 module _ (f : Timers → Timers) (t : Timers) (keeps : f t .mode ≡ t .mode) where
   closed-quiet : t .mode ≡ Restarting → Quiet (closed f t)

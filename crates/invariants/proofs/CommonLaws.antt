@@ -1,0 +1,241 @@
+-- What every call leaves of the common part, whatever it answers: setup's settings, a clock that does not fall, and timers of which setup's
+-- settings and the mode say what they said before.
+use Prim.Native.Nat.{ℕ, _-_, _≤_}
+use native.Mathlib.Omega.{arith}
+use mathlib.Core.Path.{_≡_, refl, _∙_}
+use mathlib.Core.Bool.{Bool}
+use mathlib.Core.List.{List, []}
+use lib.ListN.{length}
+use lib.Dec.{ltb}
+use borrow.Author.Tests.{ltb-false}
+use Rattle.basics.proofs.BoolLaws.{by-test}
+use Rattle.basics.specs.Levels.{onlyLevel, hasLevel}
+use Rattle.basics.specs.declared.levels.Levels.{Levels}
+use Rattle.basics.specs.declared.refusal.Refusal.{Refusal}
+use Rattle.hello.specs.Hello.{helloRead}
+use Rattle.hello.specs.declared.read.Hello.{Hello}
+use Rattle.hello.specs.declared.read.Read.{Read}
+use Rattle.hello.specs.declared.read.Read.the-variants.{Refused as RefusedRead, Accepted as ReadAs}
+use Rattle.adjacency.specs.Keys.{keyIn}
+use Rattle.adjacency.specs.Step.{wrongSource}
+use Rattle.adjacency.specs.declared.react.Reaction.{Reaction}
+use Rattle.adjacency.specs.declared.react.Reaction.the-variants.{Refused as RefusedReaction, Accepted}
+use Rattle.adjacency.specs.declared.record.Key.{Key}
+use Rattle.room.specs.Accept.{decided}
+use Rattle.settings.specs.Mode.{isRestarting}
+use Rattle.settings.specs.Settings.{enabledLevels}
+use Rattle.settings.specs.declared.circuit.Chosen.{Chosen}
+use Rattle.settings.specs.declared.circuit.Chosen.the-variants.{Known, Unknown}
+use Rattle.settings.specs.declared.circuit.Circuit.{Circuit}
+use Rattle.settings.specs.declared.lengths.Lengths.{Lengths}
+use Rattle.settings.specs.declared.mode.Mode.the-variants.{Running}
+use Rattle.settings.specs.declared.setup.Settings.{Settings}
+use Rattle.timer_parts.specs.declared.heard.Heard.{Heard}
+use Rattle.timers.specs.Timers.{Timers, settled, toT3, heardIn, csnpIn, noticeT2s}
+use Rattle.timers.specs.declared.outcome.TimerOutcome.{TimerOutcome}
+use Rattle.timers.proofs.TimersLaws.{mode-running}
+use Rattle.control.specs.Common.{Common, withClock, withTimers, circuitOf, startOf, setupCommon}
+use Rattle.model.specs.Answers.{Answer}
+use Rattle.model.specs.Gateway.{Room, Gateway}
+use Rattle.model.specs.Receive.{refuse, hereOf, saidOf, accepted, reacted, decidedIn, checked, readIn, receive}
+use Rattle.model.specs.Step.{Local, Receive, Release, CsnpComplete, LookUp, LinkMetric, NextHello, Global, Tick, DatabaseComplete, Waiting, Call, At, Over, asksLevel, csnpComplete, lookUp, linkMetricOf, nextHello, act, lift, on, Judged, Refused as RefusedCall, Sweep, Tell, noneOf, tickOf, databaseOf, judge, carry, step}
+use Rattle.invariants.specs.Invariants.{Quiet, SetupSettings, SetupTimers, Onward}
+use Rattle.invariants.proofs.QuietLaws.{started-quiet, settled-quiet, toT3-mode, heardIn-mode, csnpIn-mode, noticeT2s-mode}
+use Rattle.invariants.proofs.SetupTimersLaws.{started-kept, settled-kept, toT3-kept, heardIn-kept, csnpIn-kept, noticeT2s-kept}
+
+-- ---- the timers
+
+-- what a call's own step is asked for
+pub record Own (t next : Timers) : Type 0 where
+  pub mode : next .mode ≡ t .mode
+  pub kept : (s : Settings) → SetupTimers s t → SetupTimers s next
+
+own-tick : (l : Lengths) (clock : ℕ) (t : Timers) → Own t (toT3 l clock t)
+own-tick l clock t = record { mode = toT3-mode l clock t; kept = λ s h. toT3-kept s t h l clock }
+
+own-heard : (clock i : ℕ) (l : Levels) (d : Heard) (t : Timers) → Own t (heardIn clock i l d t)
+own-heard clock i l d t = record { mode = heardIn-mode clock i l d t; kept = λ s h. heardIn-kept s t h clock i l d }
+
+own-csnp : (i : ℕ) (l n : Levels) (t : Timers) → Own t (csnpIn i l n t)
+own-csnp i l n t = record { mode = csnpIn-mode i l n t; kept = λ s h. csnpIn-kept s t h i l n }
+
+own-database : (n : Levels) (t : Timers) → Own t (noticeT2s n t)
+own-database n t = record { mode = noticeT2s-mode n t; kept = λ s h. noticeT2s-kept s t h n }
+
+-- what the call then gives
+pub record Passes (t next : Timers) : Type 0 where
+  pub running : t .mode ≡ Running → next .mode ≡ Running
+  pub quiet : Quiet t → Quiet next
+  pub kept : (s : Settings) → SetupTimers s t → SetupTimers s next
+
+passes-settled : (f : Timers → Timers) (t : Timers) → Own t (f t) → Passes t (settled f t)
+passes-settled f t own =
+    record {
+      running = λ e. mode-running t e f;
+      quiet = settled-quiet f t (own .mode);
+      kept = λ s h. settled-kept s t h f (own .kept s h);
+    }
+
+-- ---- the common part
+
+-- a call that does not move the clock
+pub record Keeps (c d : Common) : Type 0 where
+  pub system : d .system ≡ c .system
+  pub lengths : d .lengths ≡ c .lengths
+  pub circuits : d .circuits ≡ c .circuits
+  pub clock : d .clock ≡ c .clock
+  pub timers : Passes (c .timers) (d .timers)
+
+keeps-same : (c : Common) → Keeps c c
+keeps-same c =
+    record { system = refl; lengths = refl; circuits = refl; clock = refl; timers = record { running = λ e. e; quiet = λ q. q; kept = λ s h. h } }
+
+keeps-settled : (c : Common) (f : Timers → Timers) → Own (c .timers) (f (c .timers)) → Keeps c (withTimers (settled f (c .timers)) c)
+keeps-settled c f own =
+    record { system = refl; lengths = refl; circuits = refl; clock = refl; timers = passes-settled f (c .timers) own }
+
+-- ---- the calls on a circuit
+
+module _ (n : ℕ) (s : Circuit) (c : Common) (r : Room) where
+  refuse-keeps : (b : List ℕ) (x : Refusal) → Keeps c (refuse b x c r .common)
+  unfolding refuse
+  refuse-keeps b x = keeps-same c
+
+  reacted-keeps : (h : Hello) (k : Key) (b : List ℕ) (a : Reaction) → Keeps c (reacted n s h k b a c r .common)
+  unfolding reacted accepted
+  reacted-keeps h k b (RefusedReaction x) = refuse-keeps b x
+  reacted-keeps h k b (Accepted after reply line) =
+      keeps-settled c (heardIn (c .clock) (n - 1) (s .levels) (saidOf c s h)) (own-heard (c .clock) (n - 1) (s .levels) (saidOf c s h) (c .timers))
+
+  read-keeps : (mac : ℕ) (b : List ℕ) (x : Read) → Keeps c (readIn n s mac b x c r .common)
+  unfolding readIn checked decidedIn
+  read-keeps mac b (RefusedRead x) = refuse-keeps b x
+  read-keeps mac b (ReadAs h) =
+      by-test (wrongSource (s .levels) (c .system) h) (λ e. rw e (refuse-keeps b _))
+      (λ e. rw e (reacted-keeps h (keyIn (s .kind) mac h) b (decided (hereOf c s) (keyIn (s .kind) mac h) h (r .slots))))
+
+  receive-keeps : (mac : ℕ) (frame b : List ℕ) → Keeps c (receive n s mac frame b c r .common)
+  unfolding receive
+  receive-keeps mac frame b =
+      by-test (ltb (length b) 11) (λ e. rw e (refuse-keeps b _)) (λ e. rw e (read-keeps mac b (helloRead (s .kind) (s .mac) frame)))
+
+  csnp-keeps : (level : ℕ) → Keeps c (csnpComplete n s level c r .common)
+  unfolding csnpComplete
+  csnp-keeps level =
+      by-test (hasLevel (s .levels) level)
+      (λ e. by-test (isRestarting (c .timers .mode))
+      (λ m. rw (e, m) (keeps-settled c (csnpIn (n - 1) (s .levels) (onlyLevel level)) (own-csnp (n - 1) (s .levels) (onlyLevel level) (c .timers))))
+      (λ m. rw (e, m) (refuse-keeps [] _)))
+      (λ e. rw e (refuse-keeps [] _))
+
+  look-keeps : (k : Key) → Keeps c (lookUp s k c r .common)
+  unfolding lookUp
+  look-keeps k =
+      by-test (asksLevel (s .kind) (s .levels) (k .level)) (λ e. rw e (keeps-same c)) (λ e. rw e (refuse-keeps [] _))
+
+  pub act-keeps : (l : Local) → Keeps c (act n s l c r .common)
+  unfolding act linkMetricOf nextHello
+  act-keeps (Receive mac frame b) = receive-keeps mac frame b
+  act-keeps Release = keeps-same c
+  act-keeps (CsnpComplete level) = csnp-keeps level
+  act-keeps (LookUp k) = look-keeps k
+  act-keeps LinkMetric = keeps-same c
+  act-keeps NextHello = keeps-same c
+
+-- ---- the calls that name none
+
+pub data JudgedOk (c : Common) : Judged → Type 0 where
+  refusing : {x : Refusal} → JudgedOk c (RefusedCall x)
+  sweep : {clock : ℕ} {d : Common} {hellos : List Bool} {o : TimerOutcome} → c .clock ≤ clock → Keeps (withClock clock c) d
+      → JudgedOk c (Sweep clock d hellos o)
+  tell : {d : Common} {a : Answer} → Keeps c d → JudgedOk c (Tell d a)
+
+module _ (c : Common) where
+  tick-ok : (clock : ℕ) → JudgedOk c (tickOf clock c)
+  unfolding tickOf
+  tick-ok clock =
+      by-test (noneOf (c .circuits)) (λ e. rw e (tell (keeps-same c)))
+      (λ e. by-test (ltb clock (c .clock)) (λ b. rw (e, b) refusing)
+      (λ b. rw (e, b) (sweep (ltb-false _ _ b) (keeps-settled (withClock clock c) (toT3 (c .lengths) clock) (own-tick (c .lengths) clock (c .timers))))))
+
+  database-ok : (level : ℕ) → JudgedOk c (databaseOf level c)
+  unfolding databaseOf
+  database-ok level =
+      by-test (hasLevel (enabledLevels (c .circuits)) level)
+      (λ e. by-test (isRestarting (c .timers .mode))
+      (λ m. rw (e, m) (tell (keeps-settled c (noticeT2s (onlyLevel level)) (own-database (onlyLevel level) (c .timers)))))
+      (λ m. rw (e, m) refusing))
+      (λ e. rw e refusing)
+
+  pub judge-ok : (w : Global) → JudgedOk c (judge c w)
+  unfolding judge
+  judge-ok (Tick clock) = tick-ok clock
+  judge-ok (DatabaseComplete level) = database-ok level
+  judge-ok Waiting = tell (keeps-same c)
+
+-- ---- every call
+
+pub record Moves (c d : Common) : Type 0 where
+  pub system : d .system ≡ c .system
+  pub lengths : d .lengths ≡ c .lengths
+  pub circuits : d .circuits ≡ c .circuits
+  pub clock : c .clock ≤ d .clock
+  pub timers : Passes (c .timers) (d .timers)
+
+-- the clock moved on, and the rest kept
+moved : (c d : Common) (clock : ℕ) → c .clock ≤ clock → Keeps (withClock clock c) d → Moves c d
+moved c d clock le k =
+    record { system = k .system; lengths = k .lengths; circuits = k .circuits; clock = rw (k .clock) le; timers = k .timers }
+
+keeps-moves : (c d : Common) → Keeps c d → Moves c d
+keeps-moves c d k =
+    record { system = k .system; lengths = k .lengths; circuits = k .circuits; clock = omega (arith, k .clock); timers = k .timers }
+
+module _ (g : Gateway) where
+  on-moves : (n : ℕ) (l : Local) (x : Chosen) → Moves (g .common) (on g n l x .next .common)
+  unfolding on lift
+  on-moves n l Unknown = keeps-moves (g .common) (g .common) (keeps-same (g .common))
+  on-moves n l (Known s) = keeps-moves (g .common) _ (act-keeps n s (g .common) _ l)
+
+  carry-moves : (j : Judged) → JudgedOk (g .common) j → Moves (g .common) (carry g j .next .common)
+  unfolding carry
+  carry-moves (RefusedCall x) refusing = keeps-moves (g .common) (g .common) (keeps-same (g .common))
+  carry-moves (Sweep clock d hellos o) (sweep le k) = moved (g .common) d clock le k
+  carry-moves (Tell d a) (tell k) = keeps-moves (g .common) d k
+
+  pub step-moves : (c : Call) → Moves (g .common) (step g c .next .common)
+  unfolding step
+  step-moves (At n l) = on-moves n l (circuitOf (g .common) n)
+  step-moves (Over w) = carry-moves (judge (g .common) w) (judge-ok (g .common) w)
+
+  pub step-onward : (c : Call) → Onward (g .common) (step g c .next .common)
+  step-onward c = let m = step-moves c in record { clock = m .clock; running = m .timers .running }
+
+-- ---- what setup gives, and every call keeps
+
+pub record CommonOk (s : Settings) (c : Common) : Type 0 where
+  pub settings : SetupSettings s c
+  pub quiet : Quiet (c .timers)
+  pub timers : SetupTimers s (c .timers)
+
+pub common-new : (s : Settings) → CommonOk s (setupCommon s)
+unfolding setupCommon
+common-new s =
+    record {
+      settings = record { system = refl; lengths = refl; circuits = refl };
+      quiet = started-quiet (startOf s);
+      timers = started-kept s;
+    }
+
+pub common-moved : (s : Settings) (c d : Common) → Moves c d → CommonOk s c → CommonOk s d
+common-moved s c d m h =
+    record {
+      settings =
+          record {
+            system = m .system ∙ h .settings .system;
+            lengths = m .lengths ∙ h .settings .lengths;
+            circuits = m .circuits ∙ h .settings .circuits;
+          };
+      quiet = m .timers .quiet (h .quiet);
+      timers = m .timers .kept s (h .timers);
+    }
