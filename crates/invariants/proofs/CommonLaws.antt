@@ -179,17 +179,22 @@ pub record Moves (c d : Common) : Type 0 where
   pub system : d .system ≡ c .system
   pub lengths : d .lengths ≡ c .lengths
   pub circuits : d .circuits ≡ c .circuits
-  pub clock : c .clock ≤ d .clock
   pub timers : Passes (c .timers) (d .timers)
+  pub onward : Onward c d
 
--- the clock moved on, and the rest kept
+-- the clock moved on, or stood, and the rest kept
 moved : (c d : Common) (clock : ℕ) → c .clock ≤ clock → Keeps (withClock clock c) d → Moves c d
 moved c d clock le k =
-    record { system = k .system; lengths = k .lengths; circuits = k .circuits; clock = rw (k .clock) le; timers = k .timers }
+    record {
+      system = k .system;
+      lengths = k .lengths;
+      circuits = k .circuits;
+      timers = k .timers;
+      onward = record { clock = omega (arith, k .clock); running = k .timers .running };
+    }
 
 keeps-moves : (c d : Common) → Keeps c d → Moves c d
-keeps-moves c d k =
-    record { system = k .system; lengths = k .lengths; circuits = k .circuits; clock = omega (arith, k .clock); timers = k .timers }
+keeps-moves c d k = moved c d (c .clock) (omega arith) k
 
 module _ (g : Gateway) where
   on-moves : (n : ℕ) (l : Local) (x : Chosen) → Moves (g .common) (on g n l x .next .common)
@@ -207,9 +212,6 @@ module _ (g : Gateway) where
   unfolding step
   step-moves (At n l) = on-moves n l (circuitOf (g .common) n)
   step-moves (Over w) = carry-moves (judge (g .common) w) (judge-ok (g .common) w)
-
-  pub step-onward : (c : Call) → Onward (g .common) (step g c .next .common)
-  step-onward c = let m = step-moves c in record { clock = m .clock; running = m .timers .running }
 
 -- ---- what setup gives, and every call keeps
 

@@ -9,7 +9,6 @@ use lib.Seq.{getD-take}
 use lib.Dec.{ltb}
 use borrow.Author.Tests.{ltb-true}
 use Rattle.basics.specs.Mask.{circuits}
-use Rattle.basics.specs.declared.kind.CircuitKind.the-variants.{P2p}
 use Rattle.basics.proofs.BoolLaws.{by-test, both}
 use Rattle.adjacency.specs.Record.{expiryOf}
 use Rattle.adjacency.specs.declared.record.Key.{Key}
@@ -28,7 +27,7 @@ use Rattle.settings.specs.declared.circuit.Chosen.{Chosen}
 use Rattle.settings.specs.declared.circuit.Chosen.the-variants.{Known, Unknown}
 use Rattle.model.specs.Gateway.{Room, Gateway, numbered, renew, noRoom, roomOf, newRoom, newGateway, Started, setup}
 use Rattle.model.specs.Step.{sweptRoom}
-use Rattle.invariants.specs.Invariants.{Each, end, roomFor, Span, BySystem}
+use Rattle.invariants.specs.Invariants.{Each, end, roomFor, Span, KeyFits}
 use Rattle.invariants.proofs.CommonLaws.{CommonOk, common-new}
 use Rattle.invariants.proofs.RoomLaws.{each-put, each-sweep, NoRecords, no-records-each, no-records-gather, empty-no-records, openPlaces, empty-places, places-put, places-sweep, single-sweep, single-put}
 
@@ -40,13 +39,13 @@ pub data Size : Chosen → List Slot → Type 0 where
   none-of : {t : List Slot} → NoRecords t → Size Unknown t
 
 -- what a key on that circuit is
-abbrev pub KeyOf : Chosen → Key → Type 0
-KeyOf (Known s) k = s .kind ≡ P2p → BySystem k
-KeyOf Unknown k = Unit {0}
+abbrev pub KeyOf : ℕ → Chosen → Key → Type 0
+KeyOf own (Known s) k = KeyFits own s k
+KeyOf own Unknown k = Unit {0}
 
-pub record RoomOk (x : Chosen) (clock : ℕ) (t : List Slot) : Type 0 where
+pub record RoomOk (own : ℕ) (x : Chosen) (clock : ℕ) (t : List Slot) : Type 0 where
   pub spans : Each (λ r. Span clock (expiryOf (r .state))) t
-  pub keys : Each (λ r. KeyOf x (r .key)) t
+  pub keys : Each (λ r. KeyOf own x (r .key)) t
   pub single : (k : Key) → length (gather k t) ≤ 1
   pub size : Size x t
 
@@ -55,13 +54,13 @@ module _ (t : List Slot) (b : NoRecords t) where
   single-no-records : (k : Key) → length (gather k t) ≤ 1
   single-no-records k = rw (no-records-gather k t b) (omega arith)
 
-  no-records-ok : (x : Chosen) (clock : ℕ) → Size x t → RoomOk x clock t
-  no-records-ok x clock z = record { spans = no-records-each t b; keys = no-records-each t b; single = single-no-records; size = z }
+  no-records-ok : (own : ℕ) (x : Chosen) (clock : ℕ) → Size x t → RoomOk own x clock t
+  no-records-ok own x clock z = record { spans = no-records-each t b; keys = no-records-each t b; single = single-no-records; size = z }
 
 -- a record put
-pub room-put : (s : Circuit) (clock : ℕ) (t : List Slot) (k : Key) (v : State) → RoomOk (Known s) clock t → crowded k t ≡ false
-    → Span clock (expiryOf v) → KeyOf (Known s) k → RoomOk (Known s) clock (put k v t)
-room-put s clock t k v ok free span key =
+pub room-put : (own : ℕ) (s : Circuit) (clock : ℕ) (t : List Slot) (k : Key) (v : State) → RoomOk own (Known s) clock t → crowded k t ≡ false
+    → Span clock (expiryOf v) → KeyFits own s k → RoomOk own (Known s) clock (put k v t)
+room-put own s clock t k v ok free span key =
     record {
       spans = each-put k v span t (ok .spans);
       keys = each-put k v key t (ok .keys);
@@ -77,9 +76,9 @@ size-sweep : (x : Chosen) (p : State → Bool) (t : List Slot) → Size x t → 
 size-sweep (Known s) p t (places-of e) = places-of (places-sweep p t ∙ e)
 size-sweep Unknown p t (none-of b) = none-of (each-sweep p (λ r e q. q) t b)
 
-pub room-sweep : (x : Chosen) (old clock : ℕ) (p : State → Bool) (t : List Slot)
-    → ((s : State) → p s ≡ false → Span old (expiryOf s) → Span clock (expiryOf s)) → RoomOk x old t → RoomOk x clock (sweep p t)
-room-sweep x old clock p t f ok =
+pub room-sweep : (own : ℕ) (x : Chosen) (old clock : ℕ) (p : State → Bool) (t : List Slot)
+    → ((s : State) → p s ≡ false → Span old (expiryOf s) → Span clock (expiryOf s)) → RoomOk own x old t → RoomOk own x clock (sweep p t)
+room-sweep own x old clock p t f ok =
     record {
       spans = each-sweep p (λ r. f (r .state)) t (ok .spans);
       keys = each-sweep p (λ r e q. q) t (ok .keys);
@@ -91,7 +90,7 @@ room-sweep x old clock p t f ok =
 
 pub record RoomsOk (g : Gateway) : Type 0 where
   pub hold : (n : ℕ) (s : Circuit) → circuitOf (g .common) n ≡ Known s → s .hold ≤ 65535
-  pub rooms : (n : ℕ) → RoomOk (circuitOf (g .common) n) (g .common .clock) (roomOf g n .slots)
+  pub rooms : (n : ℕ) → RoomOk (g .common .system) (circuitOf (g .common) n) (g .common .clock) (roomOf g n .slots)
 
 -- ---- rooms after a call
 
@@ -169,14 +168,14 @@ module _ (s : Settings) (ok : settingsOk s ≡ true) where
       rw (new-at (s .circuits) i (noCircuit) (below .1), getD-take (s .count) (s .circuits) i (noCircuit) (below .0))
       (empty-places (getD (s .circuits) i (noCircuit) .kind))
 
-  new-room : (n : ℕ) → RoomOk (circuitOf (setupCommon s) n) (s .clock) (numbered (map newRoom (s .circuits)) n noRoom .slots)
+  new-room : (n : ℕ) → RoomOk (s .system) (circuitOf (setupCommon s) n) (s .clock) (numbered (map newRoom (s .circuits)) n noRoom .slots)
   unfolding circuitOf setupCommon numbered
-  new-room zero = no-records-ok [] end Unknown (s .clock) (none-of end)
+  new-room zero = no-records-ok [] end (s .system) Unknown (s .clock) (none-of end)
   new-room (suc i) =
       let b = new-no-records (s .circuits) i in
       by-test (ltb i (length (circuitsOf s)))
-      (λ a. rw a (no-records-ok _ b (Known (getD (circuitsOf s) i (noCircuit))) (s .clock) (places-of (new-places i (ltb-true _ _ a)))))
-      (λ a. rw a (no-records-ok _ b Unknown (s .clock) (none-of b)))
+      (λ a. rw a (no-records-ok _ b (s .system) (Known (getD (circuitsOf s) i (noCircuit))) (s .clock) (places-of (new-places i (ltb-true _ _ a)))))
+      (λ a. rw a (no-records-ok _ b (s .system) Unknown (s .clock) (none-of b)))
 
   new-rooms : RoomsOk (newGateway s)
   unfolding newGateway setupCommon

@@ -31,10 +31,10 @@ use Rattle.model.specs.Answers.{Received, Ticked}
 use Rattle.model.specs.Gateway.{Gateway, roomOf, recordAt}
 use Rattle.model.specs.Receive.{receive}
 use Rattle.model.specs.Step.{Call, At, Over, Receive, Tick, act, lift, on, noneOf, tickOf, judge, carry, step}
-use Rattle.invariants.specs.Invariants.{after, Octets, AllFit, none, more, Each, records, roomFor, TrueTime, TrueReplies, AboveClock, TickSweeps, Bounded, P2pKeys, NearExpiries, Invariant, Invariants}
-use Rattle.invariants.proofs.RoomLaws.{each-map, each-sweep, no-records-each, no-records-records, openPlaces, records-places}
+use Rattle.invariants.specs.Invariants.{after, Octets, AllFit, none, more, Each, records, roomFor, TrueTime, TrueReplies, AboveClock, TickSweeps, Bounded, KeysFit, NearExpiries, Invariant, Invariants}
+use Rattle.invariants.proofs.RoomLaws.{each-sweep, no-records-each, no-records-records, openPlaces, records-places}
 use Rattle.invariants.proofs.GatewayLaws.{Size, places-of, none-of, RoomOk, RoomsOk, renew-same, swept-at, Holds, setup-holds}
-use Rattle.invariants.proofs.CommonLaws.{act-keeps, step-onward}
+use Rattle.invariants.proofs.CommonLaws.{act-keeps, step-moves}
 use Rattle.invariants.proofs.ReceiveLaws.{receive-reply}
 use Rattle.invariants.proofs.StepLaws.{step-holds}
 
@@ -75,11 +75,8 @@ module _ (g : Gateway) (h : RoomsOk g) where
         single = λ n k. h .rooms n .single k;
       }
 
-  p2p-keys : P2pKeys g
-  p2p-keys =
-      record {
-        known = λ n s e p2p. each-map (λ r q. q p2p) (roomOf g n .slots) (rw e at (h .rooms n .keys));
-      }
+  keys-fit : KeysFit g
+  keys-fit = record { fit = λ n s e. rw e at (h .rooms n .keys) }
 
   near-expiries : NearExpiries g
   near-expiries = record { near = λ n. h .rooms n .spans }
@@ -111,7 +108,7 @@ module _ (g : Gateway) (h : RoomsOk g) where
         → TrueTime (step g (At n (Receive mac frame buffer))) n (keyIn (s .kind) mac j) time
     unfolding step on lift act recordAt
     reply-true o ack time f e r a q =
-        let ok : RoomOk (Known s) (g .common .clock) (roomOf g n .slots) = rw e at (h .rooms n) in
+        let ok : RoomOk (g .common .system) (Known s) (g .common .clock) (roomOf g n .slots) = rw e at (h .rooms n) in
         let done = act-keeps n s (g .common) (roomOf g n) (Receive mac frame buffer) in
         let w = receive-reply (g .common) s (roomOf g n) (h .hold n s e) ok n mac buffer j frame f r .said o ack time (rw e at a) q in
         rw e
@@ -132,12 +129,12 @@ holds-invariant s g h =
       replies = true-replies g (h .rooms);
       ticks = tick-sweeps g (h .rooms);
       rooms = bounded g (h .rooms);
-      keys = p2p-keys g (h .rooms);
+      keys = keys-fit g (h .rooms);
       expiries = near-expiries g (h .rooms);
       settings = h .common .settings;
       quiet = h .common .quiet;
       timers = h .common .timers;
-      onward = step-onward g;
+      onward = λ c. step-moves g c .onward;
     }
 
 -- ---- any list of calls

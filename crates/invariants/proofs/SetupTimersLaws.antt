@@ -37,14 +37,10 @@ use Rattle.timers.specs.Events.{startHead, startT1, started}
 use Rattle.timers.specs.Memory.{t1Bits}
 use Rattle.control.specs.Common.{presentOf, startOf}
 use Rattle.model.specs.Gateway.{numbered, renew}
-use Rattle.invariants.specs.Invariants.{SetupTimers}
+use Rattle.invariants.specs.Invariants.{OnCircuits, T2Ends, t3Ends, SetupTimers}
 use Rattle.invariants.proofs.NumberedLaws.{renew-all, map-all}
 
 -- ---- T1: no step of a T1 starts one
-
--- the T1s run on circuits up to this number
-abbrev OnCircuits : ℕ → List T1 → Type 0
-OnCircuits count l = (n : ℕ) → numbered l n noT1 .runs ≡ true → n ≤ count
 
 abbrev StartsNone : (T1 → T1) → Type 0
 StartsNone f = (x : T1) → f x .runs ≡ true → x .runs ≡ true
@@ -71,13 +67,17 @@ csnp-none : (l n : Levels) → StartsNone (λ x. satisfied l (noted n x))
 unfolding noted
 csnp-none l n x e = satisfied-none l (noted n x) e
 
-module _ (count : ℕ) (f : T1 → T1) (none : StartsNone f) (l : List T1) (h : OnCircuits count l) where
-  all-on : OnCircuits count (map f l)
-  all-on = map-all noT1 (λ n x. x .runs ≡ true → n ≤ count) f (λ n x p e. p (none x e)) l h
+-- what is true of the numbers of the T1s that run
+abbrev RunsOn : (ℕ → Type 0) → List T1 → Type 0
+RunsOn P l = (n : ℕ) → numbered l n noT1 .runs ≡ true → P n
 
-  one-on : (i : ℕ) → OnCircuits count (set l i (f (getD l i noT1)))
+module _ {P : ℕ → Type 0} (f : T1 → T1) (none : StartsNone f) (l : List T1) (h : RunsOn P l) where
+  all-on : RunsOn P (map f l)
+  all-on = map-all noT1 (λ n x. x .runs ≡ true → P n) f (λ n x p e. p (none x e)) l h
+
+  one-on : (i : ℕ) → RunsOn P (set l i (f (getD l i noT1)))
   unfolding numbered renew
-  one-on i = renew-all noT1 (λ n x. x .runs ≡ true → n ≤ count) l (suc i) (f (getD l i noT1)) h (λ e. h (suc i) (none (getD l i noT1) e))
+  one-on i = renew-all noT1 (λ n x. x .runs ≡ true → P n) l (suc i) (f (getD l i noT1)) h (λ e. h (suc i) (none (getD l i noT1) e))
 
 -- ---- T2: no step starts one or moves its deadline
 
@@ -101,13 +101,14 @@ notice-none : (on : Bool) → MovesNone (noticeT2 on)
 unfolding noticeT2
 notice-none on x at e = e
 
--- each running T2 ends then
-abbrev DueAt : ℕ → T2s → Type 0
-DueAt at t = (k : Level) (deadline : ℕ) → t2At k t .timer ≡ Until deadline → deadline ≡ at
+-- what is true of the deadlines of the T2s that run
+abbrev DueAt : (Level → ℕ → Type 0) → T2s → Type 0
+DueAt P t = (k : Level) (deadline : ℕ) → t2At k t .timer ≡ Until deadline → P k deadline
 
-both-due : (at : ℕ) (f : Level → T2 → T2) → ((k : Level) → MovesNone (f k)) → (t : T2s) → DueAt at t → DueAt at (t2sOf (λ k. f k (t2At k t)))
-both-due at f none t h First deadline e = h First deadline (none First (t .one) deadline e)
-both-due at f none t h Second deadline e = h Second deadline (none Second (t .two) deadline e)
+both-due : {P : Level → ℕ → Type 0} (f : Level → T2 → T2) → ((k : Level) → MovesNone (f k)) → (t : T2s) → DueAt P t
+    → DueAt P (t2sOf (λ k. f k (t2At k t)))
+both-due f none t h First deadline e = h First deadline (none First (t .one) deadline e)
+both-due f none t h Second deadline e = h Second deadline (none Second (t .two) deadline e)
 
 -- ---- T3: no step starts it or raises its deadline
 
@@ -137,22 +138,22 @@ module _ (s : Settings) (t : Timers) (h : SetupTimers s t) where
   unfolding withT1s
   t1s-kept l k = record { t1s = k; t2s = h .t2s; t3 = h .t3 }
 
-  t2s-kept : (both : T2s) → DueAt (s .clock + s .lengths .t2) both → SetupTimers s (withT2s t both)
+  t2s-kept : (both : T2s) → DueAt (T2Ends s) both → SetupTimers s (withT2s t both)
   unfolding withT2s
   t2s-kept both k = record { t1s = h .t1s; t2s = k; t3 = h .t3 }
 
-  t3-kept : (x : T3) → DueBy (s .clock + 65535) x → SetupTimers s (withT3 t x)
+  t3-kept : (x : T3) → DueBy (t3Ends s) x → SetupTimers s (withT3 t x)
   unfolding withT3
   t3-kept x k = record { t1s = h .t1s; t2s = h .t2s; t3 = k }
 
   stopped-kept : SetupTimers s (withT1s t (map stopT1 (t .t1s)))
-  stopped-kept = t1s-kept (map stopT1 (t .t1s)) (all-on (s .count) stopT1 stop-none (t .t1s) (h .t1s))
+  stopped-kept = t1s-kept (map stopT1 (t .t1s)) (all-on stopT1 stop-none (t .t1s) (h .t1s))
 
   cancelT2s-kept : SetupTimers s (cancelT2s t)
   unfolding cancelT2s cancelBoth
   cancelT2s-kept =
       let w : Levels = levelsWith (λ k. waits k t) in
-      t2s-kept (cancelBoth w (t .t2s)) (both-due _ (λ k. cancelT2 (isOn k w)) (λ k. cancel-none (isOn k w)) (t .t2s) (h .t2s))
+      t2s-kept (cancelBoth w (t .t2s)) (both-due (λ k. cancelT2 (isOn k w)) (λ k. cancel-none (isOn k w)) (t .t2s) (h .t2s))
 
   finish-kept : SetupTimers s (finish t)
   unfolding finish over withT1s
@@ -164,11 +165,11 @@ module _ (s : Settings) (t : Timers) (h : SetupTimers s t) where
 
   tickT1s-kept : (l : Lengths) (clock : ℕ) → SetupTimers s (tickT1s l clock t)
   unfolding tickT1s
-  tickT1s-kept l clock = t1s-kept _ (all-on (s .count) (tickT1 l clock) (tick-none l clock) (t .t1s) (h .t1s))
+  tickT1s-kept l clock = t1s-kept _ (all-on (tickT1 l clock) (tick-none l clock) (t .t1s) (h .t1s))
 
   expireT2s-kept : (clock : ℕ) → SetupTimers s (expireT2s clock t)
   unfolding expireT2s expireBoth
-  expireT2s-kept clock = t2s-kept (expireBoth clock (t .t2s)) (both-due _ (λ k. expireT2 clock) (λ k. expire-none clock) (t .t2s) (h .t2s))
+  expireT2s-kept clock = t2s-kept (expireBoth clock (t .t2s)) (both-due (λ k. expireT2 clock) (λ k. expire-none clock) (t .t2s) (h .t2s))
 
   tickT3-kept : (clock : ℕ) → SetupTimers s (tickT3 clock t)
   unfolding tickT3 withT1s withT3
@@ -179,7 +180,7 @@ module _ (s : Settings) (t : Timers) (h : SetupTimers s t) where
 
   atT1-kept : (i : ℕ) (f : T1 → T1) → StartsNone f → SetupTimers s (atT1 i f t)
   unfolding atT1
-  atT1-kept i f none = t1s-kept _ (one-on (s .count) f none (t .t1s) (h .t1s) i)
+  atT1-kept i f none = t1s-kept _ (one-on f none (t .t1s) (h .t1s) i)
 
   pub csnpIn-kept : (i : ℕ) (l n : Levels) → SetupTimers s (csnpIn i l n t)
   unfolding csnpIn
@@ -187,7 +188,7 @@ module _ (s : Settings) (t : Timers) (h : SetupTimers s t) where
 
   pub noticeT2s-kept : (n : Levels) → SetupTimers s (noticeT2s n t)
   unfolding noticeT2s noticeBoth
-  noticeT2s-kept n = t2s-kept (noticeBoth n (t .t2s)) (both-due _ (λ k. noticeT2 (isOn k n)) (λ k. notice-none (isOn k n)) (t .t2s) (h .t2s))
+  noticeT2s-kept n = t2s-kept (noticeBoth n (t .t2s)) (both-due (λ k. noticeT2 (isOn k n)) (λ k. notice-none (isOn k n)) (t .t2s) (h .t2s))
 
 module _ (s : Settings) (t : Timers) (h : SetupTimers s t) where
   pub toT3-kept : (l : Lengths) (clock : ℕ) → SetupTimers s (toT3 l clock t)
@@ -226,23 +227,24 @@ started-runs deadline (b ∷ bs) (suc i) = started-runs deadline bs i
 
 started-on : (deadline n m : ℕ) → m < 2 ^ n → OnCircuits n (map (startT1 deadline) (t1Bits m))
 unfolding numbered noT1
-started-on deadline n m h zero e = omega arith
+started-on deadline n m h zero e = absurd (let z : _≡_ {A = ℕ} 0 1 = cc in omega arith)
 started-on deadline n m h (suc i) e = below n _ m i h (sym (started-runs deadline (t1Bits m) i) ∙ e)
 
-start-timer : (on : Bool) (at deadline : ℕ) → startTimer on at ≡ Until deadline → deadline ≡ at
+start-timer : (on : Bool) (at deadline : ℕ) → startTimer on at ≡ Until deadline → (on ≡ true) × (deadline ≡ at)
 unfolding startTimer
-start-timer true at deadline e = cc
-start-timer false at deadline e = cc
+start-timer true at deadline e = (refl, cc)
+start-timer false at deadline e = (cc, cc)
 
-start-due : (at : ℕ) (l : Levels) → DueAt at (startT2s l at)
+start-due : (l : Levels) (at : ℕ) → DueAt (λ k deadline. (isOn k l ≡ true) × (deadline ≡ at)) (startT2s l at)
 unfolding startT2s
-start-due at l First deadline e = start-timer (l .one) at deadline e
-start-due at l Second deadline e = start-timer (l .two) at deadline e
+start-due l at First deadline e = start-timer (l .one) at deadline e
+start-due l at Second deadline e = start-timer (l .two) at deadline e
 
-none-due : (at : ℕ) → DueAt at (startT2s (record { one = false; two = false }) 0)
+-- no level, no T2
+none-due : (P : Level → ℕ → Type 0) (at : ℕ) → DueAt P (startT2s (record { one = false; two = false }) at)
 unfolding startT2s startTimer
-none-due at First deadline e = cc
-none-due at Second deadline e = cc
+none-due P at First deadline e = absurd (let z : _≡_ {A = ℕ} 0 1 = cc in omega arith)
+none-due P at Second deadline e = absurd (let z : _≡_ {A = ℕ} 0 1 = cc in omega arith)
 
 started-by : (s : Settings) (m : Mode) → s .mode ≡ m → SetupTimers s (started (startOf s))
 unfolding started startHead
@@ -250,7 +252,7 @@ started-by s Running p =
     rw p
     (record {
       t1s = started-on (s .clock + s .lengths .t1) (s .count) 0 (pow-pos (s .count));
-      t2s = none-due (s .clock + s .lengths .t2);
+      t2s = none-due _ 0;
       t3 = λ deadline e. absurd (let z : _≡_ {A = ℕ} 0 1 = cc in omega arith);
     })
 started-by s Restarting p =
@@ -258,7 +260,9 @@ started-by s Restarting p =
     rw p
     (record {
       t1s = started-on (s .clock + s .lengths .t1) (s .count) (presentOf (s .count)) (omega arith);
-      t2s = start-due (s .clock + s .lengths .t2) (enabledLevels (circuitsOf s));
+      t2s = λ k deadline e.
+          let z = start-due (enabledLevels (circuitsOf s)) (s .clock + s .lengths .t2) k deadline e in
+          record { enabled = z .0; due = z .1 };
       t3 = λ deadline e. let z : s .clock + 65535 ≡ deadline = cc in omega arith;
     })
 

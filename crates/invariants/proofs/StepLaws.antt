@@ -14,7 +14,7 @@ use Rattle.adjacency.specs.Place.{plannedState, expiredBy}
 use Rattle.settings.specs.Mode.{isRestarting}
 use Rattle.settings.specs.declared.circuit.Circuit.{Circuit}
 use Rattle.settings.specs.declared.setup.Settings.{Settings}
-use Rattle.control.specs.Common.{Common, circuitOf}
+use Rattle.control.specs.Common.{Common, withClock, circuitOf}
 use Rattle.settings.specs.declared.circuit.Chosen.{Chosen}
 use Rattle.settings.specs.declared.circuit.Chosen.the-variants.{Known, Unknown}
 use Rattle.model.specs.Gateway.{Room, Gateway, noRoom, numbered, renew, roomOf}
@@ -28,7 +28,7 @@ use Rattle.invariants.proofs.ReceiveLaws.{ActOk, refuse-ok, receive-ok}
 
 -- ---- a call on a circuit
 
-module _ (n : ℕ) (c : Common) (s : Circuit) (r : Room) (hold : s .hold ≤ 65535) (ok : RoomOk (Known s) (c .clock) (r .slots)) where
+module _ (n : ℕ) (c : Common) (s : Circuit) (r : Room) (hold : s .hold ≤ 65535) (ok : RoomOk (c .system) (Known s) (c .clock) (r .slots)) where
   csnp-ok : (level : ℕ) → ActOk c s (csnpComplete n s level c r)
   unfolding csnpComplete
   csnp-ok level =
@@ -44,7 +44,7 @@ module _ (n : ℕ) (c : Common) (s : Circuit) (r : Room) (hold : s .hold ≤ 655
   act-ok : (l : Local) → ((mac : ℕ) (frame b : List ℕ) → l ≡ Receive mac frame b → Octets frame) → ActOk c s (act n s l c r)
   unfolding act linkMetricOf nextHello
   act-ok (Receive mac frame b) f = receive-ok c s r hold ok n mac b frame (f mac frame b refl)
-  act-ok Release f = room-sweep (Known s) (c .clock) (c .clock) plannedState (r .slots) (λ v e q. q) ok
+  act-ok Release f = room-sweep (c .system) (Known s) (c .clock) (c .clock) plannedState (r .slots) (λ v e q. q) ok
   act-ok (CsnpComplete level) f = csnp-ok level
   act-ok (LookUp k) f = look-ok k
   act-ok LinkMetric f = ok
@@ -63,30 +63,26 @@ left-span old clock le s e q =
     record { low = omega arith; high = omega arith }
 
 module _ (g : Gateway) (h : RoomsOk g) where
-  -- the circuits stay, the rooms in order by the new clock
-  rooms-next : (d : Common) (clock : ℕ) (rooms : List Room) → d .circuits ≡ g .common .circuits → d .clock ≡ clock
-      → ((n : ℕ) → RoomOk (circuitOf (g .common) n) clock (numbered rooms n noRoom .slots)) → RoomsOk (record { common = d; rooms = rooms })
-  rooms-next d clock rooms same at ok =
-      record {
-        hold = λ n s e. h .hold n s (sym (same-circuit (g .common) d same n) ∙ e);
-        rooms = λ n. rw (same-circuit (g .common) d same n, at) (ok n);
-      }
-
-  keeps-rooms : (d : Common) (rooms : List Room) → Keeps (g .common) d
-      → ((n : ℕ) → RoomOk (circuitOf (g .common) n) (g .common .clock) (numbered rooms n noRoom .slots))
+  -- the clock moved on, or stood, and the rooms in order by it
+  keeps-rooms : (d : Common) (clock : ℕ) (rooms : List Room) → Keeps (withClock clock (g .common)) d
+      → ((n : ℕ) → RoomOk (g .common .system) (circuitOf (g .common) n) clock (numbered rooms n noRoom .slots))
       → RoomsOk (record { common = d; rooms = rooms })
-  keeps-rooms d rooms k ok = rooms-next d (g .common .clock) rooms (k .circuits) (k .clock) ok
+  keeps-rooms d clock rooms k ok =
+      record {
+        hold = λ n s e. h .hold n s (sym (same-circuit (g .common) d (k .circuits) n) ∙ e);
+        rooms = λ n. rw (same-circuit (g .common) d (k .circuits) n, k .clock, k .system) (ok n);
+      }
 
   on-rooms : (n : ℕ) (l : Local) (x : Chosen) → circuitOf (g .common) n ≡ x → Fits (At n l) → RoomsOk (on g n l x .next)
   unfolding on lift
   on-rooms n l Unknown e f = h
   on-rooms n l (Known s) e f =
-      let ok : RoomOk (Known s) (g .common .clock) (roomOf g n .slots) = rw e at (h .rooms n) in
+      let ok : RoomOk (g .common .system) (Known s) (g .common .clock) (roomOf g n .slots) = rw e at (h .rooms n) in
       let a : Acted = act n s l (g .common) (roomOf g n) in
       let done : ActOk (g .common) s a =
       act-ok n (g .common) s (roomOf g n) (h .hold n s e) ok l (λ mac frame b q. f .frame n mac frame b (ap (At n) q)) in
-      keeps-rooms (a .common) (renew (g .rooms) n (a .room)) (act-keeps n s (g .common) (roomOf g n) l)
-      (renew-all noRoom (λ m r. RoomOk (circuitOf (g .common) m) (g .common .clock) (r .slots)) (g .rooms) n (a .room) (h .rooms) (rw e done))
+      keeps-rooms (a .common) (g .common .clock) (renew (g .rooms) n (a .room)) (act-keeps n s (g .common) (roomOf g n) l)
+      (renew-all noRoom (λ m r. RoomOk (g .common .system) (circuitOf (g .common) m) (g .common .clock) (r .slots)) (g .rooms) n (a .room) (h .rooms) (rw e done))
 
   -- ---- a call that names no circuit
 
@@ -94,11 +90,11 @@ module _ (g : Gateway) (h : RoomsOk g) where
   unfolding carry
   carry-rooms (RefusedCall x) refusing = h
   carry-rooms (Sweep clock d hellos o) (sweep le k) =
-      rooms-next d clock _ (k .circuits) (k .clock)
+      keeps-rooms d clock _ k
       (λ n.
       rw (swept-at clock (g .rooms) n)
-      (room-sweep (circuitOf (g .common) n) (g .common .clock) clock (expiredBy clock) (roomOf g n .slots) (left-span (g .common .clock) clock le) (h .rooms n)))
-  carry-rooms (Tell d a) (tell k) = keeps-rooms d (g .rooms) k (h .rooms)
+      (room-sweep (g .common .system) (circuitOf (g .common) n) (g .common .clock) clock (expiredBy clock) (roomOf g n .slots) (left-span (g .common .clock) clock le) (h .rooms n)))
+  carry-rooms (Tell d a) (tell k) = keeps-rooms d (g .common .clock) (g .rooms) k (h .rooms)
 
 -- ---- every call
 

@@ -2,6 +2,7 @@
 use Prim.Native.Nat.{ℕ, suc, _+_, _≤_, _<_}
 use mathlib.Core.Path.{_≡_}
 use mathlib.Core.Bool.{Bool, true, false}
+use mathlib.Core.Logic.{_≢_}
 use mathlib.Core.List.{List, [], _∷_}
 use lib.ListN.{length}
 use Rattle.basics.specs.Octets.{octet, big}
@@ -20,8 +21,10 @@ use Rattle.adjacency.specs.declared.record.Record.{Record}
 use Rattle.adjacency.specs.declared.place.Slot.{Slot}
 use Rattle.adjacency.specs.declared.place.Slot.the-variants.{Free, Held, Closed}
 use Rattle.room.specs.Gather.{gather}
-use Rattle.basics.specs.Levels.{Level}
+use Rattle.basics.specs.Levels.{Level, isOn, hasLevel}
+use Rattle.basics.specs.declared.levels.Levels.{Levels}
 use Rattle.timer_parts.specs.T2.{t2At, anyT2}
+use Rattle.timer_parts.specs.declared.t1.T1.{T1}
 use Rattle.timer_parts.specs.declared.t2.Timer.the-variants.{Until}
 use Rattle.timer_parts.specs.declared.t3.T3.the-variants.{Idle, Runs}
 use Rattle.timers.specs.Timers.{Timers, anyRuns, noT1}
@@ -29,7 +32,7 @@ use Rattle.settings.specs.declared.mode.Mode.the-variants.{Running}
 use Rattle.timers.specs.declared.outcome.TimerOutcome.{TimerOutcome}
 use Rattle.settings.specs.declared.circuit.Circuit.{Circuit}
 use Rattle.settings.specs.declared.setup.Settings.{Settings}
-use Rattle.settings.specs.Settings.{circuitsOf}
+use Rattle.settings.specs.Settings.{circuitsOf, enabledLevels}
 use Rattle.control.specs.Common.{Common, circuitOf}
 use Rattle.settings.specs.declared.circuit.Chosen.the-variants.{Known, Unknown}
 use Rattle.adjacency.specs.Keys.{keyIn}
@@ -119,13 +122,18 @@ pub record Bounded (g : Gateway) : Type 0 where
 
 -- ---- document 01, "What the gateway holds": "A LAN record is known by level, System ID and source MAC; a P2P record by System ID."
 
--- level and MAC say nothing of a P2P record, and are 0
-pub record BySystem (k : Key) : Type 0 where
-  pub level : k .level ≡ 0
-  pub mac : k .mac ≡ 0
+-- document 01, "Refusals by number", 7: "LAN level not enabled on the circuit". On P2P level and MAC say nothing, and are 0.
+abbrev pub LevelAndMac : CircuitKind → Levels → Key → Type 0
+LevelAndMac Lan l k = hasLevel l (k .level) ≡ true
+LevelAndMac P2p l k = (k .level ≡ 0) × (k .mac ≡ 0)
 
-pub record P2pKeys (g : Gateway) : Type 0 where
-  pub known : (n : ℕ) (s : Circuit) → circuitOf (g .common) n ≡ Known s → s .kind ≡ P2p → Each (λ r. BySystem (r .key)) (roomOf g n .slots)
+-- .. "or source System ID is our own"
+pub record KeyFits (own : ℕ) (s : Circuit) (k : Key) : Type 0 where
+  pub system : k .system ≢ own
+  pub rest : LevelAndMac (s .kind) (s .levels) k
+
+pub record KeysFit (g : Gateway) : Type 0 where
+  pub fit : (n : ℕ) (s : Circuit) → circuitOf (g .common) n ≡ Known s → Each (λ r. KeyFits (g .common .system) s (r .key)) (roomOf g n .slots)
 
 -- ---- document 01, "Marks and holding time": "expiry = clock + Holding Time", "clock + configured time", "clock + Remaining Time", none above
 -- 65,535; "A tick removes each record with expiry at or below the clock"
@@ -153,12 +161,23 @@ pub record Quiet (t : Timers) : Type 0 where
   pub t2s : t .mode ≡ Running → anyT2 (t .t2s) ≡ false
   pub t3 : t .mode ≡ Running → t .t3 ≡ Idle
 
--- "Setup .. starts T1 on each [circuit], .. T2 per enabled level, T3 at clock + 65,535.": a T1 runs only on a circuit that is there, a running
--- T2 ends its length after setup, and T3, which acknowledgements lower, not after its first deadline
+-- "Setup .. starts T1 on each [circuit] ..": a T1 runs only on a circuit that is there
+abbrev pub OnCircuits : ℕ → List T1 → Type 0
+OnCircuits count l = (n : ℕ) → numbered l n noT1 .runs ≡ true → n ≤ count
+
+-- ".. T2 per enabled level ..": it runs for its length from setup on, and no call moves its deadline
+pub record T2Ends (s : Settings) (k : Level) (deadline : ℕ) : Type 0 where
+  pub enabled : isOn k (enabledLevels (circuitsOf s)) ≡ true
+  pub due : deadline ≡ s .clock + s .lengths .t2
+
+-- ".. T3 at clock + 65,535": acknowledgements only lower it
+abbrev pub t3Ends : Settings → ℕ
+t3Ends s = s .clock + 65535
+
 pub record SetupTimers (s : Settings) (t : Timers) : Type 0 where
-  pub t1s : (n : ℕ) → numbered (t .t1s) n noT1 .runs ≡ true → n ≤ s .count
-  pub t2s : (k : Level) (deadline : ℕ) → t2At k (t .t2s) .timer ≡ Until deadline → deadline ≡ s .clock + s .lengths .t2
-  pub t3 : (deadline : ℕ) → t .t3 ≡ Runs deadline → deadline ≤ s .clock + 65535
+  pub t1s : OnCircuits (s .count) (t .t1s)
+  pub t2s : (k : Level) (deadline : ℕ) → t2At k (t .t2s) .timer ≡ Until deadline → T2Ends s k deadline
+  pub t3 : (deadline : ℕ) → t .t3 ≡ Runs deadline → deadline ≤ t3Ends s
 
 -- ---- from one call to the next
 
@@ -174,7 +193,7 @@ pub record Invariant (s : Settings) (g : Gateway) : Type 0 where
   pub replies : TrueReplies g
   pub ticks : TickSweeps g
   pub rooms : Bounded g
-  pub keys : P2pKeys g
+  pub keys : KeysFit g
   pub expiries : NearExpiries g
   pub settings : SetupSettings s (g .common)
   pub quiet : Quiet (g .common .timers)
