@@ -39,8 +39,8 @@ use Rattle.model.specs.Answers.{Answer}
 use Rattle.model.specs.Gateway.{Room, Gateway}
 use Rattle.model.specs.Receive.{refuse, hereOf, saidOf, accepted, reacted, decidedIn, checked, readIn, receive}
 use Rattle.model.specs.Step.{Local, Receive, Release, CsnpComplete, LookUp, LinkMetric, NextHello, Global, Tick, DatabaseComplete, Waiting, Call, At, Over, asksLevel, csnpComplete, lookUp, linkMetricOf, nextHello, act, lift, on, Judged, Refused as RefusedCall, Sweep, Tell, noneOf, tickOf, databaseOf, judge, carry, step}
-use Rattle.invariants.specs.Invariants.{Quiet, SetupSettings, SetupTimers, Onward}
-use Rattle.invariants.proofs.QuietLaws.{started-quiet, settled-quiet, toT3-mode, heardIn-mode, csnpIn-mode, noticeT2s-mode}
+use Rattle.invariants.specs.Invariants.{Quiet, Restarts, SetupSettings, SetupTimers, Onward}
+use Rattle.invariants.proofs.QuietLaws.{started-quiet, started-restarts, settled-quiet, settled-restarts, toT3-mode, heardIn-mode, csnpIn-mode, noticeT2s-mode}
 use Rattle.invariants.proofs.SetupTimersLaws.{started-kept, settled-kept, toT3-kept, heardIn-kept, csnpIn-kept, noticeT2s-kept}
 
 -- ---- the timers
@@ -66,6 +66,7 @@ own-database n t = record { mode = noticeT2s-mode n t; kept = λ s h. noticeT2s-
 pub record Passes (t next : Timers) : Type 0 where
   pub running : t .mode ≡ Running → next .mode ≡ Running
   pub quiet : Quiet t → Quiet next
+  pub restarts : (s : Settings) → Restarts s t → Restarts s next
   pub kept : (s : Settings) → SetupTimers s t → SetupTimers s next
 
 passes-settled : (f : Timers → Timers) (t : Timers) → Own t (f t) → Passes t (settled f t)
@@ -73,6 +74,7 @@ passes-settled f t own =
     record {
       running = λ e. mode-running t e f;
       quiet = settled-quiet f t (own .mode);
+      restarts = λ s h. settled-restarts s f t h;
       kept = λ s h. settled-kept s t h f (own .kept s h);
     }
 
@@ -88,7 +90,13 @@ pub record Keeps (c d : Common) : Type 0 where
 
 keeps-same : (c : Common) → Keeps c c
 keeps-same c =
-    record { system = refl; lengths = refl; circuits = refl; clock = refl; timers = record { running = λ e. e; quiet = λ q. q; kept = λ s h. h } }
+    record {
+      system = refl;
+      lengths = refl;
+      circuits = refl;
+      clock = refl;
+      timers = record { running = λ e. e; quiet = λ q. q; restarts = λ s h. h; kept = λ s h. h };
+    }
 
 keeps-settled : (c : Common) (f : Timers → Timers) → Own (c .timers) (f (c .timers)) → Keeps c (withTimers (settled f (c .timers)) c)
 keeps-settled c f own =
@@ -218,6 +226,7 @@ module _ (g : Gateway) where
 pub record CommonOk (s : Settings) (c : Common) : Type 0 where
   pub settings : SetupSettings s c
   pub quiet : Quiet (c .timers)
+  pub restarts : Restarts s (c .timers)
   pub timers : SetupTimers s (c .timers)
 
 pub common-new : (s : Settings) → CommonOk s (setupCommon s)
@@ -226,6 +235,7 @@ common-new s =
     record {
       settings = record { system = refl; lengths = refl; circuits = refl };
       quiet = started-quiet (startOf s);
+      restarts = started-restarts s;
       timers = started-kept s;
     }
 
@@ -239,5 +249,6 @@ common-moved s c d m h =
             circuits = m .circuits ∙ h .settings .circuits;
           };
       quiet = m .timers .quiet (h .quiet);
+      restarts = m .timers .restarts s (h .restarts);
       timers = m .timers .kept s (h .timers);
     }

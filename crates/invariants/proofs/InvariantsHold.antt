@@ -133,6 +133,7 @@ holds-invariant s g h =
       expiries = near-expiries g (h .rooms);
       settings = h .common .settings;
       quiet = h .common .quiet;
+      restarts = h .common .restarts;
       timers = h .common .timers;
       onward = λ c. step-moves g c .onward;
     }

@@ -1,14 +1,16 @@
--- In the mode Running no timer runs, and that mode stays: setup starts none there, and no call's step on the timers starts one.
-use Prim.Native.Nat.{ℕ}
+-- In the mode Running no timer runs, and in the mode Restarting some T2 does: setup gives it, and the end of every call on the timers.
+use Prim.Native.Nat.{ℕ, _+_}
 use mathlib.Core.Path.{_≡_, refl, ap, _∙_}
-use mathlib.Core.Bool.{false}
+use mathlib.Core.Bool.{Bool, true, false}
 use mathlib.Core.List.{List, [], _∷_, map}
 use Rattle.settings.specs.Mode.{isRunning}
+use Rattle.settings.specs.Settings.{circuitsOf, enabledLevels}
 use Rattle.basics.proofs.BoolLaws.{by-test}
 use Rattle.basics.specs.declared.levels.Levels.{Levels}
+use Rattle.basics.specs.Levels.{someOn}
 use Rattle.basics.specs.Mask.{bitsOf}
 use Rattle.timer_parts.specs.T1.{stopT1}
-use Rattle.timer_parts.specs.T2.{anyT2, startTimer, startT2s}
+use Rattle.timer_parts.specs.T2.{timerRuns, anyT2, startTimer, startT2s}
 use Rattle.timer_parts.specs.T3.{expiresT3}
 use Rattle.timer_parts.specs.declared.heard.Heard.{Heard}
 use Rattle.settings.specs.declared.lengths.Lengths.{Lengths}
@@ -16,10 +18,12 @@ use Rattle.timer_parts.specs.declared.t1.T1.{T1}
 use Rattle.timers.specs.Timers.{Timers, withT1s, withT2s, withT3, anyRuns, atT1, tickT1s, expireT2s, cancelT2s, tickT3, over, finish, closed, settled, toT3, heardIn, csnpIn, noticeT2s}
 use Rattle.timers.specs.Events.{startHead, startT1, startHellos, started}
 use Rattle.timers.specs.declared.events.Start.{Start}
+use Rattle.settings.specs.declared.setup.Settings.{Settings}
 use Rattle.settings.specs.declared.mode.Mode.{Mode}
 use Rattle.settings.specs.declared.mode.Mode.the-variants.{Running, Restarting}
 use Rattle.timers.proofs.TimersLaws.{settled-running, settled-on}
-use Rattle.invariants.specs.Invariants.{Quiet}
+use Rattle.control.specs.Common.{startOf}
+use Rattle.invariants.specs.Invariants.{Quiet, Restarts}
 
 stopped : (l : List T1) → anyRuns (map stopT1 l) ≡ false
 unfolding anyRuns stopT1
@@ -38,6 +42,23 @@ started-by s Restarting p = restarting-quiet (started s) (rw p refl)
 
 pub started-quiet : (s : Start) → Quiet (started s)
 started-quiet s = started-by s (s .mode) refl
+
+timer-runs : (on : Bool) (at : ℕ) → timerRuns (startTimer on at) ≡ on
+unfolding startTimer
+timer-runs true at = refl
+timer-runs false at = refl
+
+any-started : (l : Levels) (at : ℕ) → anyT2 (startT2s l at) ≡ someOn l
+unfolding anyT2 startT2s
+any-started l at = rw (timer-runs (l .one) at, timer-runs (l .two) at) refl
+
+restarts-by : (s : Settings) (m : Mode) → s .mode ≡ m → Restarts s (started (startOf s))
+unfolding started startHead
+restarts-by s Running p = record { some = λ on e. (let z = rw p at e in cc) }
+restarts-by s Restarting p = record { some = λ on e. rw p (any-started (enabledLevels (circuitsOf s)) (s .clock + s .lengths .t2) ∙ on) }
+
+pub started-restarts : (s : Settings) → Restarts s (started (startOf s))
+started-restarts s = restarts-by s (s .mode) refl
 
 -- ---- the end of every call
 
@@ -59,6 +80,16 @@ module _ (f : Timers → Timers) (t : Timers) (keeps : f t .mode ≡ t .mode) wh
 
   pub settled-quiet : Quiet t → Quiet (settled f t)
   settled-quiet q = by-mode (t .mode) refl q
+
+-- some T2 runs, or the mode ends
+finish-restarts : (s : Settings) (t : Timers) → Restarts s (finish t)
+unfolding finish over
+finish-restarts s t =
+    by-test (anyT2 (t .t2s)) (λ a. rw a (record { some = λ on e. a })) (λ a. rw a (record { some = λ on e. cc }))
+
+pub settled-restarts : (s : Settings) (f : Timers → Timers) (t : Timers) → Restarts s t → Restarts s (settled f t)
+unfolding settled closed
+settled-restarts s f t h = by-test (isRunning (t .mode)) (λ a. rw a h) (λ a. rw a (finish-restarts s (cancelT2s (f t))))
 
 -- ---- each call's own step keeps the mode
 

@@ -21,14 +21,14 @@ use Rattle.adjacency.specs.declared.record.Record.{Record}
 use Rattle.adjacency.specs.declared.place.Slot.{Slot}
 use Rattle.adjacency.specs.declared.place.Slot.the-variants.{Free, Held, Closed}
 use Rattle.room.specs.Gather.{gather}
-use Rattle.basics.specs.Levels.{Level, isOn, hasLevel}
+use Rattle.basics.specs.Levels.{Level, isOn, someOn, hasLevel}
 use Rattle.basics.specs.declared.levels.Levels.{Levels}
 use Rattle.timer_parts.specs.T2.{t2At, anyT2}
 use Rattle.timer_parts.specs.declared.t1.T1.{T1}
 use Rattle.timer_parts.specs.declared.t2.Timer.the-variants.{Until}
 use Rattle.timer_parts.specs.declared.t3.T3.the-variants.{Idle, Runs}
 use Rattle.timers.specs.Timers.{Timers, anyRuns, noT1}
-use Rattle.settings.specs.declared.mode.Mode.the-variants.{Running}
+use Rattle.settings.specs.declared.mode.Mode.the-variants.{Running, Restarting}
 use Rattle.timers.specs.declared.outcome.TimerOutcome.{TimerOutcome}
 use Rattle.settings.specs.declared.circuit.Circuit.{Circuit}
 use Rattle.settings.specs.declared.setup.Settings.{Settings}
@@ -161,6 +161,10 @@ pub record Quiet (t : Timers) : Type 0 where
   pub t2s : t .mode ≡ Running → anyT2 (t .t2s) ≡ false
   pub t3 : t .mode ≡ Running → t .t3 ≡ Idle
 
+-- .. and in the other some T2 runs. Settings of no circuit enable no level; those that the code takes have one.
+pub record Restarts (s : Settings) (t : Timers) : Type 0 where
+  pub some : someOn (enabledLevels (circuitsOf s)) ≡ true → t .mode ≡ Restarting → anyT2 (t .t2s) ≡ true
+
 -- "Setup .. starts T1 on each [circuit] ..": a T1 runs only on a circuit that is there
 abbrev pub OnCircuits : ℕ → List T1 → Type 0
 OnCircuits count l = (n : ℕ) → numbered l n noT1 .runs ≡ true → n ≤ count
@@ -197,6 +201,7 @@ pub record Invariant (s : Settings) (g : Gateway) : Type 0 where
   pub expiries : NearExpiries g
   pub settings : SetupSettings s (g .common)
   pub quiet : Quiet (g .common .timers)
+  pub restarts : Restarts s (g .common .timers)
   pub timers : SetupTimers s (g .common .timers)
   pub onward : (c : Call) → Onward (g .common) (step g c .next .common)
 
