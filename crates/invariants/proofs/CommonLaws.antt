@@ -3,15 +3,13 @@
 use Prim.Native.Nat.{ℕ, _-_, _≤_}
 use native.Mathlib.Omega.{arith}
 use mathlib.Core.Path.{_≡_, refl, _∙_}
-use mathlib.Core.Bool.{Bool}
-use mathlib.Core.List.{List, []}
+use mathlib.Core.List.{List}
 use lib.ListN.{length}
 use lib.Dec.{ltb}
 use borrow.Author.Tests.{ltb-false}
 use Rattle.basics.proofs.BoolLaws.{by-test}
 use Rattle.basics.specs.Levels.{onlyLevel, hasLevel}
 use Rattle.basics.specs.declared.levels.Levels.{Levels}
-use Rattle.basics.specs.declared.refusal.Refusal.{Refusal}
 use Rattle.hello.specs.Hello.{helloRead}
 use Rattle.hello.specs.declared.read.Hello.{Hello}
 use Rattle.hello.specs.declared.read.Read.{Read}
@@ -32,10 +30,8 @@ use Rattle.settings.specs.declared.mode.Mode.the-variants.{Running}
 use Rattle.settings.specs.declared.setup.Settings.{Settings}
 use Rattle.timer_parts.specs.declared.heard.Heard.{Heard}
 use Rattle.timers.specs.Timers.{Timers, settled, toT3, heardIn, csnpIn, noticeT2s}
-use Rattle.timers.specs.declared.outcome.TimerOutcome.{TimerOutcome}
 use Rattle.timers.proofs.TimersLaws.{mode-running}
 use Rattle.control.specs.Common.{Common, withClock, withTimers, circuitOf, startOf, setupCommon}
-use Rattle.model.specs.Answers.{Answer}
 use Rattle.model.specs.Gateway.{Room, Gateway}
 use Rattle.model.specs.Receive.{refuse, hereOf, saidOf, accepted, reacted, decidedIn, checked, readIn, receive}
 use Rattle.model.specs.Step.{Local, Receive, Release, CsnpComplete, LookUp, LinkMetric, NextHello, Global, Tick, DatabaseComplete, Waiting, Call, At, Over, asksLevel, csnpComplete, lookUp, linkMetricOf, nextHello, act, lift, on, Judged, Refused as RefusedCall, Sweep, Tell, noneOf, tickOf, databaseOf, judge, carry, step}
@@ -105,41 +101,37 @@ keeps-settled c f own =
 -- ---- the calls on a circuit
 
 module _ (n : ℕ) (s : Circuit) (c : Common) (r : Room) where
-  refuse-keeps : (b : List ℕ) (x : Refusal) → Keeps c (refuse b x c r .common)
-  unfolding refuse
-  refuse-keeps b x = keeps-same c
-
   reacted-keeps : (h : Hello) (k : Key) (b : List ℕ) (a : Reaction) → Keeps c (reacted n s h k b a c r .common)
-  unfolding reacted accepted
-  reacted-keeps h k b (RefusedReaction x) = refuse-keeps b x
+  unfolding reacted accepted refuse
+  reacted-keeps h k b (RefusedReaction x) = keeps-same c
   reacted-keeps h k b (Accepted after reply line) =
       keeps-settled c (heardIn (c .clock) (n - 1) (s .levels) (saidOf c s h)) (own-heard (c .clock) (n - 1) (s .levels) (saidOf c s h) (c .timers))
 
   read-keeps : (mac : ℕ) (b : List ℕ) (x : Read) → Keeps c (readIn n s mac b x c r .common)
-  unfolding readIn checked decidedIn
-  read-keeps mac b (RefusedRead x) = refuse-keeps b x
+  unfolding readIn checked decidedIn refuse
+  read-keeps mac b (RefusedRead x) = keeps-same c
   read-keeps mac b (ReadAs h) =
-      by-test (wrongSource (s .levels) (c .system) h) (λ e. rw e (refuse-keeps b _))
+      by-test (wrongSource (s .levels) (c .system) h) (λ e. rw e (keeps-same c))
       (λ e. rw e (reacted-keeps h (keyIn (s .kind) mac h) b (decided (hereOf c s) (keyIn (s .kind) mac h) h (r .slots))))
 
   receive-keeps : (mac : ℕ) (frame b : List ℕ) → Keeps c (receive n s mac frame b c r .common)
-  unfolding receive
+  unfolding receive refuse
   receive-keeps mac frame b =
-      by-test (ltb (length b) 11) (λ e. rw e (refuse-keeps b _)) (λ e. rw e (read-keeps mac b (helloRead (s .kind) (s .mac) frame)))
+      by-test (ltb (length b) 11) (λ e. rw e (keeps-same c)) (λ e. rw e (read-keeps mac b (helloRead (s .kind) (s .mac) frame)))
 
   csnp-keeps : (level : ℕ) → Keeps c (csnpComplete n s level c r .common)
-  unfolding csnpComplete
+  unfolding csnpComplete refuse
   csnp-keeps level =
       by-test (hasLevel (s .levels) level)
       (λ e. by-test (isRestarting (c .timers .mode))
       (λ m. rw (e, m) (keeps-settled c (csnpIn (n - 1) (s .levels) (onlyLevel level)) (own-csnp (n - 1) (s .levels) (onlyLevel level) (c .timers))))
-      (λ m. rw (e, m) (refuse-keeps [] _)))
-      (λ e. rw e (refuse-keeps [] _))
+      (λ m. rw (e, m) (keeps-same c)))
+      (λ e. rw e (keeps-same c))
 
   look-keeps : (k : Key) → Keeps c (lookUp s k c r .common)
-  unfolding lookUp
+  unfolding lookUp refuse
   look-keeps k =
-      by-test (asksLevel (s .kind) (s .levels) (k .level)) (λ e. rw e (keeps-same c)) (λ e. rw e (refuse-keeps [] _))
+      by-test (asksLevel (s .kind) (s .levels) (k .level)) (λ e. rw e (keeps-same c)) (λ e. rw e (keeps-same c))
 
   pub act-keeps : (l : Local) → Keeps c (act n s l c r .common)
   unfolding act linkMetricOf nextHello
@@ -152,34 +144,33 @@ module _ (n : ℕ) (s : Circuit) (c : Common) (r : Room) where
 
 -- ---- the calls that name none
 
-pub data JudgedOk (c : Common) : Judged → Type 0 where
-  refusing : {x : Refusal} → JudgedOk c (RefusedCall x)
-  sweep : {clock : ℕ} {d : Common} {hellos : List Bool} {o : TimerOutcome} → c .clock ≤ clock → Keeps (withClock clock c) d
-      → JudgedOk c (Sweep clock d hellos o)
-  tell : {d : Common} {a : Answer} → Keeps c d → JudgedOk c (Tell d a)
+abbrev pub JudgedOk : Common → Judged → Type 0
+JudgedOk c (RefusedCall x) = Unit {0}
+JudgedOk c (Sweep clock d hellos o) = (c .clock ≤ clock) × Keeps (withClock clock c) d
+JudgedOk c (Tell d a) = Keeps c d
 
 module _ (c : Common) where
   tick-ok : (clock : ℕ) → JudgedOk c (tickOf clock c)
   unfolding tickOf
   tick-ok clock =
-      by-test (noneOf (c .circuits)) (λ e. rw e (tell (keeps-same c)))
-      (λ e. by-test (ltb clock (c .clock)) (λ b. rw (e, b) refusing)
-      (λ b. rw (e, b) (sweep (ltb-false _ _ b) (keeps-settled (withClock clock c) (toT3 (c .lengths) clock) (own-tick (c .lengths) clock (c .timers))))))
+      by-test (noneOf (c .circuits)) (λ e. rw e (keeps-same c))
+      (λ e. by-test (ltb clock (c .clock)) (λ b. rw (e, b) tt)
+      (λ b. rw (e, b) (ltb-false _ _ b, keeps-settled (withClock clock c) (toT3 (c .lengths) clock) (own-tick (c .lengths) clock (c .timers)))))
 
   database-ok : (level : ℕ) → JudgedOk c (databaseOf level c)
   unfolding databaseOf
   database-ok level =
       by-test (hasLevel (enabledLevels (c .circuits)) level)
       (λ e. by-test (isRestarting (c .timers .mode))
-      (λ m. rw (e, m) (tell (keeps-settled c (noticeT2s (onlyLevel level)) (own-database (onlyLevel level) (c .timers)))))
-      (λ m. rw (e, m) refusing))
-      (λ e. rw e refusing)
+      (λ m. rw (e, m) (keeps-settled c (noticeT2s (onlyLevel level)) (own-database (onlyLevel level) (c .timers))))
+      (λ m. rw (e, m) tt))
+      (λ e. rw e tt)
 
   pub judge-ok : (w : Global) → JudgedOk c (judge c w)
   unfolding judge
   judge-ok (Tick clock) = tick-ok clock
   judge-ok (DatabaseComplete level) = database-ok level
-  judge-ok Waiting = tell (keeps-same c)
+  judge-ok Waiting = keeps-same c
 
 -- ---- every call
 
@@ -212,9 +203,9 @@ module _ (g : Gateway) where
 
   carry-moves : (j : Judged) → JudgedOk (g .common) j → Moves (g .common) (carry g j .next .common)
   unfolding carry
-  carry-moves (RefusedCall x) refusing = keeps-moves (g .common) (g .common) (keeps-same (g .common))
-  carry-moves (Sweep clock d hellos o) (sweep le k) = moved (g .common) d clock le k
-  carry-moves (Tell d a) (tell k) = keeps-moves (g .common) d k
+  carry-moves (RefusedCall x) k = keeps-moves (g .common) (g .common) (keeps-same (g .common))
+  carry-moves (Sweep clock d hellos o) (le, k) = moved (g .common) d clock le k
+  carry-moves (Tell d a) k = keeps-moves (g .common) d k
 
   pub step-moves : (c : Call) → Moves (g .common) (step g c .next .common)
   unfolding step

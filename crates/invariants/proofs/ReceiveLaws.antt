@@ -131,10 +131,6 @@ module _ (c : Common) (s : Circuit) (r : Room) (hold : s .hold ≤ 65535) (ok : 
 
   -- ---- the stages
 
-  pub refuse-ok : (b : List ℕ) (x : Refusal) → ActOk c s (refuse b x c r)
-  unfolding refuse
-  refuse-ok b x = ok
-
   kept-ok : (k : Key) (after : Adjacency) → KeyFits (c .system) s k → crowded k (r .slots) ≡ false → SpanIn (c .clock) after
       → RoomOk (c .system) (Known s) (c .clock) (kept k after (r .slots))
   unfolding kept
@@ -143,27 +139,27 @@ module _ (c : Common) (s : Circuit) (r : Room) (hold : s .hold ≤ 65535) (ok : 
 
   module _ (n : ℕ) (h : Hello) (k : Key) (key : KeyFits (c .system) s k) (b : List ℕ) where
     reacted-ok : (a : Reaction) → Sound (c .clock) k (r .slots) a → ActOk c s (reacted n s h k b a c r)
-    unfolding reacted accepted
-    reacted-ok (RefusedReaction x) refused = refuse-ok b x
+    unfolding reacted accepted refuse
+    reacted-ok (RefusedReaction x) refused = ok
     reacted-ok (Accepted after reply line) (sound free span told gone) = kept-ok k after key free span
 
   module _ (n mac : ℕ) (b : List ℕ) where
     checked-ok : (h : Hello) → h .hold ≤ 65535 → timeIn (h .restart) ≤ 65535 → kindOf (h .link) ≡ s .kind → ActOk c s (checked n s mac b h c r)
-    unfolding checked decidedIn
+    unfolding checked decidedIn refuse
     checked-ok h p q kind =
         let k = keyIn (s .kind) mac h in
-        by-test (wrongSource (s .levels) (c .system) h) (λ e. rw e (refuse-ok b _))
+        by-test (wrongSource (s .levels) (c .system) h) (λ e. rw e ok)
         (λ e. rw e (reacted-ok n h k (key-fits (c .system) s mac h kind e) b (decided (hereOf c s) k h (r .slots)) (decided-sound k h p q)))
 
     read-ok : (x : Read) → Brief (s .kind) x → ActOk c s (readIn n s mac b x c r)
-    unfolding readIn
-    read-ok (RefusedRead x) refused-read = refuse-ok b x
+    unfolding readIn refuse
+    read-ok (RefusedRead x) refused-read = ok
     read-ok (ReadAs h) (brief p q kind) = checked-ok h p q kind
 
     pub receive-ok : (frame : List ℕ) → Octets frame → ActOk c s (receive n s mac frame b c r)
-    unfolding receive
+    unfolding receive refuse
     receive-ok frame f =
-        by-test (ltb (length b) 11) (λ e. rw e (refuse-ok b _))
+        by-test (ltb (length b) 11) (λ e. rw e ok)
         (λ e. rw e (read-ok (helloRead (s .kind) (s .mac) frame) (brief-read (s .mac) (s .kind) frame f)))
 
   -- ---- the reply

@@ -3,7 +3,7 @@ use Prim.Native.Nat.{ℕ, zero, suc, _≤_}
 use native.Mathlib.Omega.{arith}
 use mathlib.Core.Path.{_≡_, refl, sym, ap, _∙_}
 use mathlib.Core.Bool.{false}
-use mathlib.Core.List.{List, []}
+use mathlib.Core.List.{List}
 use borrow.Author.Tests.{leb-false}
 use Rattle.basics.proofs.BoolLaws.{by-test}
 use Rattle.basics.specs.Levels.{hasLevel}
@@ -18,28 +18,26 @@ use Rattle.control.specs.Common.{Common, withClock, circuitOf}
 use Rattle.settings.specs.declared.circuit.Chosen.{Chosen}
 use Rattle.settings.specs.declared.circuit.Chosen.the-variants.{Known, Unknown}
 use Rattle.model.specs.Gateway.{Room, Gateway, noRoom, numbered, renew, roomOf}
-use Rattle.model.specs.Receive.{Acted}
+use Rattle.model.specs.Receive.{Acted, refuse}
 use Rattle.model.specs.Step.{Local, Receive, Release, CsnpComplete, LookUp, LinkMetric, NextHello, Call, At, Over, asksLevel, csnpComplete, lookUp, linkMetricOf, nextHello, act, lift, on, Judged, Refused as RefusedCall, Sweep, Tell, judge, carry, step}
 use Rattle.invariants.specs.Invariants.{Octets, Fits, Span}
 use Rattle.invariants.proofs.NumberedLaws.{renew-all}
-use Rattle.invariants.proofs.CommonLaws.{Keeps, act-keeps, JudgedOk, refusing, sweep, tell, judge-ok, step-moves, common-moved}
+use Rattle.invariants.proofs.CommonLaws.{Keeps, act-keeps, JudgedOk, judge-ok, step-moves, common-moved}
 use Rattle.invariants.proofs.GatewayLaws.{RoomOk, room-sweep, RoomsOk, swept-at, Holds}
-use Rattle.invariants.proofs.ReceiveLaws.{ActOk, refuse-ok, receive-ok}
+use Rattle.invariants.proofs.ReceiveLaws.{ActOk, receive-ok}
 
 -- ---- a call on a circuit
 
 module _ (n : ℕ) (c : Common) (s : Circuit) (r : Room) (hold : s .hold ≤ 65535) (ok : RoomOk (c .system) (Known s) (c .clock) (r .slots)) where
   csnp-ok : (level : ℕ) → ActOk c s (csnpComplete n s level c r)
-  unfolding csnpComplete
+  unfolding csnpComplete refuse
   csnp-ok level =
       by-test (hasLevel (s .levels) level)
-      (λ e. by-test (isRestarting (c .timers .mode)) (λ m. rw (e, m) ok) (λ m. rw (e, m) (refuse-ok c s r hold ok [] _)))
-      (λ e. rw e (refuse-ok c s r hold ok [] _))
+      (λ e. by-test (isRestarting (c .timers .mode)) (λ m. rw (e, m) ok) (λ m. rw (e, m) ok)) (λ e. rw e ok)
 
   look-ok : (k : Key) → ActOk c s (lookUp s k c r)
-  unfolding lookUp
-  look-ok k =
-      by-test (asksLevel (s .kind) (s .levels) (k .level)) (λ e. rw e ok) (λ e. rw e (refuse-ok c s r hold ok [] _))
+  unfolding lookUp refuse
+  look-ok k = by-test (asksLevel (s .kind) (s .levels) (k .level)) (λ e. rw e ok) (λ e. rw e ok)
 
   act-ok : (l : Local) → ((mac : ℕ) (frame b : List ℕ) → l ≡ Receive mac frame b → Octets frame) → ActOk c s (act n s l c r)
   unfolding act linkMetricOf nextHello
@@ -88,13 +86,13 @@ module _ (g : Gateway) (h : RoomsOk g) where
 
   carry-rooms : (j : Judged) → JudgedOk (g .common) j → RoomsOk (carry g j .next)
   unfolding carry
-  carry-rooms (RefusedCall x) refusing = h
-  carry-rooms (Sweep clock d hellos o) (sweep le k) =
+  carry-rooms (RefusedCall x) k = h
+  carry-rooms (Sweep clock d hellos o) (le, k) =
       keeps-rooms d clock _ k
       (λ n.
       rw (swept-at clock (g .rooms) n)
       (room-sweep (g .common .system) (circuitOf (g .common) n) (g .common .clock) clock (expiredBy clock) (roomOf g n .slots) (left-span (g .common .clock) clock le) (h .rooms n)))
-  carry-rooms (Tell d a) (tell k) = keeps-rooms d (g .common .clock) (g .rooms) k (h .rooms)
+  carry-rooms (Tell d a) k = keeps-rooms d (g .common .clock) (g .rooms) k (h .rooms)
 
 -- ---- every call
 
