@@ -1,6 +1,6 @@
 -- What every call leaves of the common part, whatever it answers: setup's settings, a clock that does not fall, and timers of which setup's
 -- settings and the mode say what they said before.
-use Prim.Native.Nat.{ℕ, _-_, _≤_}
+use Prim.Native.Nat.{ℕ, _-_, _≤_, _<_}
 use native.Mathlib.Omega.{arith}
 use mathlib.Core.Path.{_≡_, refl, _∙_}
 use mathlib.Core.List.{List}
@@ -37,41 +37,46 @@ use Rattle.model.specs.Receive.{refuse, hereOf, saidOf, accepted, reacted, deci
 use Rattle.model.specs.Step.{Local, Receive, Release, CsnpComplete, LookUp, LinkMetric, NextHello, Global, Tick, DatabaseComplete, Waiting, Call, At, Over, asksLevel, csnpComplete, lookUp, linkMetricOf, nextHello, act, lift, on, Judged, Refused as RefusedCall, Sweep, Tell, noneOf, tickOf, databaseOf, judge, carry, step}
 use Rattle.invariants.specs.Invariants.{Quiet, Restarts, SetupSettings, SetupTimers, Onward}
 use Rattle.invariants.proofs.QuietLaws.{started-quiet, started-restarts, settled-quiet, settled-restarts, toT3-mode, heardIn-mode, csnpIn-mode, noticeT2s-mode}
-use Rattle.invariants.proofs.SetupTimersLaws.{started-kept, settled-kept, toT3-kept, heardIn-kept, csnpIn-kept, noticeT2s-kept}
+use Rattle.invariants.proofs.SetupTimersLaws.{started-kept, settled-kept, later-kept, toT3-kept, heardIn-kept, csnpIn-kept, noticeT2s-kept}
 
 -- ---- the timers
 
+-- the settings' lengths are still setup's
+abbrev pub KeptBy : Lengths → ℕ → Timers → Timers → Type 0
+KeptBy l clock t next = (s : Settings) → l ≡ s .lengths → SetupTimers s clock t → SetupTimers s clock next
+
 -- what a call's own step is asked for
-pub record Own (t next : Timers) : Type 0 where
+pub record Own (l : Lengths) (clock : ℕ) (t next : Timers) : Type 0 where
   pub mode : next .mode ≡ t .mode
-  pub kept : (s : Settings) → SetupTimers s t → SetupTimers s next
+  pub kept : KeptBy l clock t next
 
-own-tick : (l : Lengths) (clock : ℕ) (t : Timers) → Own t (toT3 l clock t)
-own-tick l clock t = record { mode = toT3-mode l clock t; kept = λ s h. toT3-kept s t h l clock }
+module _ (l : Lengths) (clock : ℕ) (t : Timers) where
+  own-tick : Own l clock t (toT3 l clock t)
+  own-tick = record { mode = toT3-mode l clock t; kept = λ s e h. rw e (toT3-kept s clock t h) }
 
-own-heard : (clock i : ℕ) (l : Levels) (d : Heard) (t : Timers) → Own t (heardIn clock i l d t)
-own-heard clock i l d t = record { mode = heardIn-mode clock i l d t; kept = λ s h. heardIn-kept s t h clock i l d }
+  own-heard : (i : ℕ) (on : Levels) (d : Heard) → Own l clock t (heardIn clock i on d t)
+  own-heard i on d = record { mode = heardIn-mode clock i on d t; kept = λ s e h. heardIn-kept s clock t h i on d }
 
-own-csnp : (i : ℕ) (l n : Levels) (t : Timers) → Own t (csnpIn i l n t)
-own-csnp i l n t = record { mode = csnpIn-mode i l n t; kept = λ s h. csnpIn-kept s t h i l n }
+  own-csnp : (i : ℕ) (on n : Levels) → Own l clock t (csnpIn i on n t)
+  own-csnp i on n = record { mode = csnpIn-mode i on n t; kept = λ s e h. csnpIn-kept s clock t h i on n }
 
-own-database : (n : Levels) (t : Timers) → Own t (noticeT2s n t)
-own-database n t = record { mode = noticeT2s-mode n t; kept = λ s h. noticeT2s-kept s t h n }
+  own-database : (n : Levels) → Own l clock t (noticeT2s n t)
+  own-database n = record { mode = noticeT2s-mode n t; kept = λ s e h. noticeT2s-kept s clock t h n }
 
 -- what the call then gives
-pub record Passes (t next : Timers) : Type 0 where
+pub record Passes (l : Lengths) (clock : ℕ) (t next : Timers) : Type 0 where
   pub running : t .mode ≡ Running → next .mode ≡ Running
   pub quiet : Quiet t → Quiet next
   pub restarts : (s : Settings) → Restarts s t → Restarts s next
-  pub kept : (s : Settings) → SetupTimers s t → SetupTimers s next
+  pub kept : KeptBy l clock t next
 
-passes-settled : (f : Timers → Timers) (t : Timers) → Own t (f t) → Passes t (settled f t)
-passes-settled f t own =
+passes-settled : (l : Lengths) (clock : ℕ) (f : Timers → Timers) (t : Timers) → Own l clock t (f t) → Passes l clock t (settled f t)
+passes-settled l clock f t own =
     record {
       running = λ e. mode-running t e f;
       quiet = settled-quiet f t (own .mode);
       restarts = λ s h. settled-restarts s f t h;
-      kept = λ s h. settled-kept s t h f (own .kept s h);
+      kept = λ s e h. settled-kept s clock t h f (own .kept s e h);
     }
 
 -- ---- the common part
@@ -82,7 +87,7 @@ pub record Keeps (c d : Common) : Type 0 where
   pub lengths : d .lengths ≡ c .lengths
   pub circuits : d .circuits ≡ c .circuits
   pub clock : d .clock ≡ c .clock
-  pub timers : Passes (c .timers) (d .timers)
+  pub timers : Passes (c .lengths) (c .clock) (c .timers) (d .timers)
 
 keeps-same : (c : Common) → Keeps c c
 keeps-same c =
@@ -91,12 +96,12 @@ keeps-same c =
       lengths = refl;
       circuits = refl;
       clock = refl;
-      timers = record { running = λ e. e; quiet = λ q. q; restarts = λ s h. h; kept = λ s h. h };
+      timers = record { running = λ e. e; quiet = λ q. q; restarts = λ s h. h; kept = λ s e h. h };
     }
 
-keeps-settled : (c : Common) (f : Timers → Timers) → Own (c .timers) (f (c .timers)) → Keeps c (withTimers (settled f (c .timers)) c)
+keeps-settled : (c : Common) (f : Timers → Timers) → Own (c .lengths) (c .clock) (c .timers) (f (c .timers)) → Keeps c (withTimers (settled f (c .timers)) c)
 keeps-settled c f own =
-    record { system = refl; lengths = refl; circuits = refl; clock = refl; timers = passes-settled f (c .timers) own }
+    record { system = refl; lengths = refl; circuits = refl; clock = refl; timers = passes-settled (c .lengths) (c .clock) f (c .timers) own }
 
 -- ---- the calls on a circuit
 
@@ -105,7 +110,7 @@ module _ (n : ℕ) (s : Circuit) (c : Common) (r : Room) where
   unfolding reacted accepted refuse
   reacted-keeps h k b (RefusedReaction x) = keeps-same c
   reacted-keeps h k b (Accepted after reply line) =
-      keeps-settled c (heardIn (c .clock) (n - 1) (s .levels) (saidOf c s h)) (own-heard (c .clock) (n - 1) (s .levels) (saidOf c s h) (c .timers))
+      keeps-settled c (heardIn (c .clock) (n - 1) (s .levels) (saidOf c s h)) (own-heard (c .lengths) (c .clock) (c .timers) (n - 1) (s .levels) (saidOf c s h))
 
   read-keeps : (mac : ℕ) (b : List ℕ) (x : Read) → Keeps c (readIn n s mac b x c r .common)
   unfolding readIn checked decidedIn refuse
@@ -124,7 +129,7 @@ module _ (n : ℕ) (s : Circuit) (c : Common) (r : Room) where
   csnp-keeps level =
       by-test (hasLevel (s .levels) level)
       (λ e. by-test (isRestarting (c .timers .mode))
-      (λ m. rw (e, m) (keeps-settled c (csnpIn (n - 1) (s .levels) (onlyLevel level)) (own-csnp (n - 1) (s .levels) (onlyLevel level) (c .timers))))
+      (λ m. rw (e, m) (keeps-settled c (csnpIn (n - 1) (s .levels) (onlyLevel level)) (own-csnp (c .lengths) (c .clock) (c .timers) (n - 1) (s .levels) (onlyLevel level))))
       (λ m. rw (e, m) (keeps-same c)))
       (λ e. rw e (keeps-same c))
 
@@ -162,7 +167,7 @@ module _ (c : Common) where
   database-ok level =
       by-test (hasLevel (enabledLevels (c .circuits)) level)
       (λ e. by-test (isRestarting (c .timers .mode))
-      (λ m. rw (e, m) (keeps-settled c (noticeT2s (onlyLevel level)) (own-database (onlyLevel level) (c .timers))))
+      (λ m. rw (e, m) (keeps-settled c (noticeT2s (onlyLevel level)) (own-database (c .lengths) (c .clock) (c .timers) (onlyLevel level))))
       (λ m. rw (e, m) tt))
       (λ e. rw e tt)
 
@@ -178,7 +183,9 @@ pub record Moves (c d : Common) : Type 0 where
   pub system : d .system ≡ c .system
   pub lengths : d .lengths ≡ c .lengths
   pub circuits : d .circuits ≡ c .circuits
-  pub timers : Passes (c .timers) (d .timers)
+  pub quiet : Quiet (c .timers) → Quiet (d .timers)
+  pub restarts : (s : Settings) → Restarts s (c .timers) → Restarts s (d .timers)
+  pub kept : (s : Settings) → c .lengths ≡ s .lengths → SetupTimers s (c .clock) (c .timers) → SetupTimers s (d .clock) (d .timers)
   pub onward : Onward c d
 
 -- the clock moved on, or stood, and the rest kept
@@ -188,7 +195,9 @@ moved c d clock le k =
       system = k .system;
       lengths = k .lengths;
       circuits = k .circuits;
-      timers = k .timers;
+      quiet = k .timers .quiet;
+      restarts = k .timers .restarts;
+      kept = λ s e h. rw (k .clock) (k .timers .kept s e (later-kept s (c .clock) (c .timers) h clock le));
       onward = record { clock = omega (arith, k .clock); running = k .timers .running };
     }
 
@@ -218,16 +227,16 @@ pub record CommonOk (s : Settings) (c : Common) : Type 0 where
   pub settings : SetupSettings s c
   pub quiet : Quiet (c .timers)
   pub restarts : Restarts s (c .timers)
-  pub timers : SetupTimers s (c .timers)
+  pub timers : SetupTimers s (c .clock) (c .timers)
 
-pub common-new : (s : Settings) → CommonOk s (setupCommon s)
+pub common-new : (s : Settings) → 0 < s .lengths .tries → CommonOk s (setupCommon s)
 unfolding setupCommon
-common-new s =
+common-new s tries =
     record {
       settings = record { system = refl; lengths = refl; circuits = refl };
       quiet = started-quiet (startOf s);
       restarts = started-restarts s;
-      timers = started-kept s;
+      timers = started-kept s tries;
     }
 
 pub common-moved : (s : Settings) (c d : Common) → Moves c d → CommonOk s c → CommonOk s d
@@ -239,7 +248,7 @@ common-moved s c d m h =
             lengths = m .lengths ∙ h .settings .lengths;
             circuits = m .circuits ∙ h .settings .circuits;
           };
-      quiet = m .timers .quiet (h .quiet);
-      restarts = m .timers .restarts s (h .restarts);
-      timers = m .timers .kept s (h .timers);
+      quiet = m .quiet (h .quiet);
+      restarts = m .restarts s (h .restarts);
+      timers = m .kept s (h .settings .lengths) (h .timers);
     }

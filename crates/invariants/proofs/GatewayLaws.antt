@@ -16,7 +16,7 @@ use Rattle.adjacency.specs.declared.record.State.{State}
 use Rattle.adjacency.specs.declared.place.Slot.{Slot}
 use Rattle.room.specs.Table.{crowded, put, sweep}
 use Rattle.room.specs.Gather.{gather}
-use Rattle.settings.specs.Settings.{between, circuitOk, circuitsOf, settingsOk}
+use Rattle.settings.specs.Settings.{between, circuitOk, circuitsOf, lengthsOk, settingsOk}
 use Rattle.basics.specs.Lists.{every}
 use Rattle.basics.specs.Levels.{someOn}
 use Rattle.settings.specs.declared.circuit.Circuit.{Circuit}
@@ -181,9 +181,17 @@ module _ (s : Settings) (ok : settingsOk s ≡ true) where
   unfolding newGateway setupCommon
   new-rooms = record { hold = new-hold; rooms = new-room }
 
+  new-tries : 0 < s .lengths .tries
+  unfolding settingsOk lengthsOk
+  new-tries =
+      let a = both (between 1 (s .count) circuits) _ ok .1 in
+      let b = both (every circuitOk (circuitsOf s)) _ a .1 in
+      let c = both (between 1 (s .lengths .t1) 65535) _ b .1 in
+      between-true 1 (s .lengths .tries) 255 (both (between 1 (s .lengths .t2) 65535) _ c .1) .0
+
   new-common : CommonOk s (newGateway s .common)
   unfolding newGateway
-  new-common = common-new s
+  new-common = common-new s new-tries
 
 -- ---- both parts of the gateway, of setup's settings
 

@@ -2,11 +2,11 @@
 use Prim.Native.Nat.{ℕ, _≤_}
 use native.Mathlib.Omega.{arith}
 use mathlib.Core.Path.{_≡_, refl}
-use mathlib.Core.Bool.{Bool, true, false, not}
+use mathlib.Core.Bool.{false}
 use mathlib.Core.List.{List, [], _∷_, _++_, append-assoc}
 use lib.ListN.{length, drop}
 use lib.Dec.{ltb}
-use borrow.Author.Tests.{eqb-false}
+use borrow.Author.Tests.{eqb-false, not-false}
 use Rattle.basics.specs.Octets.{big, octetsOf}
 use Rattle.basics.specs.Levels.{hasLevel}
 use Rattle.basics.specs.declared.levels.Levels.{Levels}
@@ -89,14 +89,10 @@ room-sound clock k t (Accepted after reply line) (fair span told gone) =
 
 -- ---- the key of a frame that refusal 7 lets pass
 
-level-on : (b : Bool) → not b ≡ false → b ≡ true
-level-on true e = refl
-level-on false e = cc
-
 level-and-mac : (kind : CircuitKind) (l : Levels) (mac system : ℕ) (link : Link) → kindOf link ≡ kind → levelOff l link ≡ false
     → LevelAndMac kind l (keyOn kind (record { level = levelIn link; system = system; mac = mac }))
 unfolding keyOn
-level-and-mac Lan l mac system (LanLink level priority listed) e off = level-on (hasLevel l level) off
+level-and-mac Lan l mac system (LanLink level priority listed) e off = not-false (hasLevel l level) off
 level-and-mac Lan l mac system (P2pLink t) e off = cc
 level-and-mac P2p l mac system link e off = (refl, refl)
 

@@ -165,9 +165,16 @@ pub record Quiet (t : Timers) : Type 0 where
 pub record Restarts (s : Settings) (t : Timers) : Type 0 where
   pub some : someOn (enabledLevels (circuitsOf s)) ≡ true → t .mode ≡ Restarting → anyT2 (t .t2s) ≡ true
 
--- "Setup .. starts T1 on each [circuit] ..": a T1 runs only on a circuit that is there
-abbrev pub OnCircuits : ℕ → List T1 → Type 0
-OnCircuits count l = (n : ℕ) → numbered l n noT1 .runs ≡ true → n ≤ count
+-- "Setup .. starts T1 on each [circuit] .. T1 at its deadline: order the hello again and run from this clock, or stop at the Nth expiry": where a
+-- T1 runs its circuit is there, it expired fewer than N times, and its length is all that it waits
+pub record T1Ends (s : Settings) (clock n tries deadline : ℕ) : Type 0 where
+  pub there : n ≤ s .count
+  pub fewer : tries < s .lengths .tries
+  pub due : deadline ≤ clock + s .lengths .t1
+
+-- .. of the T1 of circuit n
+abbrev pub T1Fits : Settings → ℕ → ℕ → T1 → Type 0
+T1Fits s clock n t = t .runs ≡ true → T1Ends s clock n (t .entry .tries) (t .entry .deadline)
 
 -- ".. T2 per enabled level ..": it runs for its length from setup on, and no call moves its deadline
 pub record T2Ends (s : Settings) (k : Level) (deadline : ℕ) : Type 0 where
@@ -178,8 +185,8 @@ pub record T2Ends (s : Settings) (k : Level) (deadline : ℕ) : Type 0 where
 abbrev pub t3Ends : Settings → ℕ
 t3Ends s = s .clock + 65535
 
-pub record SetupTimers (s : Settings) (t : Timers) : Type 0 where
-  pub t1s : OnCircuits (s .count) (t .t1s)
+pub record SetupTimers (s : Settings) (clock : ℕ) (t : Timers) : Type 0 where
+  pub t1s : (n : ℕ) → T1Fits s clock n (numbered (t .t1s) n noT1)
   pub t2s : (k : Level) (deadline : ℕ) → t2At k (t .t2s) .timer ≡ Until deadline → T2Ends s k deadline
   pub t3 : (deadline : ℕ) → t .t3 ≡ Runs deadline → deadline ≤ t3Ends s
 
@@ -202,7 +209,7 @@ pub record Invariant (s : Settings) (g : Gateway) : Type 0 where
   pub settings : SetupSettings s (g .common)
   pub quiet : Quiet (g .common .timers)
   pub restarts : Restarts s (g .common .timers)
-  pub timers : SetupTimers s (g .common .timers)
+  pub timers : SetupTimers s (g .common .clock) (g .common .timers)
   pub onward : (c : Call) → Onward (g .common) (step g c .next .common)
 
 -- Any gateway that setup returned, in either mode, and any list of calls, refused ones included.
