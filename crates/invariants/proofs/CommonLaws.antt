@@ -3,11 +3,13 @@
 use Prim.Native.Nat.{ℕ, _-_, _≤_, _<_}
 use native.Mathlib.Omega.{arith}
 use mathlib.Core.Path.{_≡_, refl, _∙_}
+use mathlib.Core.Bool.{true}
 use mathlib.Core.List.{List}
 use lib.ListN.{length}
 use lib.Dec.{ltb}
 use borrow.Author.Tests.{ltb-false}
 use Rattle.basics.proofs.BoolLaws.{by-test}
+use Rattle.basics.specs.Lists.{every}
 use Rattle.basics.specs.Levels.{onlyLevel, hasLevel}
 use Rattle.basics.specs.declared.levels.Levels.{Levels}
 use Rattle.hello.specs.Hello.{helloRead}
@@ -21,7 +23,7 @@ use Rattle.adjacency.specs.declared.react.Reaction.the-variants.{Refused as Ref
 use Rattle.adjacency.specs.declared.record.Key.{Key}
 use Rattle.room.specs.Accept.{decided}
 use Rattle.settings.specs.Mode.{isRestarting}
-use Rattle.settings.specs.Settings.{enabledLevels}
+use Rattle.settings.specs.Settings.{circuitOk, circuitsOf, enabledLevels}
 use Rattle.settings.specs.declared.circuit.Chosen.{Chosen}
 use Rattle.settings.specs.declared.circuit.Chosen.the-variants.{Known, Unknown}
 use Rattle.settings.specs.declared.circuit.Circuit.{Circuit}
@@ -229,13 +231,13 @@ pub record CommonOk (s : Settings) (c : Common) : Type 0 where
   pub restarts : Restarts s (c .timers)
   pub timers : SetupTimers s (c .clock) (c .timers)
 
-pub common-new : (s : Settings) → 0 < s .lengths .tries → CommonOk s (setupCommon s)
+pub common-new : (s : Settings) → every circuitOk (circuitsOf s) ≡ true → 0 < s .lengths .tries → CommonOk s (setupCommon s)
 unfolding setupCommon
-common-new s tries =
+common-new s ok tries =
     record {
       settings = record { system = refl; lengths = refl; circuits = refl };
       quiet = started-quiet (startOf s);
-      restarts = started-restarts s;
+      restarts = started-restarts s ok;
       timers = started-kept s tries;
     }
 

@@ -191,7 +191,7 @@ module _ (s : Settings) (ok : settingsOk s ≡ true) where
 
   new-common : CommonOk s (newGateway s .common)
   unfolding newGateway
-  new-common = common-new s new-tries
+  new-common = common-new s circuits-ok new-tries
 
 -- ---- both parts of the gateway, of setup's settings
 

@@ -1,13 +1,17 @@
 -- In the mode Running no timer runs, and in the mode Restarting some T2 does: setup gives it, and the end of every call on the timers.
-use Prim.Native.Nat.{ℕ, _+_}
+use Prim.Native.Nat.{ℕ, _+_, _<_}
+use native.Mathlib.Omega.{arith}
 use mathlib.Core.Path.{_≡_, refl, ap, _∙_}
 use mathlib.Core.Bool.{Bool, true, false}
 use mathlib.Core.List.{List, [], _∷_, map}
+use lib.ListN.{length}
 use Rattle.settings.specs.Mode.{isRunning}
-use Rattle.settings.specs.Settings.{circuitsOf, enabledLevels}
-use Rattle.basics.proofs.BoolLaws.{by-test}
+use Rattle.settings.specs.Settings.{circuitOk, circuitsOf, enabledLevels}
+use Rattle.basics.proofs.BoolLaws.{both, or-true, by-test}
 use Rattle.basics.specs.declared.levels.Levels.{Levels}
-use Rattle.basics.specs.Levels.{someOn}
+use Rattle.basics.specs.Levels.{First, isOn, someOn}
+use Rattle.basics.specs.Lists.{every, some}
+use Rattle.settings.specs.declared.circuit.Circuit.{Circuit}
 use Rattle.basics.specs.Mask.{bitsOf}
 use Rattle.timer_parts.specs.T1.{stopT1}
 use Rattle.timer_parts.specs.T2.{timerRuns, anyT2, startTimer, startT2s}
@@ -52,13 +56,27 @@ any-started : (l : Levels) (at : ℕ) → anyT2 (startT2s l at) ≡ someOn l
 unfolding anyT2 startT2s
 any-started l at = rw (timer-runs (l .one) at, timer-runs (l .two) at) refl
 
-restarts-by : (s : Settings) (m : Mode) → s .mode ≡ m → Restarts s (started (startOf s))
-unfolding started startHead
-restarts-by s Running p = record { some = λ on e. (let z = rw p at e in cc) }
-restarts-by s Restarting p = record { some = λ on e. rw p (any-started (enabledLevels (circuitsOf s)) (s .clock + s .lengths .t2) ∙ on) }
+-- a circuit has a level, and so a level is enabled
+some-enabled : (l : List Circuit) → every circuitOk l ≡ true → 0 < length l → someOn (enabledLevels l) ≡ true
+unfolding every circuitOk enabledLevels some
+some-enabled [] ok h = absurd (omega arith)
+some-enabled (c ∷ l) ok h =
+    let a = both (circuitOk c) _ ok .0 in
+    let b = both (someOn (c .levels)) _ a .0 in
+    by-test (c .levels .one) (λ e. rw e refl)
+    (λ e. let f : c .levels .two ≡ true = rw e at b in rw (e, f) (or-true (some (λ d. isOn First (d .levels)) l)))
 
-pub started-restarts : (s : Settings) → Restarts s (started (startOf s))
-started-restarts s = restarts-by s (s .mode) refl
+module _ (s : Settings) (ok : every circuitOk (circuitsOf s) ≡ true) where
+  restarts-by : (m : Mode) → s .mode ≡ m → Restarts s (started (startOf s))
+  unfolding started startHead
+  restarts-by Running p = record { some = λ h e. (let z = rw p at e in cc) }
+  restarts-by Restarting p =
+      record {
+        some = λ h e. rw p (any-started (enabledLevels (circuitsOf s)) (s .clock + s .lengths .t2) ∙ some-enabled (circuitsOf s) ok h);
+      }
+
+  pub started-restarts : Restarts s (started (startOf s))
+  started-restarts = restarts-by (s .mode) refl
 
 -- ---- the end of every call
 

@@ -21,7 +21,7 @@ use Rattle.adjacency.specs.declared.record.Record.{Record}
 use Rattle.adjacency.specs.declared.place.Slot.{Slot}
 use Rattle.adjacency.specs.declared.place.Slot.the-variants.{Free, Held, Closed}
 use Rattle.room.specs.Gather.{gather}
-use Rattle.basics.specs.Levels.{Level, isOn, someOn, hasLevel}
+use Rattle.basics.specs.Levels.{Level, isOn, hasLevel}
 use Rattle.basics.specs.declared.levels.Levels.{Levels}
 use Rattle.timer_parts.specs.T2.{t2At, anyT2}
 use Rattle.timer_parts.specs.declared.t1.T1.{T1}
@@ -161,9 +161,9 @@ pub record Quiet (t : Timers) : Type 0 where
   pub t2s : t .mode ≡ Running → anyT2 (t .t2s) ≡ false
   pub t3 : t .mode ≡ Running → t .t3 ≡ Idle
 
--- .. and in the other some T2 runs. Settings of no circuit enable no level; those that the code takes have one.
+-- .. and in the other some T2 runs, where there is a circuit
 pub record Restarts (s : Settings) (t : Timers) : Type 0 where
-  pub some : someOn (enabledLevels (circuitsOf s)) ≡ true → t .mode ≡ Restarting → anyT2 (t .t2s) ≡ true
+  pub some : 0 < length (circuitsOf s) → t .mode ≡ Restarting → anyT2 (t .t2s) ≡ true
 
 -- "Setup .. starts T1 on each [circuit] .. T1 at its deadline: order the hello again and run from this clock, or stop at the Nth expiry": where a
 -- T1 runs its circuit is there, it expired fewer than N times, and its length is all that it waits
