@@ -16,21 +16,20 @@ use Rattle.adjacency.specs.declared.record.State.{State}
 use Rattle.adjacency.specs.declared.place.Slot.{Slot}
 use Rattle.room.specs.Table.{crowded, put, sweep}
 use Rattle.room.specs.Gather.{gather}
-use Rattle.settings.specs.Settings.{between, circuitOk, circuitsOf, settingsOk}
+use Rattle.settings.specs.Settings.{between, circuitOk, circuitsOf, lengthsOk, settingsOk}
 use Rattle.basics.specs.Lists.{every}
 use Rattle.basics.specs.Levels.{someOn}
 use Rattle.settings.specs.declared.circuit.Circuit.{Circuit}
 use Rattle.settings.specs.declared.setup.Settings.{Settings}
 use Rattle.settings.proofs.SettingsLaws.{between-true}
-use Rattle.control.specs.Common.{noCircuit, circuitOf, setupCommon, startOf}
+use Rattle.control.specs.Common.{noCircuit, circuitOf, setupCommon}
 use Rattle.settings.specs.declared.circuit.Chosen.{Chosen}
 use Rattle.settings.specs.declared.circuit.Chosen.the-variants.{Known, Unknown}
 use Rattle.model.specs.Gateway.{Room, Gateway, numbered, renew, noRoom, roomOf, newRoom, newGateway, Started, setup}
 use Rattle.model.specs.Step.{sweptRoom}
-use Rattle.invariants.specs.Invariants.{Each, end, Quiet, roomFor}
-use Rattle.invariants.proofs.QuietLaws.{started-quiet}
+use Rattle.invariants.specs.Invariants.{Each, end, roomFor, Span, KeyFits}
+use Rattle.invariants.proofs.CommonLaws.{CommonOk, common-new}
 use Rattle.invariants.proofs.RoomLaws.{each-put, each-sweep, NoRecords, no-records-each, no-records-gather, empty-no-records, openPlaces, empty-places, places-put, places-sweep, single-sweep, single-put}
-use Rattle.invariants.proofs.ReactLaws.{Span}
 
 -- ---- a room
 
@@ -39,8 +38,14 @@ pub data Size : Chosen → List Slot → Type 0 where
   places-of : {s : Circuit} {t : List Slot} → openPlaces t ≡ roomFor (s .kind) → Size (Known s) t
   none-of : {t : List Slot} → NoRecords t → Size Unknown t
 
-pub record RoomOk (x : Chosen) (clock : ℕ) (t : List Slot) : Type 0 where
-  pub spans : Each (λ s. Span clock (expiryOf s)) t
+-- what a key on that circuit is
+abbrev pub KeyOf : ℕ → Chosen → Key → Type 0
+KeyOf own (Known s) k = KeyFits own s k
+KeyOf own Unknown k = Unit {0}
+
+pub record RoomOk (own : ℕ) (x : Chosen) (clock : ℕ) (t : List Slot) : Type 0 where
+  pub spans : Each (λ r. Span clock (expiryOf (r .state))) t
+  pub keys : Each (λ r. KeyOf own x (r .key)) t
   pub single : (k : Key) → length (gather k t) ≤ 1
   pub size : Size x t
 
@@ -49,15 +54,16 @@ module _ (t : List Slot) (b : NoRecords t) where
   single-no-records : (k : Key) → length (gather k t) ≤ 1
   single-no-records k = rw (no-records-gather k t b) (omega arith)
 
-  no-records-ok : (x : Chosen) (clock : ℕ) → Size x t → RoomOk x clock t
-  no-records-ok x clock z = record { spans = no-records-each t b; single = single-no-records; size = z }
+  no-records-ok : (own : ℕ) (x : Chosen) (clock : ℕ) → Size x t → RoomOk own x clock t
+  no-records-ok own x clock z = record { spans = no-records-each t b; keys = no-records-each t b; single = single-no-records; size = z }
 
 -- a record put
-pub room-put : (s : Circuit) (clock : ℕ) (t : List Slot) (k : Key) (v : State) → RoomOk (Known s) clock t → crowded k t ≡ false
-    → Span clock (expiryOf v) → RoomOk (Known s) clock (put k v t)
-room-put s clock t k v ok free span =
+pub room-put : (own : ℕ) (s : Circuit) (clock : ℕ) (t : List Slot) (k : Key) (v : State) → RoomOk own (Known s) clock t → crowded k t ≡ false
+    → Span clock (expiryOf v) → KeyFits own s k → RoomOk own (Known s) clock (put k v t)
+room-put own s clock t k v ok free span key =
     record {
       spans = each-put k v span t (ok .spans);
+      keys = each-put k v key t (ok .keys);
       single = λ j. single-put t (ok .single) j k v free;
       size = by (ok .size);
     }
@@ -68,41 +74,25 @@ room-put s clock t k v ok free span =
 -- a sweep at a clock that may have moved on
 size-sweep : (x : Chosen) (p : State → Bool) (t : List Slot) → Size x t → Size x (sweep p t)
 size-sweep (Known s) p t (places-of e) = places-of (places-sweep p t ∙ e)
-size-sweep Unknown p t (none-of b) = none-of (each-sweep p (λ s e q. q) t b)
+size-sweep Unknown p t (none-of b) = none-of (each-sweep p (λ r e q. q) t b)
 
-pub room-sweep : (x : Chosen) (old clock : ℕ) (p : State → Bool) (t : List Slot)
-    → ((s : State) → p s ≡ false → Span old (expiryOf s) → Span clock (expiryOf s)) → RoomOk x old t → RoomOk x clock (sweep p t)
-room-sweep x old clock p t f ok =
+pub room-sweep : (own : ℕ) (x : Chosen) (old clock : ℕ) (p : State → Bool) (t : List Slot)
+    → ((s : State) → p s ≡ false → Span old (expiryOf s) → Span clock (expiryOf s)) → RoomOk own x old t → RoomOk own x clock (sweep p t)
+room-sweep own x old clock p t f ok =
     record {
-      spans = each-sweep p f t (ok .spans);
+      spans = each-sweep p (λ r. f (r .state)) t (ok .spans);
+      keys = each-sweep p (λ r e q. q) t (ok .keys);
       single = λ k. single-sweep t (ok .single) k p;
       size = size-sweep x p t (ok .size);
     }
 
 -- ---- the gateway
 
-pub record Holds (g : Gateway) : Type 0 where
-  pub quiet : Quiet (g .common .timers)
+pub record RoomsOk (g : Gateway) : Type 0 where
   pub hold : (n : ℕ) (s : Circuit) → circuitOf (g .common) n ≡ Known s → s .hold ≤ 65535
-  pub rooms : (n : ℕ) → RoomOk (circuitOf (g .common) n) (g .common .clock) (roomOf g n .slots)
+  pub rooms : (n : ℕ) → RoomOk (g .common .system) (circuitOf (g .common) n) (g .common .clock) (roomOf g n .slots)
 
 -- ---- rooms after a call
-
--- one room renewed
-set-all : (P : ℕ → Room → Type 0) (l : List Room) (i : ℕ) (v : Room) → ((m : ℕ) → P m (getD l m noRoom)) → P i v
-    → (m : ℕ) → P m (getD (set l i v) m noRoom)
-set-all P [] i v h p m = h m
-set-all P (x ∷ l) zero v h p zero = p
-set-all P (x ∷ l) zero v h p (suc m) = h (suc m)
-set-all P (x ∷ l) (suc i) v h p zero = h zero
-set-all P (x ∷ l) (suc i) v h p (suc m) = set-all (λ k. P (suc k)) l i v (λ k. h (suc k)) p m
-
-pub renew-all : (P : ℕ → Room → Type 0) (l : List Room) (n : ℕ) (v : Room) → ((m : ℕ) → P m (numbered l m noRoom)) → P n v
-    → (m : ℕ) → P m (numbered (renew l n v) m noRoom)
-unfolding numbered renew
-renew-all P l zero v h p m = h m
-renew-all P l (suc i) v h p zero = h zero
-renew-all P l (suc i) v h p (suc m) = set-all (λ k. P (suc k)) l i v (λ k. h (suc k)) p m
 
 -- a room with a place is there
 set-same : (l : List Room) (i : ℕ) (v : Room) → 0 < openPlaces (getD l i noRoom .slots) → getD (set l i v) i noRoom ≡ v
@@ -178,21 +168,40 @@ module _ (s : Settings) (ok : settingsOk s ≡ true) where
       rw (new-at (s .circuits) i (noCircuit) (below .1), getD-take (s .count) (s .circuits) i (noCircuit) (below .0))
       (empty-places (getD (s .circuits) i (noCircuit) .kind))
 
-  new-room : (n : ℕ) → RoomOk (circuitOf (setupCommon s) n) (s .clock) (numbered (map newRoom (s .circuits)) n noRoom .slots)
+  new-room : (n : ℕ) → RoomOk (s .system) (circuitOf (setupCommon s) n) (s .clock) (numbered (map newRoom (s .circuits)) n noRoom .slots)
   unfolding circuitOf setupCommon numbered
-  new-room zero = no-records-ok [] end Unknown (s .clock) (none-of end)
+  new-room zero = no-records-ok [] end (s .system) Unknown (s .clock) (none-of end)
   new-room (suc i) =
       let b = new-no-records (s .circuits) i in
       by-test (ltb i (length (circuitsOf s)))
-      (λ a. rw a (no-records-ok _ b (Known (getD (circuitsOf s) i (noCircuit))) (s .clock) (places-of (new-places i (ltb-true _ _ a)))))
-      (λ a. rw a (no-records-ok _ b Unknown (s .clock) (none-of b)))
+      (λ a. rw a (no-records-ok _ b (s .system) (Known (getD (circuitsOf s) i (noCircuit))) (s .clock) (places-of (new-places i (ltb-true _ _ a)))))
+      (λ a. rw a (no-records-ok _ b (s .system) Unknown (s .clock) (none-of b)))
 
-  pub new-holds : Holds (newGateway s)
+  new-rooms : RoomsOk (newGateway s)
   unfolding newGateway setupCommon
-  new-holds = record { quiet = started-quiet (startOf s); hold = new-hold; rooms = new-room }
+  new-rooms = record { hold = new-hold; rooms = new-room }
 
-pub setup-holds : (s : Settings) (g : Gateway) (hellos : List Bool) → setup s ≡ Started g hellos → Holds g
+  new-tries : 0 < s .lengths .tries
+  unfolding settingsOk lengthsOk
+  new-tries =
+      let a = both (between 1 (s .count) circuits) _ ok .1 in
+      let b = both (every circuitOk (circuitsOf s)) _ a .1 in
+      let c = both (between 1 (s .lengths .t1) 65535) _ b .1 in
+      between-true 1 (s .lengths .tries) 255 (both (between 1 (s .lengths .t2) 65535) _ c .1) .0
+
+  new-common : CommonOk s (newGateway s .common)
+  unfolding newGateway
+  new-common = common-new s circuits-ok new-tries
+
+-- ---- both parts of the gateway, of setup's settings
+
+pub record Holds (s : Settings) (g : Gateway) : Type 0 where
+  pub common : CommonOk s (g .common)
+  pub rooms : RoomsOk g
+
+pub setup-holds : (s : Settings) (g : Gateway) (hellos : List Bool) → setup s ≡ Started g hellos → Holds s g
 unfolding setup
 setup-holds s g hellos e =
-    by-test (settingsOk s) (λ a. let z : newGateway s ≡ g = cc in rw (← z) (new-holds s a))
+    by-test (settingsOk s)
+    (λ a. let z : newGateway s ≡ g = cc in rw (← z) (record { common = new-common s a; rooms = new-rooms s a }))
     (λ a. absurd (let z : _≡_ {A = ℕ} 0 1 = cc in omega arith))

@@ -1,4 +1,4 @@
--- The four invariants follow from what holds of the gateway after any list of calls.
+-- The invariants follow from what holds of the gateway after any list of calls.
 use Prim.Native.Nat.{ℕ, zero, suc, _≤_, _<_}
 use native.Mathlib.Omega.{arith}
 use mathlib.Core.Path.{_≡_, refl}
@@ -15,11 +15,12 @@ use Rattle.basics.specs.declared.kind.CircuitKind.the-variants.{Lan, P2p}
 use Rattle.hello.specs.declared.read.Hello.{Hello}
 use Rattle.hello.specs.declared.read.Read.the-variants.{Accepted}
 use Rattle.adjacency.specs.Record.{expiryOf}
-use Rattle.adjacency.specs.declared.record.State.{State}
+use Rattle.adjacency.specs.declared.record.Record.{Record}
 use Rattle.adjacency.specs.Place.{expiredBy}
 use Rattle.adjacency.specs.declared.place.Slot.{Slot}
 use Rattle.room.specs.Table.{expired}
 use Rattle.settings.specs.declared.circuit.Circuit.{Circuit}
+use Rattle.settings.specs.declared.setup.Settings.{Settings}
 use Rattle.control.specs.Common.{Common, circuitOf}
 use Rattle.settings.specs.declared.circuit.Chosen.the-variants.{Known, Unknown}
 use Rattle.adjacency.specs.Keys.{keyIn}
@@ -28,10 +29,11 @@ use Rattle.model.specs.Gateway.{Gateway, roomOf, recordAt}
 use Rattle.model.specs.Receive.{receive}
 use Rattle.model.specs.Step.{Call, At, Over, Receive, Tick, act, lift, on, noneOf, tickOf, judge, carry, step}
 use Rattle.model.specs.Trace.{trace, leftBy, after}
-use Rattle.invariants.specs.Invariants.{Octets, AllFit, none, more, Each, records, roomFor, TrueTime, TrueReplies, AboveClock, TickSweeps, Bounded, Invariant, Invariants}
+use Rattle.invariants.specs.Invariants.{Octets, AllFit, none, more, Each, records, roomFor, TrueTime, TrueReplies, AboveClock, TickSweeps, Bounded, KeysFit, NearExpiries, Invariant, Invariants}
 use Rattle.invariants.proofs.RoomLaws.{each-sweep, no-records-each, no-records-records, openPlaces, records-places}
-use Rattle.invariants.proofs.GatewayLaws.{Size, places-of, none-of, RoomOk, Holds, renew-same, swept-at, setup-holds}
-use Rattle.invariants.proofs.ReceiveLaws.{ActOk, receive-ok, receive-reply}
+use Rattle.invariants.proofs.GatewayLaws.{Size, places-of, none-of, RoomOk, RoomsOk, renew-same, swept-at, Holds, setup-holds}
+use Rattle.invariants.proofs.CommonLaws.{act-keeps, step-moves}
+use Rattle.invariants.proofs.ReceiveLaws.{receive-reply}
 use Rattle.invariants.proofs.StepLaws.{step-holds}
 
 -- ---- rooms
@@ -42,7 +44,7 @@ known-records s t (places-of e) = omega (arith, records-places t)
 unknown-records : (t : List Slot) → Size Unknown t → records t ≡ 0
 unknown-records t (none-of b) = no-records-records t b
 
-unknown-each : {P : State → Type 0} (t : List Slot) → Size Unknown t → Each P t
+unknown-each : {P : Record → Type 0} (t : List Slot) → Size Unknown t → Each P t
 unknown-each t (none-of b) = no-records-each t b
 
 room-for : (kind : CircuitKind) → 0 < roomFor kind
@@ -62,7 +64,7 @@ unfolding circuitOf
 none-known c e zero = refl
 none-known c e (suc i) = rw (le-ltb i (length (c .circuits)) (omega (arith, none-length (c .circuits) e))) refl
 
-module _ (g : Gateway) (h : Holds g) where
+module _ (g : Gateway) (h : RoomsOk g) where
   bounded : Bounded g
   bounded =
       record {
@@ -71,10 +73,16 @@ module _ (g : Gateway) (h : Holds g) where
         single = λ n k. h .rooms n .single k;
       }
 
+  keys-fit : KeysFit g
+  keys-fit = record { fit = λ n s e. rw e at (h .rooms n .keys) }
+
+  near-expiries : NearExpiries g
+  near-expiries = record { near = λ n. h .rooms n .spans }
+
   -- ---- ticks
 
-  left-above : (clock n : ℕ) → Each (λ s. clock < expiryOf s) (expired clock (roomOf g n .slots))
-  left-above clock n = each-sweep (expiredBy clock) (λ s e q. leb-false (expiryOf s) clock e) (roomOf g n .slots) (h .rooms n .spans)
+  left-above : (clock n : ℕ) → Each (λ r. clock < expiryOf (r .state)) (expired clock (roomOf g n .slots))
+  left-above clock n = each-sweep (expiredBy clock) (λ r e q. leb-false (expiryOf (r .state)) clock e) (roomOf g n .slots) (h .rooms n .spans)
 
   tick-above : (clock : ℕ) (lost hellos : List Bool) (o : TimersAnswer) → step g (Over (Tick clock)) .answer ≡ Ticked lost hellos o
       → AboveClock (step g (Over (Tick clock)) .next)
@@ -98,30 +106,42 @@ module _ (g : Gateway) (h : Holds g) where
         → TrueTime (step g (At n (Receive mac frame buffer))) n (keyIn (s .kind) mac j) (f .time)
     unfolding step on lift act recordAt
     reply-true told f e r a q =
-        let ok : RoomOk (Known s) (g .common .clock) (roomOf g n .slots) = rw e at (h .rooms n) in
-        let done : ActOk (g .common) s (receive n s mac frame buffer (g .common) (roomOf g n)) = receive-ok (g .common) s (roomOf g n) (h .hold n s e) ok n mac buffer frame f in
+        let ok : RoomOk (g .common .system) (Known s) (g .common .clock) (roomOf g n .slots) = rw e at (h .rooms n) in
+        let done = act-keeps n s (g .common) (roomOf g n) (Receive mac frame buffer) in
         let w = receive-reply (g .common) s (roomOf g n) (h .hold n s e) ok n mac buffer j frame f r .said told (rw e at a) q in
         rw e
         (record {
           octets = w .octets;
           fits = w .fits;
           tells =
-              rw (renew-same (g .rooms) n (receive n s mac frame buffer (g .common) (roomOf g n) .room) (known-places s (roomOf g n .slots) (ok .size)), done .common .clock)
+              rw (renew-same (g .rooms) n (receive n s mac frame buffer (g .common) (roomOf g n) .room) (known-places s (roomOf g n .slots) (ok .size)), done .clock)
               (w .tells);
         })
 
   true-replies : TrueReplies g
   true-replies = record { time = λ n mac frame buffer s j f. reply-true n mac frame buffer s j f }
 
-  holds-invariant : Invariant g
-  holds-invariant = record { replies = true-replies; ticks = tick-sweeps; rooms = bounded; t1s = h .quiet }
+holds-invariant : (s : Settings) (g : Gateway) → Holds s g → Invariant s g
+holds-invariant s g h =
+    record {
+      replies = true-replies g (h .rooms);
+      ticks = tick-sweeps g (h .rooms);
+      rooms = bounded g (h .rooms);
+      keys = keys-fit g (h .rooms);
+      expiries = near-expiries g (h .rooms);
+      settings = h .common .settings;
+      quiet = h .common .quiet;
+      restarts = h .common .restarts;
+      timers = h .common .timers;
+      onward = λ c. step-moves g c .onward;
+    }
 
 -- ---- any list of calls
 
-after-holds : (g : Gateway) (cs : List Call) → Holds g → AllFit cs → Holds (after g cs)
+after-holds : (s : Settings) (g : Gateway) (cs : List Call) → Holds s g → AllFit cs → Holds s (after g cs)
 unfolding trace leftBy
-after-holds g [] h none = h
-after-holds g (c ∷ cs) h (more f fs) = after-holds (step g c .next) cs (step-holds g c h f) fs
+after-holds s g [] h none = h
+after-holds s g (c ∷ cs) h (more f fs) = after-holds s (step g c .next) cs (step-holds s g c h f) fs
 
 pub invariants : Invariants
-invariants s g hellos e cs fs = holds-invariant (after g cs) (after-holds g cs (setup-holds s g hellos e) fs)
+invariants s g hellos e cs fs = holds-invariant s (after g cs) (after-holds s g cs (setup-holds s g hellos e) fs)

@@ -1,14 +1,20 @@
--- In the mode Running no T1 runs: setup starts none there, and no call's step on the timers starts one.
-use Prim.Native.Nat.{ℕ}
+-- In the mode Running no timer runs, and in the mode Restarting some T2 does: setup gives it, and the end of every call on the timers.
+use Prim.Native.Nat.{ℕ, _+_, _<_}
+use native.Mathlib.Omega.{arith}
 use mathlib.Core.Path.{_≡_, refl, ap, _∙_}
-use mathlib.Core.Bool.{false}
+use mathlib.Core.Bool.{Bool, true, false}
 use mathlib.Core.List.{List, [], _∷_, map}
+use lib.ListN.{length}
 use Rattle.settings.specs.Mode.{isRunning}
-use Rattle.basics.proofs.BoolLaws.{by-test}
+use Rattle.settings.specs.Settings.{circuitOk, circuitsOf, enabledLevels}
+use Rattle.basics.proofs.BoolLaws.{both, or-true, by-test}
 use Rattle.basics.specs.declared.levels.Levels.{Levels}
+use Rattle.basics.specs.Levels.{First, isOn, someOn}
+use Rattle.basics.specs.Lists.{every, some}
+use Rattle.settings.specs.declared.circuit.Circuit.{Circuit}
 use Rattle.basics.specs.Mask.{bitsOf}
 use Rattle.timer_parts.specs.T1.{stopT1}
-use Rattle.timer_parts.specs.T2.{anyT2}
+use Rattle.timer_parts.specs.T2.{timerRuns, anyT2, startTimer, startT2s}
 use Rattle.timer_parts.specs.T3.{expiresT3}
 use Rattle.timer_parts.specs.declared.heard.Heard.{Heard}
 use Rattle.settings.specs.declared.lengths.Lengths.{Lengths}
@@ -16,35 +22,69 @@ use Rattle.timer_parts.specs.declared.t1.T1.{T1}
 use Rattle.timers.specs.Timers.{Timers, withT1s, withT2s, withT3, anyRuns, atT1, tickT1s, expireT2s, cancelT2s, tickT3, over, finish, closed, settled, toT3, heardIn, csnpIn, noticeT2s}
 use Rattle.timers.specs.Events.{startHead, startT1, startHellos, started}
 use Rattle.timers.specs.declared.events.Start.{Start}
+use Rattle.settings.specs.declared.setup.Settings.{Settings}
 use Rattle.settings.specs.declared.mode.Mode.{Mode}
 use Rattle.settings.specs.declared.mode.Mode.the-variants.{Running, Restarting}
 use Rattle.timers.proofs.TimersLaws.{settled-running, settled-on}
-use Rattle.invariants.specs.Invariants.{Quiet}
+use Rattle.control.specs.Common.{startOf}
+use Rattle.invariants.specs.Invariants.{Quiet, Restarts}
 
 stopped : (l : List T1) → anyRuns (map stopT1 l) ≡ false
 unfolding anyRuns stopT1
 stopped [] = refl
 stopped (t ∷ ts) = stopped ts
 
+-- in the mode Restarting nothing is said
+restarting-quiet : (t : Timers) → t .mode ≡ Restarting → Quiet t
+restarting-quiet t m = record { t1s = λ e. cc; t2s = λ e. cc; t3 = λ e. cc }
+
 -- setup
-started-by : (s : Start) (m : Mode) → s .mode ≡ m → started s .mode ≡ Running → anyRuns (started s .t1s) ≡ false
-unfolding started startHead startHellos startT1 anyRuns bitsOf
-started-by s Running p e = rw p refl
-started-by s Restarting p e = let h : _≡_ {A = Mode} Restarting Running = rw p at e in cc
+started-by : (s : Start) (m : Mode) → s .mode ≡ m → Quiet (started s)
+unfolding started startHead startHellos startT1 startT2s startTimer anyRuns anyT2 bitsOf
+started-by s Running p = record { t1s = λ e. rw p refl; t2s = λ e. rw p refl; t3 = λ e. rw p refl }
+started-by s Restarting p = restarting-quiet (started s) (rw p refl)
 
 pub started-quiet : (s : Start) → Quiet (started s)
-started-quiet s = record { none = started-by s (s .mode) refl }
+started-quiet s = started-by s (s .mode) refl
+
+timer-runs : (on : Bool) (at : ℕ) → timerRuns (startTimer on at) ≡ on
+unfolding startTimer
+timer-runs true at = refl
+timer-runs false at = refl
+
+any-started : (l : Levels) (at : ℕ) → anyT2 (startT2s l at) ≡ someOn l
+unfolding anyT2 startT2s
+any-started l at = rw (timer-runs (l .one) at, timer-runs (l .two) at) refl
+
+-- a circuit has a level, and so a level is enabled
+some-enabled : (l : List Circuit) → every circuitOk l ≡ true → 0 < length l → someOn (enabledLevels l) ≡ true
+unfolding every circuitOk enabledLevels some
+some-enabled [] ok h = absurd (omega arith)
+some-enabled (c ∷ l) ok h =
+    let a = both (circuitOk c) _ ok .0 in
+    let b = both (someOn (c .levels)) _ a .0 in
+    by-test (c .levels .one) (λ e. rw e refl)
+    (λ e. let f : c .levels .two ≡ true = rw e at b in rw (e, f) (or-true (some (λ d. isOn First (d .levels)) l)))
+
+module _ (s : Settings) (ok : every circuitOk (circuitsOf s) ≡ true) where
+  restarts-by : (m : Mode) → s .mode ≡ m → Restarts s (started (startOf s))
+  unfolding started startHead
+  restarts-by Running p = record { some = λ h e. (let z = rw p at e in cc) }
+  restarts-by Restarting p =
+      record {
+        some = λ h e. rw p (any-started (enabledLevels (circuitsOf s)) (s .clock + s .lengths .t2) ∙ some-enabled (circuitsOf s) ok h);
+      }
+
+  pub started-restarts : Restarts s (started (startOf s))
+  started-restarts = restarts-by (s .mode) refl
 
 -- ---- the end of every call
 
-over-quiet : (t : Timers) → Quiet (over t)
-unfolding over
-over-quiet t = record { none = λ e. stopped (t .t1s) }
-
 finish-quiet : (t : Timers) → t .mode ≡ Restarting → Quiet (finish t)
-unfolding finish
+unfolding finish over
 finish-quiet t m =
-    by-test (anyT2 (t .t2s)) (λ a. rw a (record { none = λ e. cc })) (λ a. rw a (over-quiet t))
+    by-test (anyT2 (t .t2s)) (λ a. rw a (restarting-quiet t m))
+    (λ a. rw a (record { t1s = λ e. stopped (t .t1s); t2s = λ e. a; t3 = λ e. refl }))
 
 module _ (f : Timers → Timers) (t : Timers) (keeps : f t .mode ≡ t .mode) where
   closed-quiet : t .mode ≡ Restarting → Quiet (closed f t)
@@ -58,6 +98,16 @@ module _ (f : Timers → Timers) (t : Timers) (keeps : f t .mode ≡ t .mode) wh
 
   pub settled-quiet : Quiet t → Quiet (settled f t)
   settled-quiet q = by-mode (t .mode) refl q
+
+-- some T2 runs, or the mode ends
+finish-restarts : (s : Settings) (t : Timers) → Restarts s (finish t)
+unfolding finish over
+finish-restarts s t =
+    by-test (anyT2 (t .t2s)) (λ a. rw a (record { some = λ on e. a })) (λ a. rw a (record { some = λ on e. cc }))
+
+pub settled-restarts : (s : Settings) (f : Timers → Timers) (t : Timers) → Restarts s t → Restarts s (settled f t)
+unfolding settled closed
+settled-restarts s f t h = by-test (isRunning (t .mode)) (λ a. rw a h) (λ a. rw a (finish-restarts s (cancelT2s (f t))))
 
 -- ---- each call's own step keeps the mode
 

@@ -1,5 +1,5 @@
 -- One frame's effect on a record: its expiry stays from the clock to 65,535 s after it, a reply tells the time to it, and no record goes.
-use Prim.Native.Nat.{ℕ, _+_, _-_, _≤_}
+use Prim.Native.Nat.{ℕ, _+_, _≤_}
 use native.Mathlib.Omega.{arith}
 use mathlib.Core.Path.{_≡_, refl}
 use Rattle.basics.proofs.BoolLaws.{by-test}
@@ -29,14 +29,9 @@ use Rattle.adjacency.specs.declared.record.Phase.{Phase}
 use Rattle.adjacency.specs.declared.record.Phase.the-variants.{Gone, Init as InitPhase, Up as UpPhase}
 use Rattle.adjacency.specs.declared.record.State.the-variants.{Init, Up}
 use Rattle.adjacency.specs.declared.step.Here.{Here}
-use Rattle.invariants.specs.Invariants.{Tells}
+use Rattle.invariants.specs.Invariants.{Tells, Span}
 
--- an expiry that two octets can tell
-pub record Span (clock expiry : ℕ) : Type 0 where
-  pub low : clock ≤ expiry
-  pub high : expiry ≤ clock + 65535
-
--- .. that of the record, if one stands
+-- the expiry of the record, if one stands
 abbrev pub SpanIn : ℕ → Adjacency → Type 0
 SpanIn clock Absent = Unit {0}
 SpanIn clock (Present s) = Span clock (expiryOf s)

@@ -1,6 +1,5 @@
--- Receive, by its stages: the timers stay quiet, the room stays in order, and a reply tells the time to the expiry of the record that stands
--- afterwards.
-use Prim.Native.Nat.{ℕ, _+_, _-_, _≤_}
+-- Receive, by its stages: the room stays in order, and a reply tells the time to the expiry of the record that stands afterwards.
+use Prim.Native.Nat.{ℕ, _≤_}
 use native.Mathlib.Omega.{arith}
 use mathlib.Core.Path.{_≡_, refl}
 use mathlib.Core.Logic.{_≢_}
@@ -8,17 +7,25 @@ use mathlib.Core.Bool.{false}
 use mathlib.Core.List.{List, [], _∷_, _++_, append-assoc}
 use lib.ListN.{length, drop}
 use lib.Dec.{ltb}
+use borrow.Author.Tests.{eqb-false, not-false}
 use Rattle.basics.specs.Octets.{big, octetsOf}
-use Rattle.basics.proofs.BoolLaws.{by-test}
+use Rattle.basics.specs.Levels.{hasLevel}
+use Rattle.basics.specs.declared.levels.Levels.{Levels}
+use Rattle.basics.proofs.BoolLaws.{neither, by-test}
 use Rattle.basics.proofs.OctetsLaws.{big-octetsOf}
 use Rattle.restart_tlv.specs.Restart.{ackFlag, restartOctets}
 use Rattle.restart_tlv.specs.declared.writer.Ack.{Ack}
 use Rattle.hello.specs.Hello.{helloRead}
 use Rattle.hello.specs.declared.read.Hello.{Hello}
+use Rattle.hello.specs.declared.read.Link.{Link}
+use Rattle.hello.specs.declared.read.Link.the-variants.{Lan as LanLink, P2p as P2pLink}
 use Rattle.hello.specs.declared.read.Read.{Read}
 use Rattle.hello.specs.declared.read.Read.the-variants.{Refused as RefusedRead, Accepted as ReadAs}
+use Rattle.basics.specs.declared.kind.CircuitKind.{CircuitKind}
+use Rattle.basics.specs.declared.kind.CircuitKind.the-variants.{Lan, P2p}
 use Rattle.basics.specs.declared.refusal.Refusal.{Refusal}
-use Rattle.adjacency.specs.Step.{wrongSource}
+use Rattle.adjacency.specs.Step.{levelOff, wrongSource}
+use Rattle.adjacency.specs.Record.{expiryOf}
 use Rattle.adjacency.specs.Marks.{timeIn}
 use Rattle.adjacency.specs.React.{reactOf}
 use Rattle.adjacency.specs.declared.marks.Acknowledgement.{Acknowledgement}
@@ -32,39 +39,25 @@ use Rattle.adjacency.specs.declared.record.Key.{Key}
 use Rattle.adjacency.specs.declared.place.Slot.{Slot}
 use Rattle.room.specs.Table.{find, crowded}
 use Rattle.room.proofs.TableLaws.{find-put-same}
-use Rattle.timers.specs.Timers.{Timers, settled, heardIn}
 use Rattle.settings.specs.declared.circuit.Circuit.{Circuit}
-use Rattle.control.specs.Common.{Common, withTimers}
+use Rattle.control.specs.Common.{Common}
 use Rattle.settings.specs.declared.circuit.Chosen.the-variants.{Known}
-use Rattle.adjacency.specs.Keys.{keyIn}
+use Rattle.adjacency.specs.Keys.{keyOn, levelIn, keyIn}
 use Rattle.room.specs.Accept.{ifRoom, decided, kept, written}
 use Rattle.model.specs.Answers.{Received, FrameAnswer}
 use Rattle.model.specs.Gateway.{Room}
-use Rattle.model.specs.Receive.{Acted, refuse, hereOf, saidOf, accepted, reacted, decidedIn, checked, readIn, receive}
-use Rattle.invariants.specs.Invariants.{Quiet, Tells, Octets}
-use Rattle.invariants.proofs.QuietLaws.{settled-quiet, heardIn-mode}
+use Rattle.model.specs.Receive.{Acted, refuse, hereOf, accepted, reacted, decidedIn, checked, readIn, receive}
+use Rattle.invariants.specs.Invariants.{Tells, Span, LevelAndMac, KeyFits, Octets}
 use Rattle.invariants.proofs.RoomLaws.{each-find}
 use Rattle.invariants.proofs.ReactLaws.{SpanIn, Replies, Fair, refused as unfair, accepted as fair, react-fair}
-use Rattle.invariants.proofs.HelloBounds.{Brief, refused as refused-read, accepted as brief, brief-read}
+use Rattle.invariants.proofs.HelloBounds.{kindOf, Brief, refused as refused-read, accepted as brief, brief-read}
 use Rattle.invariants.proofs.GatewayLaws.{RoomOk, room-put}
 
 -- ---- what a call on a circuit leaves
 
--- the circuits and the clock stay, and no T1 starts
-pub record Keeps (c d : Common) : Type 0 where
-  pub circuits : d .circuits ≡ c .circuits
-  pub clock : d .clock ≡ c .clock
-  pub quiet : Quiet (c .timers) → Quiet (d .timers)
-
-pub keeps-same : (c : Common) → Keeps c c
-keeps-same c = record { circuits = refl; clock = refl; quiet = λ q. q }
-
-pub keeps-settled : (c : Common) (f : Timers → Timers) → f (c .timers) .mode ≡ c .timers .mode → Keeps c (withTimers (settled f (c .timers)) c)
-keeps-settled c f e = record { circuits = refl; clock = refl; quiet = λ q. settled-quiet f (c .timers) e q }
-
-pub record ActOk (c : Common) (s : Circuit) (a : Acted) : Type 0 where
-  pub common : Keeps c (a .common)
-  pub room : RoomOk (Known s) (c .clock) (a .room .slots)
+-- its room, in order
+abbrev pub ActOk : Common → Circuit → Acted → Type 0
+ActOk c s a = RoomOk (c .system) (Known s) (c .clock) (a .room .slots)
 
 -- a reply's Remaining Time, of the record with the key k afterwards
 pub record Said (clock : ℕ) (k : Key) (a : Acted) (time : ℕ) : Type 0 where
@@ -94,12 +87,36 @@ room-sound clock k t (RefusedReaction x) unfair = refused
 room-sound clock k t (Accepted after reply line) (fair span told gone) =
     by-test (crowded k t) (λ e. rw e refused) (λ e. rw e (sound e span told gone))
 
-module _ (c : Common) (s : Circuit) (r : Room) (hold : s .hold ≤ 65535) (ok : RoomOk (Known s) (c .clock) (r .slots)) where
+-- ---- the key of a frame that refusal 7 lets pass
+
+level-and-mac : (kind : CircuitKind) (l : Levels) (mac system : ℕ) (link : Link) → kindOf link ≡ kind → levelOff l link ≡ false
+    → LevelAndMac kind l (keyOn kind (record { level = levelIn link; system = system; mac = mac }))
+unfolding keyOn
+level-and-mac Lan l mac system (LanLink level priority listed) e off = not-false (hasLevel l level) off
+level-and-mac Lan l mac system (P2pLink t) e off = cc
+level-and-mac P2p l mac system link e off = (refl, refl)
+
+key-system : (kind : CircuitKind) (k : Key) → keyOn kind k .system ≡ k .system
+unfolding keyOn
+key-system Lan k = refl
+key-system P2p k = refl
+
+key-fits : (own : ℕ) (s : Circuit) (mac : ℕ) (h : Hello) → kindOf (h .link) ≡ s .kind → wrongSource (s .levels) own h ≡ false
+    → KeyFits own s (keyIn (s .kind) mac h)
+unfolding wrongSource
+key-fits own s mac h e pass =
+    let z = neither (levelOff (s .levels) (h .link)) _ pass in
+    record {
+      system = rw (key-system (s .kind) (record { level = levelIn (h .link); system = h .system; mac = mac })) (eqb-false (h .system) own (z .1));
+      rest = level-and-mac (s .kind) (s .levels) mac (h .system) (h .link) e (z .0);
+    }
+
+module _ (c : Common) (s : Circuit) (r : Room) (hold : s .hold ≤ 65535) (ok : RoomOk (c .system) (Known s) (c .clock) (r .slots)) where
   -- ---- the record that stands before
 
   found-span : (k : Key) (a : Adjacency) → find k (r .slots) ≡ a → SpanIn (c .clock) a
   found-span k Absent e = tt
-  found-span k (Present v) e = each-find k v (r .slots) (ok .spans) e
+  found-span k (Present v) e = each-find (λ x. Span (c .clock) (expiryOf x)) k v (r .slots) (ok .spans) e
 
   decided-sound : (k : Key) (h : Hello) → h .hold ≤ 65535 → timeIn (h .restart) ≤ 65535
       → Sound (c .clock) k (r .slots) (decided (hereOf c s) k h (r .slots))
@@ -110,48 +127,35 @@ module _ (c : Common) (s : Circuit) (r : Room) (hold : s .hold ≤ 65535) (ok : 
 
   -- ---- the stages
 
-  pub refuse-ok : (b : List ℕ) (x : Refusal) → ActOk c s (refuse b x c r)
-  unfolding refuse
-  refuse-ok b x = record { common = keeps-same c; room = ok }
-
-  kept-ok : (k : Key) (after : Adjacency) → crowded k (r .slots) ≡ false → SpanIn (c .clock) after
-      → RoomOk (Known s) (c .clock) (kept k after (r .slots))
+  kept-ok : (k : Key) (after : Adjacency) → KeyFits (c .system) s k → crowded k (r .slots) ≡ false → SpanIn (c .clock) after
+      → RoomOk (c .system) (Known s) (c .clock) (kept k after (r .slots))
   unfolding kept
-  kept-ok k Absent free span = ok
-  kept-ok k (Present v) free span = room-put s (c .clock) (r .slots) k v ok free span
+  kept-ok k Absent key free span = ok
+  kept-ok k (Present v) key free span = room-put (c .system) s (c .clock) (r .slots) k v ok free span key
 
-  module _ (n : ℕ) (h : Hello) (k : Key) (b : List ℕ) where
-    accepted-ok : (after : Adjacency) (reply : Acknowledgement) (line : Line) → crowded k (r .slots) ≡ false → SpanIn (c .clock) after
-        → ActOk c s (accepted n s h k b after reply line c r)
-    unfolding accepted
-    accepted-ok after reply line free span =
-        record {
-          common = keeps-settled c (heardIn (c .clock) (n - 1) (s .levels) (saidOf c s h)) (heardIn-mode (c .clock) (n - 1) (s .levels) (saidOf c s h) (c .timers));
-          room = kept-ok k after free span;
-        }
-
+  module _ (n : ℕ) (h : Hello) (k : Key) (key : KeyFits (c .system) s k) (b : List ℕ) where
     reacted-ok : (a : Reaction) → Sound (c .clock) k (r .slots) a → ActOk c s (reacted n s h k b a c r)
-    unfolding reacted
-    reacted-ok (RefusedReaction x) refused = refuse-ok b x
-    reacted-ok (Accepted after reply line) (sound free span told gone) = accepted-ok after reply line free span
+    unfolding reacted accepted refuse
+    reacted-ok (RefusedReaction x) refused = ok
+    reacted-ok (Accepted after reply line) (sound free span told gone) = kept-ok k after key free span
 
   module _ (n mac : ℕ) (b : List ℕ) where
-    checked-ok : (h : Hello) → h .hold ≤ 65535 → timeIn (h .restart) ≤ 65535 → ActOk c s (checked n s mac b h c r)
-    unfolding checked decidedIn
-    checked-ok h p q =
+    checked-ok : (h : Hello) → h .hold ≤ 65535 → timeIn (h .restart) ≤ 65535 → kindOf (h .link) ≡ s .kind → ActOk c s (checked n s mac b h c r)
+    unfolding checked decidedIn refuse
+    checked-ok h p q kind =
         let k = keyIn (s .kind) mac h in
-        by-test (wrongSource (s .levels) (c .system) h) (λ e. rw e (refuse-ok b _))
-        (λ e. rw e (reacted-ok n h k b (decided (hereOf c s) k h (r .slots)) (decided-sound k h p q)))
+        by-test (wrongSource (s .levels) (c .system) h) (λ e. rw e ok)
+        (λ e. rw e (reacted-ok n h k (key-fits (c .system) s mac h kind e) b (decided (hereOf c s) k h (r .slots)) (decided-sound k h p q)))
 
-    read-ok : (x : Read) → Brief x → ActOk c s (readIn n s mac b x c r)
-    unfolding readIn
-    read-ok (RefusedRead x) refused-read = refuse-ok b x
-    read-ok (ReadAs h) (brief p q) = checked-ok h p q
+    read-ok : (x : Read) → Brief (s .kind) x → ActOk c s (readIn n s mac b x c r)
+    unfolding readIn refuse
+    read-ok (RefusedRead x) refused-read = ok
+    read-ok (ReadAs h) (brief p q kind) = checked-ok h p q kind
 
     pub receive-ok : (frame : List ℕ) → Octets frame → ActOk c s (receive n s mac frame b c r)
-    unfolding receive
+    unfolding receive refuse
     receive-ok frame f =
-        by-test (ltb (length b) 11) (λ e. rw e (refuse-ok b _))
+        by-test (ltb (length b) 11) (λ e. rw e ok)
         (λ e. rw e (read-ok (helloRead (s .kind) (s .mac) frame) (brief-read (s .mac) (s .kind) frame f)))
 
   -- ---- the reply
@@ -193,10 +197,10 @@ module _ (c : Common) (s : Circuit) (r : Room) (hold : s .hold ≤ 65535) (ok : 
         by-test (wrongSource (s .levels) (c .system) h) (λ e. rw e (refuse-reply k b _))
         (λ e. rw e (reacted-reply n h k b (decided (hereOf c s) k h (r .slots)) (decided-sound k h p q)))
 
-    read-reply : (h : Hello) (x : Read) → x ≡ ReadAs h → Brief x → ReplyOk (c .clock) (keyIn (s .kind) mac h) (readIn n s mac b x c r)
+    read-reply : (h : Hello) (x : Read) → x ≡ ReadAs h → Brief (s .kind) x → ReplyOk (c .clock) (keyIn (s .kind) mac h) (readIn n s mac b x c r)
     unfolding readIn
     read-reply h (RefusedRead x) e refused-read = absurd (let z : _≡_ {A = ℕ} 0 1 = cc in omega arith)
-    read-reply h (ReadAs j) e (brief p q) = let z : j ≡ h = cc in rw (← z) (checked-reply j p q)
+    read-reply h (ReadAs j) e (brief p q kind) = let z : j ≡ h = cc in rw (← z) (checked-reply j p q)
 
     pub receive-reply : (h : Hello) (frame : List ℕ) → Octets frame → helloRead (s .kind) (s .mac) frame ≡ ReadAs h
         → ReplyOk (c .clock) (keyIn (s .kind) mac h) (receive n s mac frame b c r)

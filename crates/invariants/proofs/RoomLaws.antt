@@ -12,12 +12,13 @@ use Rattle.basics.specs.declared.kind.CircuitKind.the-variants.{Lan, P2p}
 use Rattle.adjacency.specs.declared.record.Adjacency.the-variants.{Present}
 use Rattle.adjacency.specs.declared.record.State.{State}
 use Rattle.adjacency.specs.declared.record.Key.{Key}
+use Rattle.adjacency.specs.declared.record.Record.{Record}
 use Rattle.adjacency.specs.Keys.{sameKey}
 use Rattle.basics.specs.Lists.{tabulate}
 use Rattle.adjacency.specs.Place.{isHeld}
 use Rattle.adjacency.specs.declared.place.Slot.{Slot}
 use Rattle.adjacency.specs.declared.place.Slot.the-variants.{Free, Held, Closed}
-use Rattle.room.specs.Table.{find, has, crowded, replace, insert, put, sweep, emptyPlace, emptyRoom}
+use Rattle.room.specs.Table.{recordWith, find, has, crowded, replace, insert, put, sweep, emptyPlace, emptyRoom}
 use Rattle.room.specs.Gather.{gather, rest, keep}
 use Rattle.adjacency.proofs.KeysLaws.{sameKey-eq}
 use Rattle.room.proofs.TableLaws.{gather-sweep, gather-put-same, gather-put-other}
@@ -25,7 +26,7 @@ use Rattle.invariants.specs.Invariants.{Each, end, free, held, closed, r
 
 -- ---- a property of each record
 
-module _ {P : State → Type 0} (k : Key) (v : State) (p : P v) where
+module _ {P : Record → Type 0} (k : Key) (v : State) (p : P (recordWith k v)) where
   each-replace : (t : List Slot) → Each P t → Each P (replace k v t)
   unfolding replace
   each-replace [] end = end
@@ -47,37 +48,37 @@ module _ {P : State → Type 0} (k : Key) (v : State) (p : P v) where
   each-put t e = by-test (has k t) (λ a. rw a (each-replace t e)) (λ a. rw a (each-insert t e))
 
 -- of those that a sweep leaves its test is false
-pub each-sweep : {P Q : State → Type 0} (p : State → Bool) → ((s : State) → p s ≡ false → P s → Q s) → (t : List Slot) → Each P t
+pub each-sweep : {P Q : Record → Type 0} (p : State → Bool) → ((r : Record) → p (r .state) ≡ false → P r → Q r) → (t : List Slot) → Each P t
     → Each Q (sweep p t)
 unfolding sweep
 each-sweep p f [] end = end
 each-sweep p f (Free ∷ t) (free e) = free (each-sweep p f t e)
 each-sweep p f (Held r ∷ t) (held q e) =
     let z = each-sweep p f t e in
-    by-test (p (r .state)) (λ a. rw a (free z)) (λ a. rw a (held (f (r .state) a q) z))
+    by-test (p (r .state)) (λ a. rw a (free z)) (λ a. rw a (held (f r a q) z))
 each-sweep p f (Closed ∷ t) (closed e) = closed (each-sweep p f t e)
 
-pub each-map : {P Q : State → Type 0} → ((s : State) → P s → Q s) → (t : List Slot) → Each P t → Each Q t
+pub each-map : {P Q : Record → Type 0} → ((r : Record) → P r → Q r) → (t : List Slot) → Each P t → Each Q t
 each-map f [] end = end
 each-map f (Free ∷ t) (free e) = free (each-map f t e)
-each-map f (Held r ∷ t) (held q e) = held (f (r .state) q) (each-map f t e)
+each-map f (Held r ∷ t) (held q e) = held (f r q) (each-map f t e)
 each-map f (Closed ∷ t) (closed e) = closed (each-map f t e)
 
-pub each-find : {P : State → Type 0} (k : Key) (s : State) (t : List Slot) → Each P t → find k t ≡ Present s → P s
+pub each-find : (P : State → Type 0) (k : Key) (s : State) (t : List Slot) → Each (λ r. P (r .state)) t → find k t ≡ Present s → P s
 unfolding find
-each-find k s [] end e = absurd (let z : _≡_ {A = ℕ} 0 1 = cc in omega arith)
-each-find k s (Free ∷ t) (free h) e = each-find k s t h e
-each-find {P} k s (Held r ∷ t) (held q h) e =
-    by-test (sameKey k (r .key)) (λ a. let z : r .state ≡ s = cc in rw (← z) q) (λ a. each-find k s t h (rw a at e))
-each-find k s (Closed ∷ t) (closed h) e = each-find k s t h e
+each-find P k s [] end e = absurd (let z : _≡_ {A = ℕ} 0 1 = cc in omega arith)
+each-find P k s (Free ∷ t) (free h) e = each-find P k s t h e
+each-find P k s (Held r ∷ t) (held q h) e =
+    by-test (sameKey k (r .key)) (λ a. let z : r .state ≡ s = cc in rw (← z) q) (λ a. each-find P k s t h (rw a at e))
+each-find P k s (Closed ∷ t) (closed h) e = each-find P k s t h e
 
 -- ---- no record
 
 abbrev pub NoRecords : List Slot → Type 0
-NoRecords t = Each (λ s. ⊥) t
+NoRecords t = Each (λ r. ⊥) t
 
-pub no-records-each : {P : State → Type 0} (t : List Slot) → NoRecords t → Each P t
-no-records-each t e = each-map (λ s x. absurd x) t e
+pub no-records-each : {P : Record → Type 0} (t : List Slot) → NoRecords t → Each P t
+no-records-each t e = each-map (λ r x. absurd x) t e
 
 pub no-records-records : (t : List Slot) → NoRecords t → records t ≡ 0
 unfolding records

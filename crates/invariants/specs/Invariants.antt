@@ -1,8 +1,8 @@
 -- What stays true of a gateway, whatever calls it gets: sentences of document 01, and the claim that each holds after every list of calls.
 use Prim.Native.Nat.{ℕ, suc, _+_, _≤_, _<_}
 use mathlib.Core.Path.{_≡_}
+use mathlib.Core.Bool.{Bool, true, false}
 use mathlib.Core.Logic.{_≢_}
-use mathlib.Core.Bool.{Bool, false}
 use mathlib.Core.List.{List, [], _∷_}
 use lib.ListN.{length}
 use Rattle.basics.specs.Octets.{octet, big}
@@ -14,21 +14,27 @@ use Rattle.hello.specs.declared.read.Read.the-variants.{Accepted}
 use Rattle.adjacency.specs.Record.{expiryOf}
 use Rattle.adjacency.specs.declared.record.Adjacency.{Adjacency}
 use Rattle.adjacency.specs.declared.record.Adjacency.the-variants.{Absent, Present}
-use Rattle.adjacency.specs.declared.record.State.{State}
 use Rattle.adjacency.specs.declared.record.Key.{Key}
 use Rattle.adjacency.specs.declared.record.Record.{Record}
 use Rattle.adjacency.specs.declared.place.Slot.{Slot}
 use Rattle.adjacency.specs.declared.place.Slot.the-variants.{Free, Held, Closed}
 use Rattle.room.specs.Gather.{gather}
-use Rattle.timers.specs.Timers.{Timers, anyRuns}
-use Rattle.settings.specs.declared.mode.Mode.the-variants.{Running}
+use Rattle.basics.specs.Levels.{Level, isOn, hasLevel}
+use Rattle.basics.specs.declared.levels.Levels.{Levels}
+use Rattle.timer_parts.specs.T2.{t2At, anyT2}
+use Rattle.timer_parts.specs.declared.t1.T1.{T1}
+use Rattle.timer_parts.specs.declared.t2.Timer.the-variants.{Until}
+use Rattle.timer_parts.specs.declared.t3.T3.the-variants.{Idle, Runs}
+use Rattle.timers.specs.Timers.{Timers, anyRuns, noT1}
+use Rattle.settings.specs.declared.mode.Mode.the-variants.{Running, Restarting}
 use Rattle.settings.specs.declared.circuit.Circuit.{Circuit}
 use Rattle.settings.specs.declared.setup.Settings.{Settings}
-use Rattle.control.specs.Common.{circuitOf}
+use Rattle.settings.specs.Settings.{circuitsOf, enabledLevels}
+use Rattle.control.specs.Common.{Common, circuitOf}
 use Rattle.settings.specs.declared.circuit.Chosen.the-variants.{Known, Unknown}
 use Rattle.adjacency.specs.Keys.{keyIn}
 use Rattle.model.specs.Answers.{Received, Ticked, FrameAnswer, TimersAnswer}
-use Rattle.model.specs.Gateway.{Gateway, Started, setup, roomOf, recordAt}
+use Rattle.model.specs.Gateway.{Gateway, Started, setup, numbered, roomOf, recordAt}
 use Rattle.model.specs.Step.{Call, At, Over, Receive, Tick, Outcome, step}
 use Rattle.model.specs.Trace.{after}
 
@@ -48,11 +54,11 @@ pub data AllFit : List Call → Type 0 where
 
 -- ---- records
 
--- the state of each record in a room has the property P
-pub data Each (P : State → Type 0) : List Slot → Type 0 where
+-- each record in a room has the property P
+pub data Each (P : Record → Type 0) : List Slot → Type 0 where
   end : Each P []
   free : {t : List Slot} → Each P t → Each P (Free ∷ t)
-  held : {r : Record} {t : List Slot} → P (r .state) → Each P t → Each P (Held r ∷ t)
+  held : {r : Record} {t : List Slot} → P r → Each P t → Each P (Held r ∷ t)
   closed : {t : List Slot} → Each P t → Each P (Closed ∷ t)
 
 -- how many records a room holds
@@ -87,7 +93,7 @@ pub record TrueReplies (g : Gateway) : Type 0 where
 
 -- the expiry of every record on every circuit is above the clock
 pub record AboveClock (g : Gateway) : Type 0 where
-  pub above : (n : ℕ) → Each (λ s. g .common .clock < expiryOf s) (roomOf g n .slots)
+  pub above : (n : ℕ) → Each (λ r. g .common .clock < expiryOf (r .state)) (roomOf g n .slots)
 
 -- .. after every accepted tick
 pub record TickSweeps (g : Gateway) : Type 0 where
@@ -106,21 +112,99 @@ pub record Bounded (g : Gateway) : Type 0 where
   pub past : (n : ℕ) → circuitOf (g .common) n ≡ Unknown → records (roomOf g n .slots) ≡ 0
   pub single : (n : ℕ) (k : Key) → length (gather k (roomOf g n .slots)) ≤ 1
 
--- ---- document 01, "Timers while Restarting": "When no T2 runs, .. all T1 stop (house) and the mode is Running."
+-- ---- document 01, "What the gateway holds": "A LAN record is known by level, System ID and source MAC; a P2P record by System ID."
 
--- in the mode Running no T1 runs
+-- document 01, "Refusals by number", 7: "LAN level not enabled on the circuit". On P2P level and MAC say nothing, and are 0.
+abbrev pub LevelAndMac : CircuitKind → Levels → Key → Type 0
+LevelAndMac Lan l k = hasLevel l (k .level) ≡ true
+LevelAndMac P2p l k = (k .level ≡ 0) × (k .mac ≡ 0)
+
+-- .. "or source System ID is our own"
+pub record KeyFits (own : ℕ) (s : Circuit) (k : Key) : Type 0 where
+  pub system : k .system ≢ own
+  pub rest : LevelAndMac (s .kind) (s .levels) k
+
+pub record KeysFit (g : Gateway) : Type 0 where
+  pub fit : (n : ℕ) (s : Circuit) → circuitOf (g .common) n ≡ Known s → Each (λ r. KeyFits (g .common .system) s (r .key)) (roomOf g n .slots)
+
+-- ---- document 01, "Marks and holding time": "expiry = clock + Holding Time", "clock + configured time", "clock + Remaining Time", none above
+-- 65,535; "A tick removes each record with expiry at or below the clock"
+
+-- an expiry that two octets can tell
+pub record Span (clock expiry : ℕ) : Type 0 where
+  pub low : clock ≤ expiry
+  pub high : expiry ≤ clock + 65535
+
+pub record NearExpiries (g : Gateway) : Type 0 where
+  pub near : (n : ℕ) → Each (λ r. Span (g .common .clock) (expiryOf (r .state))) (roomOf g n .slots)
+
+-- ---- document 01, "What the gateway holds": "Setup takes these": no other call does
+
+pub record SetupSettings (s : Settings) (c : Common) : Type 0 where
+  pub system : c .system ≡ s .system
+  pub lengths : c .lengths ≡ s .lengths
+  pub circuits : c .circuits ≡ circuitsOf s
+
+-- ---- document 01, "Timers while Restarting"
+
+-- "When no T2 runs, T3 is cancelled .., all T1 stop (house) and the mode is Running.": in that mode no timer runs
 pub record Quiet (t : Timers) : Type 0 where
-  pub none : t .mode ≡ Running → anyRuns (t .t1s) ≡ false
+  pub t1s : t .mode ≡ Running → anyRuns (t .t1s) ≡ false
+  pub t2s : t .mode ≡ Running → anyT2 (t .t2s) ≡ false
+  pub t3 : t .mode ≡ Running → t .t3 ≡ Idle
+
+-- .. and in the other some T2 runs, where there is a circuit
+pub record Restarts (s : Settings) (t : Timers) : Type 0 where
+  pub some : 0 < length (circuitsOf s) → t .mode ≡ Restarting → anyT2 (t .t2s) ≡ true
+
+-- "Setup .. starts T1 on each [circuit] .. T1 at its deadline: order the hello again and run from this clock, or stop at the Nth expiry": where a
+-- T1 runs its circuit is there, it expired fewer than N times, and its length is all that it waits
+pub record T1Ends (s : Settings) (clock n tries deadline : ℕ) : Type 0 where
+  pub there : n ≤ s .count
+  pub fewer : tries < s .lengths .tries
+  pub due : deadline ≤ clock + s .lengths .t1
+
+-- .. of the T1 of circuit n
+abbrev pub T1Fits : Settings → ℕ → ℕ → T1 → Type 0
+T1Fits s clock n t = t .runs ≡ true → T1Ends s clock n (t .entry .tries) (t .entry .deadline)
+
+-- ".. T2 per enabled level ..": it runs for its length from setup on, and no call moves its deadline
+pub record T2Ends (s : Settings) (k : Level) (deadline : ℕ) : Type 0 where
+  pub enabled : isOn k (enabledLevels (circuitsOf s)) ≡ true
+  pub due : deadline ≡ s .clock + s .lengths .t2
+
+-- ".. T3 at clock + 65,535": acknowledgements only lower it
+abbrev pub t3Ends : Settings → ℕ
+t3Ends s = s .clock + 65535
+
+pub record SetupTimers (s : Settings) (clock : ℕ) (t : Timers) : Type 0 where
+  pub t1s : (n : ℕ) → T1Fits s clock n (numbered (t .t1s) n noT1)
+  pub t2s : (k : Level) (deadline : ℕ) → t2At k (t .t2s) .timer ≡ Until deadline → T2Ends s k deadline
+  pub t3 : (deadline : ℕ) → t .t3 ≡ Runs deadline → deadline ≤ t3Ends s
+
+-- ---- from one call to the next
+
+-- document 01, "Refusals by number": "10: tick: clock lower than the held clock". The mode Running has no end: setup alone gives Restarting.
+pub record Onward (c next : Common) : Type 0 where
+  pub clock : c .clock ≤ next .clock
+  pub running : c .timers .mode ≡ Running → next .timers .mode ≡ Running
 
 -- ---- all of them
 
-pub record Invariant (g : Gateway) : Type 0 where
+-- of a gateway that setup gave the settings s
+pub record Invariant (s : Settings) (g : Gateway) : Type 0 where
   pub replies : TrueReplies g
   pub ticks : TickSweeps g
   pub rooms : Bounded g
-  pub t1s : Quiet (g .common .timers)
+  pub keys : KeysFit g
+  pub expiries : NearExpiries g
+  pub settings : SetupSettings s (g .common)
+  pub quiet : Quiet (g .common .timers)
+  pub restarts : Restarts s (g .common .timers)
+  pub timers : SetupTimers s (g .common .clock) (g .common .timers)
+  pub onward : (c : Call) → Onward (g .common) (step g c .next .common)
 
 -- Any gateway that setup returned, in either mode, and any list of calls, refused ones included.
 abbrev pub Invariants : Type 0
 Invariants =
-    (s : Settings) (g : Gateway) (hellos : List Bool) → setup s ≡ Started g hellos → (cs : List Call) → AllFit cs → Invariant (after g cs)
+    (s : Settings) (g : Gateway) (hellos : List Bool) → setup s ≡ Started g hellos → (cs : List Call) → AllFit cs → Invariant s (after g cs)

@@ -39,4 +39,4 @@ CodeIsolation =
 -- What always holds, of the memory after any run from a set-up in either mode.
 abbrev pub CodeInvariants : Type 0
 CodeInvariants =
-    (s : Settings) (ws ws′ : List ℕ) → Begins s ws → (cs : List Call) (ms : List Made) → AllFit cs → Ran ws cs ms ws′ → Invariant (gatewayOf ws′)
+    (s : Settings) (ws ws′ : List ℕ) → Begins s ws → (cs : List Call) (ms : List Made) → AllFit cs → Ran ws cs ms ws′ → Invariant s (gatewayOf ws′)

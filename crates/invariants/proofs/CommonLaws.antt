@@ -1,0 +1,256 @@
+-- What every call leaves of the common part, whatever it answers: setup's settings, a clock that does not fall, and timers of which setup's
+-- settings and the mode say what they said before.
+use Prim.Native.Nat.{ℕ, _-_, _≤_, _<_}
+use native.Mathlib.Omega.{arith}
+use mathlib.Core.Path.{_≡_, refl, _∙_}
+use mathlib.Core.Bool.{true}
+use mathlib.Core.List.{List}
+use lib.ListN.{length}
+use lib.Dec.{ltb}
+use borrow.Author.Tests.{ltb-false}
+use Rattle.basics.proofs.BoolLaws.{by-test}
+use Rattle.basics.specs.Lists.{every}
+use Rattle.basics.specs.Levels.{onlyLevel, hasLevel}
+use Rattle.basics.specs.declared.levels.Levels.{Levels}
+use Rattle.hello.specs.Hello.{helloRead}
+use Rattle.hello.specs.declared.read.Hello.{Hello}
+use Rattle.hello.specs.declared.read.Read.{Read}
+use Rattle.hello.specs.declared.read.Read.the-variants.{Refused as RefusedRead, Accepted as ReadAs}
+use Rattle.adjacency.specs.Keys.{keyIn}
+use Rattle.adjacency.specs.Step.{wrongSource}
+use Rattle.adjacency.specs.declared.react.Reaction.{Reaction}
+use Rattle.adjacency.specs.declared.react.Reaction.the-variants.{Refused as RefusedReaction, Accepted}
+use Rattle.adjacency.specs.declared.record.Key.{Key}
+use Rattle.room.specs.Accept.{decided}
+use Rattle.settings.specs.Mode.{isRestarting}
+use Rattle.settings.specs.Settings.{circuitOk, circuitsOf, enabledLevels}
+use Rattle.settings.specs.declared.circuit.Chosen.{Chosen}
+use Rattle.settings.specs.declared.circuit.Chosen.the-variants.{Known, Unknown}
+use Rattle.settings.specs.declared.circuit.Circuit.{Circuit}
+use Rattle.settings.specs.declared.lengths.Lengths.{Lengths}
+use Rattle.settings.specs.declared.mode.Mode.the-variants.{Running}
+use Rattle.settings.specs.declared.setup.Settings.{Settings}
+use Rattle.timer_parts.specs.declared.heard.Heard.{Heard}
+use Rattle.timers.specs.Timers.{Timers, settled, toT3, heardIn, csnpIn, noticeT2s}
+use Rattle.timers.proofs.TimersLaws.{mode-running}
+use Rattle.control.specs.Common.{Common, withClock, withTimers, circuitOf, startOf, setupCommon}
+use Rattle.model.specs.Gateway.{Room, Gateway}
+use Rattle.model.specs.Receive.{refuse, hereOf, saidOf, accepted, reacted, decidedIn, checked, readIn, receive}
+use Rattle.model.specs.Step.{Local, Receive, Release, CsnpComplete, LookUp, LinkMetric, NextHello, Global, Tick, DatabaseComplete, Waiting, Call, At, Over, asksLevel, csnpComplete, lookUp, linkMetricOf, nextHello, act, lift, on, Judged, Refused as RefusedCall, Sweep, Tell, noneOf, tickOf, databaseOf, judge, carry, step}
+use Rattle.invariants.specs.Invariants.{Quiet, Restarts, SetupSettings, SetupTimers, Onward}
+use Rattle.invariants.proofs.QuietLaws.{started-quiet, started-restarts, settled-quiet, settled-restarts, toT3-mode, heardIn-mode, csnpIn-mode, noticeT2s-mode}
+use Rattle.invariants.proofs.SetupTimersLaws.{started-kept, settled-kept, later-kept, toT3-kept, heardIn-kept, csnpIn-kept, noticeT2s-kept}
+
+-- ---- the timers
+
+-- the settings' lengths are still setup's
+abbrev pub KeptBy : Lengths → ℕ → Timers → Timers → Type 0
+KeptBy l clock t next = (s : Settings) → l ≡ s .lengths → SetupTimers s clock t → SetupTimers s clock next
+
+-- what a call's own step is asked for
+pub record Own (l : Lengths) (clock : ℕ) (t next : Timers) : Type 0 where
+  pub mode : next .mode ≡ t .mode
+  pub kept : KeptBy l clock t next
+
+module _ (l : Lengths) (clock : ℕ) (t : Timers) where
+  own-tick : Own l clock t (toT3 l clock t)
+  own-tick = record { mode = toT3-mode l clock t; kept = λ s e h. rw e (toT3-kept s clock t h) }
+
+  own-heard : (i : ℕ) (on : Levels) (d : Heard) → Own l clock t (heardIn clock i on d t)
+  own-heard i on d = record { mode = heardIn-mode clock i on d t; kept = λ s e h. heardIn-kept s clock t h i on d }
+
+  own-csnp : (i : ℕ) (on n : Levels) → Own l clock t (csnpIn i on n t)
+  own-csnp i on n = record { mode = csnpIn-mode i on n t; kept = λ s e h. csnpIn-kept s clock t h i on n }
+
+  own-database : (n : Levels) → Own l clock t (noticeT2s n t)
+  own-database n = record { mode = noticeT2s-mode n t; kept = λ s e h. noticeT2s-kept s clock t h n }
+
+-- what the call then gives
+pub record Passes (l : Lengths) (clock : ℕ) (t next : Timers) : Type 0 where
+  pub running : t .mode ≡ Running → next .mode ≡ Running
+  pub quiet : Quiet t → Quiet next
+  pub restarts : (s : Settings) → Restarts s t → Restarts s next
+  pub kept : KeptBy l clock t next
+
+passes-settled : (l : Lengths) (clock : ℕ) (f : Timers → Timers) (t : Timers) → Own l clock t (f t) → Passes l clock t (settled f t)
+passes-settled l clock f t own =
+    record {
+      running = λ e. mode-running t e f;
+      quiet = settled-quiet f t (own .mode);
+      restarts = λ s h. settled-restarts s f t h;
+      kept = λ s e h. settled-kept s clock t h f (own .kept s e h);
+    }
+
+-- ---- the common part
+
+-- a call that does not move the clock
+pub record Keeps (c d : Common) : Type 0 where
+  pub system : d .system ≡ c .system
+  pub lengths : d .lengths ≡ c .lengths
+  pub circuits : d .circuits ≡ c .circuits
+  pub clock : d .clock ≡ c .clock
+  pub timers : Passes (c .lengths) (c .clock) (c .timers) (d .timers)
+
+keeps-same : (c : Common) → Keeps c c
+keeps-same c =
+    record {
+      system = refl;
+      lengths = refl;
+      circuits = refl;
+      clock = refl;
+      timers = record { running = λ e. e; quiet = λ q. q; restarts = λ s h. h; kept = λ s e h. h };
+    }
+
+keeps-settled : (c : Common) (f : Timers → Timers) → Own (c .lengths) (c .clock) (c .timers) (f (c .timers)) → Keeps c (withTimers (settled f (c .timers)) c)
+keeps-settled c f own =
+    record { system = refl; lengths = refl; circuits = refl; clock = refl; timers = passes-settled (c .lengths) (c .clock) f (c .timers) own }
+
+-- ---- the calls on a circuit
+
+module _ (n : ℕ) (s : Circuit) (c : Common) (r : Room) where
+  reacted-keeps : (h : Hello) (k : Key) (b : List ℕ) (a : Reaction) → Keeps c (reacted n s h k b a c r .common)
+  unfolding reacted accepted refuse
+  reacted-keeps h k b (RefusedReaction x) = keeps-same c
+  reacted-keeps h k b (Accepted after reply line) =
+      keeps-settled c (heardIn (c .clock) (n - 1) (s .levels) (saidOf c s h)) (own-heard (c .lengths) (c .clock) (c .timers) (n - 1) (s .levels) (saidOf c s h))
+
+  read-keeps : (mac : ℕ) (b : List ℕ) (x : Read) → Keeps c (readIn n s mac b x c r .common)
+  unfolding readIn checked decidedIn refuse
+  read-keeps mac b (RefusedRead x) = keeps-same c
+  read-keeps mac b (ReadAs h) =
+      by-test (wrongSource (s .levels) (c .system) h) (λ e. rw e (keeps-same c))
+      (λ e. rw e (reacted-keeps h (keyIn (s .kind) mac h) b (decided (hereOf c s) (keyIn (s .kind) mac h) h (r .slots))))
+
+  receive-keeps : (mac : ℕ) (frame b : List ℕ) → Keeps c (receive n s mac frame b c r .common)
+  unfolding receive refuse
+  receive-keeps mac frame b =
+      by-test (ltb (length b) 11) (λ e. rw e (keeps-same c)) (λ e. rw e (read-keeps mac b (helloRead (s .kind) (s .mac) frame)))
+
+  csnp-keeps : (level : ℕ) → Keeps c (csnpComplete n s level c r .common)
+  unfolding csnpComplete refuse
+  csnp-keeps level =
+      by-test (hasLevel (s .levels) level)
+      (λ e. by-test (isRestarting (c .timers .mode))
+      (λ m. rw (e, m) (keeps-settled c (csnpIn (n - 1) (s .levels) (onlyLevel level)) (own-csnp (c .lengths) (c .clock) (c .timers) (n - 1) (s .levels) (onlyLevel level))))
+      (λ m. rw (e, m) (keeps-same c)))
+      (λ e. rw e (keeps-same c))
+
+  look-keeps : (k : Key) → Keeps c (lookUp s k c r .common)
+  unfolding lookUp refuse
+  look-keeps k =
+      by-test (asksLevel (s .kind) (s .levels) (k .level)) (λ e. rw e (keeps-same c)) (λ e. rw e (keeps-same c))
+
+  pub act-keeps : (l : Local) → Keeps c (act n s l c r .common)
+  unfolding act linkMetricOf nextHello
+  act-keeps (Receive mac frame b) = receive-keeps mac frame b
+  act-keeps Release = keeps-same c
+  act-keeps (CsnpComplete level) = csnp-keeps level
+  act-keeps (LookUp k) = look-keeps k
+  act-keeps LinkMetric = keeps-same c
+  act-keeps NextHello = keeps-same c
+
+-- ---- the calls that name none
+
+abbrev pub JudgedOk : Common → Judged → Type 0
+JudgedOk c (RefusedCall x) = Unit {0}
+JudgedOk c (Sweep clock d hellos o) = (c .clock ≤ clock) × Keeps (withClock clock c) d
+JudgedOk c (Tell d a) = Keeps c d
+
+module _ (c : Common) where
+  tick-ok : (clock : ℕ) → JudgedOk c (tickOf clock c)
+  unfolding tickOf
+  tick-ok clock =
+      by-test (noneOf (c .circuits)) (λ e. rw e (keeps-same c))
+      (λ e. by-test (ltb clock (c .clock)) (λ b. rw (e, b) tt)
+      (λ b. rw (e, b) (ltb-false _ _ b, keeps-settled (withClock clock c) (toT3 (c .lengths) clock) (own-tick (c .lengths) clock (c .timers)))))
+
+  database-ok : (level : ℕ) → JudgedOk c (databaseOf level c)
+  unfolding databaseOf
+  database-ok level =
+      by-test (hasLevel (enabledLevels (c .circuits)) level)
+      (λ e. by-test (isRestarting (c .timers .mode))
+      (λ m. rw (e, m) (keeps-settled c (noticeT2s (onlyLevel level)) (own-database (c .lengths) (c .clock) (c .timers) (onlyLevel level))))
+      (λ m. rw (e, m) tt))
+      (λ e. rw e tt)
+
+  pub judge-ok : (w : Global) → JudgedOk c (judge c w)
+  unfolding judge
+  judge-ok (Tick clock) = tick-ok clock
+  judge-ok (DatabaseComplete level) = database-ok level
+  judge-ok Waiting = keeps-same c
+
+-- ---- every call
+
+pub record Moves (c d : Common) : Type 0 where
+  pub system : d .system ≡ c .system
+  pub lengths : d .lengths ≡ c .lengths
+  pub circuits : d .circuits ≡ c .circuits
+  pub quiet : Quiet (c .timers) → Quiet (d .timers)
+  pub restarts : (s : Settings) → Restarts s (c .timers) → Restarts s (d .timers)
+  pub kept : (s : Settings) → c .lengths ≡ s .lengths → SetupTimers s (c .clock) (c .timers) → SetupTimers s (d .clock) (d .timers)
+  pub onward : Onward c d
+
+-- the clock moved on, or stood, and the rest kept
+moved : (c d : Common) (clock : ℕ) → c .clock ≤ clock → Keeps (withClock clock c) d → Moves c d
+moved c d clock le k =
+    record {
+      system = k .system;
+      lengths = k .lengths;
+      circuits = k .circuits;
+      quiet = k .timers .quiet;
+      restarts = k .timers .restarts;
+      kept = λ s e h. rw (k .clock) (k .timers .kept s e (later-kept s (c .clock) (c .timers) h clock le));
+      onward = record { clock = omega (arith, k .clock); running = k .timers .running };
+    }
+
+keeps-moves : (c d : Common) → Keeps c d → Moves c d
+keeps-moves c d k = moved c d (c .clock) (omega arith) k
+
+module _ (g : Gateway) where
+  on-moves : (n : ℕ) (l : Local) (x : Chosen) → Moves (g .common) (on g n l x .next .common)
+  unfolding on lift
+  on-moves n l Unknown = keeps-moves (g .common) (g .common) (keeps-same (g .common))
+  on-moves n l (Known s) = keeps-moves (g .common) _ (act-keeps n s (g .common) _ l)
+
+  carry-moves : (j : Judged) → JudgedOk (g .common) j → Moves (g .common) (carry g j .next .common)
+  unfolding carry
+  carry-moves (RefusedCall x) k = keeps-moves (g .common) (g .common) (keeps-same (g .common))
+  carry-moves (Sweep clock d hellos o) (le, k) = moved (g .common) d clock le k
+  carry-moves (Tell d a) k = keeps-moves (g .common) d k
+
+  pub step-moves : (c : Call) → Moves (g .common) (step g c .next .common)
+  unfolding step
+  step-moves (At n l) = on-moves n l (circuitOf (g .common) n)
+  step-moves (Over w) = carry-moves (judge (g .common) w) (judge-ok (g .common) w)
+
+-- ---- what setup gives, and every call keeps
+
+pub record CommonOk (s : Settings) (c : Common) : Type 0 where
+  pub settings : SetupSettings s c
+  pub quiet : Quiet (c .timers)
+  pub restarts : Restarts s (c .timers)
+  pub timers : SetupTimers s (c .clock) (c .timers)
+
+pub common-new : (s : Settings) → every circuitOk (circuitsOf s) ≡ true → 0 < s .lengths .tries → CommonOk s (setupCommon s)
+unfolding setupCommon
+common-new s ok tries =
+    record {
+      settings = record { system = refl; lengths = refl; circuits = refl };
+      quiet = started-quiet (startOf s);
+      restarts = started-restarts s ok;
+      timers = started-kept s tries;
+    }
+
+pub common-moved : (s : Settings) (c d : Common) → Moves c d → CommonOk s c → CommonOk s d
+common-moved s c d m h =
+    record {
+      settings =
+          record {
+            system = m .system ∙ h .settings .system;
+            lengths = m .lengths ∙ h .settings .lengths;
+            circuits = m .circuits ∙ h .settings .circuits;
+          };
+      quiet = m .quiet (h .quiet);
+      restarts = m .restarts s (h .restarts);
+      timers = m .kept s (h .settings .lengths) (h .timers);
+    }
