@@ -14,7 +14,7 @@ use Rattle.basics.proofs.BoolLaws.{by-test}
 use Rattle.basics.proofs.OctetsLaws.{big-lt}
 use Rattle.restart_tlv.specs.Flags.{counted, invalid, needsTime}
 use Rattle.restart_tlv.specs.Restart.{timeOf, restartWith, restartIn}
-use Rattle.hello.specs.Header.{layoutOf, headerOf, notHello, badLength, pduLength}
+use Rattle.hello.specs.Header.{layoutOf, onCircuit, notHello, badLength, pduLength}
 use Rattle.hello.specs.Hello.{ofKind, ruleFault, tlvsRead, pduRead, layoutRead, helloRead}
 use Rattle.basics.specs.declared.kind.CircuitKind.{CircuitKind}
 use Rattle.hello.specs.declared.header.Layout.{Layout}
@@ -87,19 +87,19 @@ module _ (mac : ℕ) where
   brief-pdu : (l : Layout) (p : List ℕ) → Octets p → Brief (pduRead l mac p)
   unfolding pduRead tlvsRead tlvs
   brief-pdu l p h =
-      brief-unless (cutAt (tlvs p (headerOf l))) _ _
+      brief-unless (cutAt (tlvs p (l .header))) _ _
       (brief-unless (ruleFault l p) _ _
-      (accepted (two-octets p 15 h) (time-in (ofKind 211 l p) (values-up _ 211 p (headerOf l) h))) refused)
+      (accepted (two-octets p 15 h) (time-in (ofKind 211 l p) (values-up _ 211 p (l .header) h))) refused)
       refused
 
   brief-layout : (x : Selected) (s : List ℕ) → Octets s → Brief (layoutRead x mac s)
   unfolding layoutRead
   brief-layout Unfit s h = refused
   brief-layout (Fit l) s h =
-      by-test (badLength s (headerOf l)) (λ a. rw a refused)
+      by-test (badLength s (l .header)) (λ a. rw a refused)
       (λ a. rw a (brief-pdu l (take (pduLength s) s) (take-octets s (pduLength s) h)))
 
   pub brief-read : (kind : CircuitKind) (s : List ℕ) → Octets s → Brief (helloRead kind mac s)
   unfolding helloRead
   brief-read kind s h =
-      by-test (notHello s) (λ a. rw a refused) (λ a. rw a (brief-layout (layoutOf (octet s 4) kind) s h))
+      by-test (notHello s) (λ a. rw a refused) (λ a. rw a (brief-layout (onCircuit kind (layoutOf (octet s 4))) s h))
