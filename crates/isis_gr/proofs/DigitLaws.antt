@@ -10,6 +10,7 @@ use lib.ListN.{length}
 use Rattle.basics.proofs.BitLaws.{bit-le}
 use Rattle.restart_tlv.specs.declared.writer.Ack.the-variants.{Restart, Planned}
 use Rattle.basics.specs.Refusal.{refusalNo}
+use Rattle.basics.specs.Mask.{circuits}
 use Rattle.basics.specs.declared.levels.Levels.{Levels}
 use Rattle.basics.specs.declared.refusal.Refusal.{Refusal}
 use Rattle.basics.specs.declared.refusal.Refusal.the-variants.{NoCircuit, ReplyRoom, NotHello, BadLength, TlvPastEnd, BadTlv, WrongSource, WrongNeighbor, NoRoom, ClockBack, NotRestarting, BadSetting}
@@ -107,7 +108,7 @@ unfolding maskNo
 mask-below [] = omega arith
 mask-below (b ∷ l) = omega (arith, pow-suc 2 (length l), bit-le b, mask-below l)
 
-module _ (lost hellos : List Bool) (o : TimerOutcome) (lm : length lost ≡ 8) (lh : length hellos ≡ 8) where
+module _ (lost hellos : List Bool) (o : TimerOutcome) (lm : length lost ≡ circuits) (lh : length hellos ≡ circuits) where
   abbrev ticked : ℕ
   ticked = answerNo (Ticked lost hellos o)
 

@@ -5,6 +5,7 @@ use mathlib.Core.Path.{_≡_, ap, _∙_}
 use mathlib.Core.List.{List, [], _∷_}
 use lib.ListN.{length, set}
 use Rattle.basics.proofs.BitLaws.{bit-le}
+use Rattle.basics.specs.Mask.{circuits}
 use Rattle.timer_parts.specs.declared.t1.T1.{T1}
 use Rattle.timers.specs.Timers.{countRuns}
 use Rattle.timers.specs.Memory.{timersOf, t1Bits}
@@ -38,11 +39,11 @@ unfolding countRuns
 countRuns-le [] = omega arith
 countRuns-le (t ∷ l) = omega (arith, bit-le (t .runs), countRuns-le l)
 
-t1s-length : (ws : List ℕ) → length (gatewayOf ws .common .timers .t1s) ≡ 8
+t1s-length : (ws : List ℕ) → length (gatewayOf ws .common .timers .t1s) ≡ circuits
 unfolding gatewayOf commonOf timersOf
 t1s-length ws = length-joined (t1Bits _) _ ∙ length-bits _
 
-pub waiting-le : {w : Waiting} {ws : List ℕ} → Meets (waitingOf w) (step (gatewayOf ws) (Over WaitingCall)) ws ws [] → w .count ≤ 8
+pub waiting-le : {w : Waiting} {ws : List ℕ} → Meets (waitingOf w) (step (gatewayOf ws) (Over WaitingCall)) ws ws [] → w .count ≤ circuits
 unfolding step judge carry
 waiting-le {w} {ws} m =
     let e : w .count ≡ countRuns (gatewayOf ws .common .timers .t1s) = cc (m .answer) in

@@ -28,6 +28,7 @@ use model::answers::Waiting;
 ghost use mathlib.Core.Path.{_≡_};
 ghost use Prim.Native.Nat.{_≤_};
 ghost use lib.ListN.{length};
+ghost use Rattle.basics.specs.Mask.{circuits};
 ghost use Rattle.model.specs.Answers.{receivedOf, tickedOf, releasedOf, noticedOf, lookedOf, metricOf, flagsOf, waitingOf};
 ghost use Rattle.gateway.specs.Setup.{reportOf};
 ghost use Rattle.isis_gr.specs.Numbers.{ordersNo, answerNo, reportNo, stateWords, foundWords};
@@ -114,7 +115,7 @@ pub(crate) fn flags_word(a: NextFlags) -> u32
 }
 
 pub(crate) fn waiting_word(a: Waiting) -> u32
-    requires { ⌜ a .count ≤ 8 ⌝ }
+    requires { ⌜ a .count ≤ circuits ⌝ }
     ensures { λ r. ⌜ r ≡ answerNo (waitingOf a) ⌝ }
 {
     let low = a.lowest;
