@@ -32,6 +32,7 @@ pub struct Layout {
     pub kind: CircuitKind,
 }
 
+// What a PDU type chooses: a layout, or none, where it is no hello's.
 pub enum Selected {
     Fit(Layout),
     Unfit,
