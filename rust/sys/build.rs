@@ -18,9 +18,11 @@ fn main() {
         line.split_whitespace().nth(2).expect("a number follows").parse().expect("it is a number")
     };
     let sizes = format!(
-        "/// The words of a gateway.\npub const GATEWAY_WORDS: usize = {};\n\n/// The octets of the settings.\npub const SETTINGS_OCTETS: usize = {};\n",
+        "/// The words of a gateway.\npub const GATEWAY_WORDS: usize = {};\n\n/// The octets of the settings.\npub const SETTINGS_OCTETS: usize = {};\n\n\
+         /// The most circuits of a gateway.\npub const CIRCUITS: usize = {};\n",
         size("GATEWAY_WORDS"),
-        size("SETTINGS_OCTETS")
+        size("SETTINGS_OCTETS"),
+        size("MAX_CIRCUITS")
     );
     let out = PathBuf::from(std::env::var_os("OUT_DIR").expect("cargo sets it")).join("sizes.rs");
     std::fs::write(out, sizes).expect("the output folder can be written");

@@ -1,6 +1,6 @@
 -- The stages of reading a frame: what each finds, and what the next one gets. Each return of `read` cites one of these.
 use Prim.Native.Nat.{ℕ, _≤_, _%_}
-use mathlib.Core.Path.{_≡_, refl, _∙_}
+use mathlib.Core.Path.{_≡_, refl, sym, ap, subst, _∙_}
 use mathlib.Core.List.{List}
 use mathlib.Core.Bool.{Bool, true, false, cond, not, _||_}
 use native.Mathlib.Omega.{arith}
@@ -8,24 +8,26 @@ use lib.ListN.{length}
 use lib.Dec.{ltb, eqb, lit≤}
 use borrow.Author.Tests.{ltb-false}
 use Rattle.basics.specs.Octets.{octet}
-use Rattle.tlv.specs.Tlv.{Tlv, tlvs, cutAt, walkOf, ofType, isFound}
+use Rattle.tlv.specs.Tlv.{Tlv, tlvs, cutAt, walkOf, isFound}
 use Rattle.tlv.specs.declared.tlvs.Found.{Found}
 use Rattle.tlv.specs.declared.tlvs.Found.the-variants.{At, Nothing}
 use Rattle.tlv.specs.declared.tlvs.Counts.{Counts}
 use Rattle.tlv.specs.declared.tlvs.Walk.the-variants.{Whole, Cut}
-use Rattle.basics.proofs.BoolLaws.{neither, or-true}
+use Rattle.basics.proofs.BoolLaws.{neither, or-true, by-test}
 use Rattle.tlv.proofs.TlvLaws.{unless-found, unless-none, unless-is-bad, unless-is-good, walk-is-cut, walk-is-whole}
 use Rattle.restart_tlv.specs.Restart.{restartFault}
-use Rattle.hello.specs.Header.{headerOf, notHello, badLength, pduLength}
+use Rattle.hello.specs.Header.{layoutOf, notHello, badLength, pduLength}
 use Rattle.hello.specs.Reverse.{reverseFault, reverseIn, reverseRead}
 use Rattle.hello.specs.ThreeWay.{threeWayFault, threeWayIn, threeWayRead}
-use Rattle.hello.specs.Hello.{ofKind, earlier, linkFault, linkOf, linkRead, ruleFault, helloOf, tlvsRead, pduRead}
+use Rattle.hello.specs.Hello.{ofKind, earlier, faultOn, linkFault, linkOf, linkRead, ruleFault, helloOf, tlvsRead, pduRead}
 use Rattle.hello.specs.declared.reverse.ReverseMetric.{ReverseMetric}
 use Rattle.hello.specs.declared.reverse.ReverseRead.the-variants.{Bad as BadReverse, Good as GoodReverse}
 use Rattle.hello.specs.declared.three_way.ThreeWay.{ThreeWay}
 use Rattle.hello.specs.declared.three_way.ThreeWayRead.the-variants.{Bad as BadThreeWay, Good as GoodThreeWay}
 use Rattle.hello.specs.declared.header.Layout.{Layout}
-use Rattle.hello.specs.declared.header.Layout.the-variants.{Lan, P2p}
+use Rattle.hello.specs.declared.header.Selected.{Selected}
+use Rattle.hello.specs.declared.header.Selected.the-variants.{Fit, Unfit}
+use Rattle.basics.specs.declared.kind.CircuitKind.the-variants.{Lan as LanCircuit, P2p as P2pCircuit}
 use Rattle.neighbours.specs.Lists.{neighboursFault, listed, listRead}
 use Rattle.neighbours.specs.declared.lists.ListRead.the-variants.{Bad as BadList, Good as GoodList}
 use Rattle.hello.specs.declared.read.Link.{Link}
@@ -85,27 +87,37 @@ module _ (l : Layout) (mac : ℕ) (p : List ℕ) where
   unfolding tlvsRead
   accepted c r m k = unless-none (ruleFault l p) _ _ (found-rule ∙ rw (c, r, m, k))
 
-  pub link-is-bad : linkRead l mac p ≡ Bad → isFound (linkFault l p) ≡ true
+  pub link-is-bad : linkRead (l .kind) l mac p ≡ Bad → isFound (linkFault l p) ≡ true
   unfolding linkRead
   link-is-bad = unless-is-bad Good Bad differ-link same-link (linkFault l p) (linkOf l mac p)
 
-  pub link-is-good : (k : Link) → linkRead l mac p ≡ Good k → (isFound (linkFault l p) ≡ false) × (k ≡ linkOf l mac p)
+  pub link-is-good : (k : Link) → linkRead (l .kind) l mac p ≡ Good k → (isFound (linkFault l p) ≡ false) × (k ≡ linkOf l mac p)
   unfolding linkRead
   link-is-good k = unless-is-good Good Bad differ-link same-link (linkFault l p) (linkOf l mac p) k
 
   -- refusal 5, and what follows it
-  pub at-cut : (q : ℕ) → walkOf (tlvs p (headerOf l)) ≡ Cut q → pduRead l mac p ≡ Refused TlvPastEnd
+  pub at-cut : (q : ℕ) → walkOf (tlvs p (l .header)) ≡ Cut q → pduRead l mac p ≡ Refused TlvPastEnd
   unfolding pduRead
-  at-cut q e = unless-found (cutAt (tlvs p (headerOf l))) _ _ (walk-is-cut _ q e)
+  at-cut q e = unless-found (cutAt (tlvs p (l .header))) _ _ (walk-is-cut _ q e)
 
-  pub at-whole : (n : Counts) → walkOf (tlvs p (headerOf l)) ≡ Whole n → pduRead l mac p ≡ tlvsRead l mac p
+  pub at-whole : (n : Counts) → walkOf (tlvs p (l .header)) ≡ Whole n → pduRead l mac p ≡ tlvsRead l mac p
   unfolding pduRead
-  at-whole n e = unless-none (cutAt (tlvs p (headerOf l))) _ _ (walk-is-whole _ n e .0)
+  at-whole n e = unless-none (cutAt (tlvs p (l .header))) _ _ (walk-is-whole _ n e .0)
 
--- what a header that passed gives
-pub header-least : (l : Layout) → 20 ≤ headerOf l
-header-least (Lan level) = lit≤ tt
-header-least P2p = lit≤ tt
+-- the header of a layout that was chosen
+chosenHeader : Selected → ℕ
+chosenHeader (Fit l) = l .header
+chosenHeader Unfit = 20
+
+chosen-least : (t : ℕ) → 20 ≤ chosenHeader (layoutOf t)
+unfolding layoutOf chosenHeader
+chosen-least t =
+    by-test (eqb (t % 32) 15) (λ a. rw a (lit≤ tt))
+    (λ a. by-test (eqb (t % 32) 16) (λ b. rw (a, b) (lit≤ tt)) (λ b. by-test (eqb (t % 32) 17) (λ c. rw (a, b, c) (lit≤ tt)) (λ c. rw (a, b, c) (lit≤ tt))))
+
+pub header-least : (t : ℕ) (x : Selected) (l : Layout) → x ≡ layoutOf t → x ≡ Fit l → 20 ≤ l .header
+unfolding chosenHeader
+header-least t x l e f = subst (λ (n : ℕ). 20 ≤ n) (ap chosenHeader (sym e ∙ f)) (chosen-least t)
 
 module _ (s : List ℕ) where
   pub eight : notHello s ≡ false → 8 ≤ length s
@@ -178,24 +190,23 @@ module _ (mac : ℕ) (ts : List Tlv) where
   unfolding listRead
   list-is-good b = unless-is-good GoodList BadList differ-list same-list (neighboursFault ts) (listed mac ts) b
 
-module _ (level mac : ℕ) (p : List ℕ) where
-  pub lan-bad : listRead mac (ofType 6 (tlvs p 27)) ≡ BadList → linkRead (Lan level) mac p ≡ Bad
-  unfolding linkRead linkFault
+module _ (l : Layout) (mac : ℕ) (p : List ℕ) where
+  pub lan-bad : listRead mac (ofKind 6 l p) ≡ BadList → linkRead LanCircuit l mac p ≡ Bad
+  unfolding linkRead faultOn
   lan-bad e = unless-found _ _ _ (list-is-bad _ _ e)
 
-  pub lan-good : (b : Bool) → listRead mac (ofType 6 (tlvs p 27)) ≡ GoodList b → linkRead (Lan level) mac p ≡ Good (LanLink level (octet p 19 % 128) b)
-  unfolding linkRead linkFault
+  pub lan-good : (b : Bool) → listRead mac (ofKind 6 l p) ≡ GoodList b → linkRead LanCircuit l mac p ≡ Good (LanLink (l .level) (octet p 19 % 128) b)
+  unfolding linkRead faultOn
   lan-good b e =
       let g = list-is-good _ _ b e in
       unless-none _ _ _ (g .0) ∙ rw (g .1)
 
-module _ (mac : ℕ) (p : List ℕ) where
-  pub p2p-bad : threeWayRead (length p) (ofType 240 (tlvs p 20)) ≡ BadThreeWay → linkRead P2p mac p ≡ Bad
-  unfolding linkRead linkFault
+  pub p2p-bad : threeWayRead (length p) (ofKind 240 l p) ≡ BadThreeWay → linkRead P2pCircuit l mac p ≡ Bad
+  unfolding linkRead faultOn
   p2p-bad e = unless-found _ _ _ (three-way-is-bad _ _ e)
 
-  pub p2p-good : (r : ThreeWay) → threeWayRead (length p) (ofType 240 (tlvs p 20)) ≡ GoodThreeWay r → linkRead P2p mac p ≡ Good (P2pLink r)
-  unfolding linkRead linkFault
+  pub p2p-good : (r : ThreeWay) → threeWayRead (length p) (ofKind 240 l p) ≡ GoodThreeWay r → linkRead P2pCircuit l mac p ≡ Good (P2pLink r)
+  unfolding linkRead faultOn
   p2p-good r e =
       let g = three-way-is-good _ _ r e in
       unless-none _ _ _ (g .0) ∙ rw (g .1)

@@ -1,3 +1,4 @@
 pub mod ReadLaws
 pub mod HelloLaws
 pub mod SampleRuns
+pub mod Positions

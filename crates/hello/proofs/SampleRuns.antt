@@ -12,7 +12,7 @@ use Rattle.restart_tlv.specs.declared.reader.Neighbor.the-variants.{Unnamed}
 use Rattle.restart_tlv.specs.declared.reader.RestartTlv.the-variants.{Present}
 use Rattle.hello.specs.Header.{layoutOf, notHello, badLength}
 use Rattle.hello.specs.ThreeWay.{threeWayBad, threeWayLength, stateOf, identifiersOf}
-use Rattle.hello.specs.Hello.{linkFault, earlier, ruleFault, tlvsRead, pduRead, layoutRead, helloRead}
+use Rattle.hello.specs.Hello.{faultOn, earlier, ruleFault, tlvsRead, pduRead, layoutRead, helloRead}
 use Rattle.basics.specs.declared.kind.CircuitKind.the-variants.{P2p as P2pCircuit}
 use Rattle.hello.specs.declared.read.Read.{Read}
 use Rattle.hello.specs.declared.read.Read.the-variants.{Refused, Accepted}
@@ -46,5 +46,5 @@ pub c8 : (reading [] ≡ Refused BadTlv)
       reverse = NoMetric;
       link = P2p (record { state = Up; ids = NoIdentifiers });
     }))
-unfolding helloRead layoutOf notHello badLength layoutRead pduRead tlvsRead ruleFault earlier linkFault big hasBits tlvs tlvsUp cutAt ofType loneFault unless counted without invalid needsNeighbor needsTime leastLength restartBad restartWith timeOf neighborOf threeWayBad threeWayLength stateOf identifiersOf ones onesIn
+unfolding helloRead layoutOf notHello badLength layoutRead pduRead tlvsRead ruleFault earlier faultOn big hasBits tlvs tlvsUp cutAt ofType loneFault unless counted without invalid needsNeighbor needsTime leastLength restartBad restartWith timeOf neighborOf threeWayBad threeWayLength stateOf identifiersOf ones onesIn
 c8 = (refl, refl, refl, refl, refl)

@@ -2,34 +2,38 @@
 -- documents stands at position n - 1.
 use Prim.Native.Nat.{ℕ, _%_}
 use mathlib.Core.List.{List}
-use mathlib.Core.Bool.{Bool, not, cond, _||_}
+use mathlib.Core.Bool.{Bool, true, false, not, cond, _||_}
 use lib.ListN.{length}
 use lib.Dec.{ltb, eqb}
 use Rattle.basics.specs.Octets.{octet, big}
 use Rattle.basics.specs.declared.kind.CircuitKind.{CircuitKind}
-use Rattle.basics.specs.declared.kind.CircuitKind.the-variants.{Lan as LanCircuit, P2p as P2pCircuit}
+use Rattle.basics.specs.declared.kind.CircuitKind.the-variants.{Lan, P2p}
 use Rattle.hello.specs.declared.header.Layout.{Layout}
-use Rattle.hello.specs.declared.header.Layout.the-variants.{Lan, P2p}
 use Rattle.hello.specs.declared.header.Selected.{Selected}
 use Rattle.hello.specs.declared.header.Selected.the-variants.{Fit, Unfit}
 
--- a layout, where it fits the circuit's kind
-abbrev pub lanOn : CircuitKind → ℕ → Selected
-lanOn LanCircuit level = Fit (Lan level)
-lanOn P2pCircuit level = Unfit
+-- Document 01, "Hello frames": "The layout is chosen by PDU type (low five bits): 15 and 16 are LAN level 1 and 2, header 27 octets; 17 is
+-- P2P, header 20." A P2P hello has no level.
+abbrev pub lanLayout : ℕ → Layout
+lanLayout level = record { header = 27; level = level; kind = Lan }
 
-abbrev pub p2pOn : CircuitKind → Selected
-p2pOn LanCircuit = Unfit
-p2pOn P2pCircuit = Fit P2p
+abbrev pub p2pLayout : Layout
+p2pLayout = record { header = 20; level = 0; kind = P2p }
 
--- Document 01, "Hello frames": the layout is chosen by PDU type (low five bits): 15 and 16 are LAN level 1 and 2, 17 is P2P
-unfoldable pub layoutOf : ℕ → CircuitKind → Selected
-layoutOf t kind = cond (eqb (t % 32) 15) (lanOn kind 1) (cond (eqb (t % 32) 16) (lanOn kind 2) (cond (eqb (t % 32) 17) (p2pOn kind) Unfit))
+unfoldable pub layoutOf : ℕ → Selected
+layoutOf t =
+    cond (eqb (t % 32) 15) (Fit (lanLayout 1)) (cond (eqb (t % 32) 16) (Fit (lanLayout 2)) (cond (eqb (t % 32) 17) (Fit p2pLayout) Unfit))
 
--- octets in the fixed header
-abbrev pub headerOf : Layout → ℕ
-headerOf (Lan level) = 27
-headerOf P2p = 20
+-- refusal 3: "PDU type not fit for the circuit"
+abbrev pub sameKind : CircuitKind → CircuitKind → Bool
+sameKind Lan Lan = true
+sameKind Lan P2p = false
+sameKind P2p Lan = false
+sameKind P2p P2p = true
+
+abbrev pub onCircuit : CircuitKind → Selected → Selected
+onCircuit kind (Fit l) = cond (sameKind (l .kind) kind) (Fit l) Unfit
+onCircuit kind Unfit = Unfit
 
 abbrev pub idLengthOk : ℕ → Bool
 idLengthOk n = eqb n 0 || eqb n 6

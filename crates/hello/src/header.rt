@@ -8,7 +8,7 @@ use basics::octets::two;
 use basics::octets::wide;
 ghost use mathlib.Core.Path.{_≡_};
 ghost use Prim.Native.Nat.{_≤_};
-ghost use Rattle.hello.specs.Header.{layoutOf, lanOn, p2pOn, headerOf, idLengthOk, notHello, badLength};
+ghost use Rattle.hello.specs.Header.{layoutOf, sameKind, idLengthOk, notHello, badLength};
 
 pub const PDU_TYPE: usize = 4;
 
@@ -25,56 +25,57 @@ pub const PRIORITY: usize = 19;
 // The longest PDU that is taken (document 01, refusal 4).
 const MAX_PDU: usize = 1492;
 
-// The layout of a hello: a LAN's, with its level, or P2P.
-pub enum Layout {
-    Lan(u8),
-    P2p,
+// The layout of a hello: the octets of its fixed header, its level (0 on P2P), and the kind of circuit that it is for.
+pub struct Layout {
+    pub header: usize,
+    pub level: u8,
+    pub kind: CircuitKind,
 }
 
-// The layout that a PDU type chooses on a circuit, if it fits there.
+// What a PDU type chooses: a layout, or none, where it is no hello's.
 pub enum Selected {
     Fit(Layout),
     Unfit,
 }
 
-fn on_lan(kind: CircuitKind, level: u8) -> Selected
-    ensures { λ r. ⌜ r ≡ lanOn kind level ⌝ }
-{
-    match kind {
-        CircuitKind::Lan => Selected::Fit(Layout::Lan(level)),
-        CircuitKind::P2p => Selected::Unfit,
-    }
-}
-
-fn on_p2p(kind: CircuitKind) -> Selected
-    ensures { λ r. ⌜ r ≡ p2pOn kind ⌝ }
-{
-    match kind {
-        CircuitKind::Lan => Selected::Unfit,
-        CircuitKind::P2p => Selected::Fit(Layout::P2p),
-    }
-}
-
-// The layout that a PDU type chooses, where it fits the circuit.
-pub fn select_layout(octet: u8, kind: CircuitKind) -> Selected
-    ensures { λ r. ⌜ r ≡ layoutOf octet kind ⌝ }
+// The layout that a PDU type chooses.
+pub fn select_layout(octet: u8) -> Selected
+    ensures { λ r. ⌜ r ≡ layoutOf octet ⌝ }
 {
     let t = octet % 32;
     match t {
-        15 => on_lan(kind, 1),
-        16 => on_lan(kind, 2),
-        17 => on_p2p(kind),
+        15 => Selected::Fit(Layout {
+            header: 27,
+            level: 1,
+            kind: CircuitKind::Lan,
+        }),
+        16 => Selected::Fit(Layout {
+            header: 27,
+            level: 2,
+            kind: CircuitKind::Lan,
+        }),
+        17 => Selected::Fit(Layout {
+            header: 20,
+            level: 0,
+            kind: CircuitKind::P2p,
+        }),
         _ => Selected::Unfit,
     }
 }
 
-// The octets of the fixed header.
-pub fn header_len(layout: Layout) -> usize
-    ensures { λ r. ⌜ r ≡ headerOf layout ⌝ }
+// Whether two kinds are one.
+pub fn is_same_kind(a: CircuitKind, b: CircuitKind) -> bool
+    ensures { λ r. ⌜ r ≡ sameKind a b ⌝ }
 {
-    match layout {
-        Layout::Lan(_) => 27,
-        Layout::P2p => 20,
+    match a {
+        CircuitKind::Lan => match b {
+            CircuitKind::Lan => true,
+            CircuitKind::P2p => false,
+        },
+        CircuitKind::P2p => match b {
+            CircuitKind::Lan => false,
+            CircuitKind::P2p => true,
+        },
     }
 }
 

@@ -7,9 +7,9 @@ use crate::header::PDU_TYPE;
 use crate::header::PRIORITY;
 use crate::header::SOURCE_ID;
 use crate::header::Selected;
-use crate::header::header_len;
 use crate::header::is_bad_length;
 use crate::header::is_not_hello;
+use crate::header::is_same_kind;
 use crate::header::select_layout;
 use crate::reverse::ReverseMetric;
 use crate::reverse::ReverseRead;
@@ -32,9 +32,8 @@ use tlv::tlvs::walked;
 ghost use mathlib.Core.Path.{_≡_};
 ghost use Prim.Native.Nat.{_≤_};
 ghost use lib.ListN.{length};
-ghost use Rattle.tlv.specs.Tlv.{tlvs, ofType, countsOf};
-ghost use Rattle.hello.specs.Header.{headerOf};
-ghost use Rattle.hello.specs.Hello.{linkRead, tlvsRead, pduRead, layoutRead, helloRead};
+ghost use Rattle.tlv.specs.Tlv.{tlvs, countsOf};
+ghost use Rattle.hello.specs.Hello.{ofKind, linkRead, tlvsRead, pduRead, layoutRead, helloRead};
 ghost use Rattle.hello.specs.declared.header.Selected.the-variants.{Fit};
 
 // What depends on the circuit's kind. Of a LAN: the level, the sender's priority, and whether our MAC is listed.
@@ -66,11 +65,12 @@ pub enum Read {
     Accepted(Hello),
 }
 
-fn read_lan(pdu: &[u8], level: u8, count: usize, mac: u64) -> LinkRead
-    requires { ⌜ (27 ≤ length (now pdu)) × (count ≡ length (ofType 6 (tlvs (now pdu) 27))) ⌝ }
-    ensures { λ r. ⌜ r ≡ linkRead (Layout.Lan level) mac (now (pdu .entry)) ⌝ }
+fn read_lan(pdu: &[u8], layout: Layout, count: usize, mac: u64) -> LinkRead
+    requires { ⌜ (20 ≤ length (now pdu)) × (count ≡ length (ofKind 6 layout (now pdu))) ⌝ }
+    ensures { λ r. ⌜ r ≡ linkRead CircuitKind.Lan layout mac (now (pdu .entry)) ⌝ }
 {
-    let ListRead::Good(listed) = read_lists(pdu, 27, count, mac) else {
+    let level = layout.level;
+    let ListRead::Good(listed) = read_lists(pdu, layout.header, count, mac) else {
         return LinkRead::Bad;
     };
     LinkRead::Good(Link::Lan {
@@ -80,32 +80,34 @@ fn read_lan(pdu: &[u8], level: u8, count: usize, mac: u64) -> LinkRead
     })
 }
 
-fn read_p2p(pdu: &[u8], count: usize, mac: u64) -> LinkRead
-    requires { ⌜ count ≡ length (ofType 240 (tlvs (now pdu) 20)) ⌝ }
-    ensures { λ r. ⌜ r ≡ linkRead Layout.P2p mac (now (pdu .entry)) ⌝ }
+fn read_p2p(pdu: &[u8], layout: Layout, count: usize, mac: u64) -> LinkRead
+    requires { ⌜ count ≡ length (ofKind 240 layout (now pdu)) ⌝ }
+    ensures { λ r. ⌜ r ≡ linkRead CircuitKind.P2p layout mac (now (pdu .entry)) ⌝ }
 {
-    let ThreeWayRead::Good(three_way) = read_three_way(pdu, 20, count) else {
+    let ThreeWayRead::Good(three_way) = read_three_way(pdu, layout.header, count) else {
         return LinkRead::Bad;
     };
     LinkRead::Good(Link::P2p(three_way))
 }
 
 fn read_link(pdu: &[u8], layout: Layout, counts: Counts, mac: u64) -> LinkRead
-    requires { ⌜ (headerOf layout ≤ length (now pdu)) × (counts ≡ countsOf (tlvs (now pdu) (headerOf layout))) ⌝ }
-    ensures { λ r. ⌜ r ≡ linkRead layout mac (now (pdu .entry)) ⌝ }
+    requires { ⌜ (20 ≤ length (now pdu)) × (counts ≡ countsOf (tlvs (now pdu) (layout .header))) ⌝ }
+    ensures { λ r. ⌜ r ≡ linkRead (layout .kind) layout mac (now (pdu .entry)) ⌝ }
 {
-    match layout {
-        Layout::Lan(level) => read_lan(pdu, level, counts.neighbours, mac),
-        Layout::P2p => read_p2p(pdu, counts.threeway, mac),
+    let kind = layout.kind;
+    match kind {
+        CircuitKind::Lan => read_lan(pdu, layout, counts.neighbours, mac),
+        CircuitKind::P2p => read_p2p(pdu, layout, counts.threeway, mac),
     }
 }
 
 // The TLVs, once they are known to end by the end of the PDU: refusal 6, or the hello. The lists of neighbours come first: they may be long, and
 // nothing else is held meanwhile.
-fn read_tlvs(pdu: &[u8], layout: Layout, from: usize, counts: Counts, mac: u64) -> Read
-    requires { ⌜ (from ≡ headerOf layout) × (20 ≤ from) × (from ≤ length (now pdu)) × (counts ≡ countsOf (tlvs (now pdu) from)) ⌝ }
+fn read_tlvs(pdu: &[u8], layout: Layout, counts: Counts, mac: u64) -> Read
+    requires { ⌜ (20 ≤ length (now pdu)) × (counts ≡ countsOf (tlvs (now pdu) (layout .header))) ⌝ }
     ensures { λ r. ⌜ r ≡ tlvsRead layout mac (now (pdu .entry)) ⌝ }
 {
+    let from = layout.header;
     if pdu[CIRCUIT_TYPE] % 4 == 0 {
         return Read::Refused(Refusal::BadTlv);
     }
@@ -128,26 +130,26 @@ fn read_tlvs(pdu: &[u8], layout: Layout, from: usize, counts: Counts, mac: u64) 
 }
 
 // Refusal 5, and what follows it.
-fn read_pdu(pdu: &[u8], layout: Layout, from: usize, mac: u64) -> Read
-    requires { ⌜ (from ≡ headerOf layout) × (20 ≤ from) × (from ≤ length (now pdu)) ⌝ }
+fn read_pdu(pdu: &[u8], layout: Layout, mac: u64) -> Read
+    requires { ⌜ 20 ≤ length (now pdu) ⌝ }
     ensures { λ r. ⌜ r ≡ pduRead layout mac (now (pdu .entry)) ⌝ }
 {
-    let Walk::Whole(counts) = walked(pdu, from) else {
+    let Walk::Whole(counts) = walked(pdu, layout.header) else {
         return Read::Refused(Refusal::TlvPastEnd);
     };
-    read_tlvs(pdu, layout, from, counts, mac)
+    read_tlvs(pdu, layout, counts, mac)
 }
 
 // Refusal 4, and what follows it.
 fn read_as(frame: &[u8], layout: Layout, mac: u64) -> Read
+    requires { ⌜ 20 ≤ layout .header ⌝ }
     ensures { λ r. ⌜ r ≡ layoutRead (Fit layout) mac (now (frame .entry)) ⌝ }
 {
-    let from = header_len(layout);
-    if is_bad_length(frame, from) {
+    if is_bad_length(frame, layout.header) {
         return Read::Refused(Refusal::BadLength);
     }
     let end = two(frame, PDU_LENGTH) as usize;
-    read_pdu(&frame[..end], layout, from, mac)
+    read_pdu(&frame[..end], layout, mac)
 }
 
 // A frame on a circuit of a kind, with our own MAC there.
@@ -157,8 +159,12 @@ pub fn read_hello(frame: &[u8], kind: CircuitKind, mac: u64) -> Read
     if is_not_hello(frame) {
         return Read::Refused(Refusal::NotHello);
     }
-    let Selected::Fit(layout) = select_layout(frame[PDU_TYPE], kind) else {
+    let Selected::Fit(layout) = select_layout(frame[PDU_TYPE]) else {
         return Read::Refused(Refusal::NotHello);
     };
-    read_as(frame, layout, mac)
+    let own = layout.kind;
+    if is_same_kind(own, kind) {
+        return read_as(frame, layout, mac);
+    }
+    Read::Refused(Refusal::NotHello)
 }

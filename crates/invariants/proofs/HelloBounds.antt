@@ -1,8 +1,9 @@
 -- What a read hello brings: its Holding Time and the Remaining Time of its Restart TLV are at most two octets long, and it is of the circuit's
 -- kind.
-use Prim.Native.Nat.{ℕ, zero, suc, _+_, _%_, _≤_}
+use Prim.Native.Nat.{ℕ, zero, suc, _+_, _≤_}
 use native.Mathlib.Omega.{arith}
 use mathlib.Core.Path.{_≡_, refl}
+use mathlib.Core.Bool.{true}
 use mathlib.Core.List.{List, [], _∷_}
 use lib.ListN.{length, take, drop, List·getD-eq-default, length-take}
 use lib.Seq.{getD-take, getD-drop}
@@ -16,12 +17,11 @@ use Rattle.basics.proofs.BoolLaws.{by-test}
 use Rattle.basics.proofs.OctetsLaws.{big-lt}
 use Rattle.restart_tlv.specs.Flags.{counted, invalid, needsTime}
 use Rattle.restart_tlv.specs.Restart.{timeOf, restartWith, restartIn}
-use Rattle.hello.specs.Header.{lanOn, p2pOn, layoutOf, headerOf, notHello, badLength, pduLength}
-use Rattle.hello.specs.Hello.{ofKind, ruleFault, linkOf, tlvsRead, pduRead, layoutRead, helloRead}
+use Rattle.hello.specs.Header.{layoutOf, sameKind, onCircuit, notHello, badLength, pduLength}
+use Rattle.hello.specs.Hello.{ofKind, ruleFault, linkOn, tlvsRead, pduRead, layoutRead, helloRead}
 use Rattle.basics.specs.declared.kind.CircuitKind.{CircuitKind}
 use Rattle.basics.specs.declared.kind.CircuitKind.the-variants.{Lan as LanCircuit, P2p as P2pCircuit}
 use Rattle.hello.specs.declared.header.Layout.{Layout}
-use Rattle.hello.specs.declared.header.Layout.the-variants.{Lan as LanLayout, P2p as P2pLayout}
 use Rattle.hello.specs.declared.header.Selected.{Selected}
 use Rattle.hello.specs.declared.header.Selected.the-variants.{Fit, Unfit}
 use Rattle.hello.specs.declared.read.Hello.{Hello}
@@ -84,24 +84,21 @@ abbrev pub kindOf : Link → CircuitKind
 kindOf (LanLink level priority listed) = LanCircuit
 kindOf (P2pLink t) = P2pCircuit
 
-abbrev layoutKind : Layout → CircuitKind
-layoutKind (LanLayout level) = LanCircuit
-layoutKind P2pLayout = P2pCircuit
+same-kind : (a b : CircuitKind) → sameKind a b ≡ true → a ≡ b
+same-kind LanCircuit LanCircuit e = refl
+same-kind LanCircuit P2pCircuit e = cc
+same-kind P2pCircuit LanCircuit e = cc
+same-kind P2pCircuit P2pCircuit e = refl
 
-lan-kind : (kind : CircuitKind) (level : ℕ) (l : Layout) → lanOn kind level ≡ Fit l → layoutKind l ≡ kind
-lan-kind LanCircuit level l e = let z : l ≡ LanLayout level = cc in rw z refl
-lan-kind P2pCircuit level l e = cc
+fit-kind : (kind : CircuitKind) (x : Selected) (l : Layout) → onCircuit kind x ≡ Fit l → l .kind ≡ kind
+fit-kind kind Unfit l e = cc
+fit-kind kind (Fit m) l e =
+    by-test (sameKind (m .kind) kind) (λ a. let z : Fit m ≡ Fit l = rw a at e in let w : m ≡ l = cc in rw (← w) (same-kind _ _ a))
+    (λ a. let z : Unfit ≡ Fit l = rw a at e in cc)
 
-p2p-kind : (kind : CircuitKind) (l : Layout) → p2pOn kind ≡ Fit l → layoutKind l ≡ kind
-p2p-kind LanCircuit l e = cc
-p2p-kind P2pCircuit l e = let z : l ≡ P2pLayout = cc in rw z refl
-
-fit-kind : (kind : CircuitKind) (t : ℕ) (l : Layout) → layoutOf t kind ≡ Fit l → layoutKind l ≡ kind
-unfolding layoutOf
-fit-kind kind t l e =
-    by-test (eqb (t % 32) 15) (λ a. lan-kind kind 1 l (rw a at e))
-    (λ a. by-test (eqb (t % 32) 16) (λ b. lan-kind kind 2 l (rw (a, b) at e))
-    (λ b. by-test (eqb (t % 32) 17) (λ c. p2p-kind kind l (rw (a, b, c) at e)) (λ c. let z = rw (a, b, c) at e in cc)))
+link-kind : (kind : CircuitKind) (l : Layout) (mac : ℕ) (p : List ℕ) → kindOf (linkOn kind l mac p) ≡ kind
+link-kind LanCircuit l mac p = refl
+link-kind P2pCircuit l mac p = refl
 
 -- ---- the frame, by the stages of its reading
 
@@ -114,29 +111,25 @@ unfolding unless
 brief-unless Nothing x y p q = p
 brief-unless (At i) x y p q = q
 
-layout-kind : (l : Layout) (mac : ℕ) (p : List ℕ) → kindOf (linkOf l mac p) ≡ layoutKind l
-layout-kind (LanLayout level) mac p = refl
-layout-kind P2pLayout mac p = refl
-
 module _ (mac : ℕ) where
-  brief-pdu : (l : Layout) (p : List ℕ) → Octets p → Brief (layoutKind l) (pduRead l mac p)
+  brief-pdu : (l : Layout) (p : List ℕ) → Octets p → Brief (l .kind) (pduRead l mac p)
   unfolding pduRead tlvsRead tlvs
   brief-pdu l p h =
-      brief-unless (cutAt (tlvs p (headerOf l))) _ _
+      brief-unless (cutAt (tlvs p (l .header))) _ _
       (brief-unless (ruleFault l p) _ _
-      (accepted (two-octets p 15 h) (time-in (ofKind 211 l p) (values-up _ 211 p (headerOf l) h)) (layout-kind l mac p)) refused)
+      (accepted (two-octets p 15 h) (time-in (ofKind 211 l p) (values-up _ 211 p (l .header) h)) (link-kind (l .kind) l mac p)) refused)
       refused
 
-  brief-layout : (kind : CircuitKind) (x : Selected) (s : List ℕ) → ((l : Layout) → x ≡ Fit l → layoutKind l ≡ kind) → Octets s
+  brief-layout : (kind : CircuitKind) (x : Selected) (s : List ℕ) → ((l : Layout) → x ≡ Fit l → l .kind ≡ kind) → Octets s
       → Brief kind (layoutRead x mac s)
   unfolding layoutRead
   brief-layout kind Unfit s fit h = refused
   brief-layout kind (Fit l) s fit h =
-      by-test (badLength s (headerOf l)) (λ a. rw a refused)
+      by-test (badLength s (l .header)) (λ a. rw a refused)
       (λ a. rw (a, ← fit l refl) (brief-pdu l (take (pduLength s) s) (take-octets s (pduLength s) h)))
 
   pub brief-read : (kind : CircuitKind) (s : List ℕ) → Octets s → Brief kind (helloRead kind mac s)
   unfolding helloRead
   brief-read kind s h =
       by-test (notHello s) (λ a. rw a refused)
-      (λ a. rw a (brief-layout kind (layoutOf (octet s 4) kind) s (fit-kind kind (octet s 4)) h))
+      (λ a. rw a (brief-layout kind (onCircuit kind (layoutOf (octet s 4))) s (fit-kind kind (layoutOf (octet s 4))) h))

@@ -7,6 +7,7 @@ use mathlib.Core.List.{List}
 use lib.ListN.{getD, take, drop}
 use lib.Seq.{take-all}
 use Rattle.basics.specs.Octets.{octet}
+use Rattle.basics.specs.Mask.{circuits}
 use Rattle.basics.specs.declared.refusal.Refusal.the-variants.{BadSetting}
 use Rattle.basics.proofs.ListLaws.{getD-tabulate, every-here, every-skip, every-end}
 use Rattle.basics.specs.Lists.{every}
@@ -20,13 +21,13 @@ use Rattle.isis_gr.specs.Settings.{circuitPlace, circuitPlaces, circuitK
 
 -- ---- the circuits' numbers
 
-module _ (s : List ℕ) (count i : ℕ) (le : count ≤ 8) where
+module _ (s : List ℕ) (count i : ℕ) (le : count ≤ circuits) where
   pub known-end : count ≤ i → every (circuitKnown s) (drop i (take count circuitPlaces)) ≡ true
   known-end h = every-end (circuitKnown s) count circuitPlaces i le h
 
   module _ (lt : i < count) where
     place : circuitKnown s (circuitPlace i) ≡ circuitKnown s (getD circuitPlaces i 0)
-    place = ap (circuitKnown s) (sym (getD-tabulate circuitPlace 8 i 0 (omega arith)))
+    place = ap (circuitKnown s) (sym (getD-tabulate circuitPlace circuits i 0 (omega arith)))
 
     pub known-here : circuitKnown s (circuitPlace i) ≡ false → every (circuitKnown s) (drop i (take count circuitPlaces)) ≡ false
     known-here e = every-here (circuitKnown s) count circuitPlaces i le 0 lt (sym place ∙ e)
@@ -47,7 +48,7 @@ module _ (s : List ℕ) where
     unfolding settingsKnown
     known-first = rw (e, is) refl
 
-    pub known-all : 8 ≤ count → every (circuitKnown s) (take 8 circuitPlaces) ≡ settingsKnown s
+    pub known-all : circuits ≤ count → every (circuitKnown s) (take circuits circuitPlaces) ≡ settingsKnown s
     known-all h = ap (every (circuitKnown s)) (sym (take-all count circuitPlaces h)) ∙ known-first
 
 -- ---- setup

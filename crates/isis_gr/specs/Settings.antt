@@ -1,7 +1,7 @@
 -- The settings as octets (house), and what setup on them is to do. Numbers are big-endian; places count from 0:
 --
---   place  0-5     6-7  8-9  10     11-14  15    16     17-168
---          system  t1   t2   tries  clock  mode  count  eight circuits
+--   place  0-5     6-7  8-9  10     11-14  15    16     17-
+--          system  t1   t2   tries  clock  mode  count  as many circuits as a gateway has at most
 --
 -- and of each circuit's 19 octets
 --
@@ -13,6 +13,7 @@ use mathlib.Core.Bool.{Bool, cond, _&&_}
 use mathlib.Core.List.{List, map}
 use lib.ListN.{take}
 use Rattle.basics.specs.Octets.{octet, big}
+use Rattle.basics.specs.Mask.{circuits}
 use Rattle.basics.specs.declared.refusal.Refusal.the-variants.{BadSetting}
 use Rattle.basics.specs.Lists.{tabulate, every}
 use Rattle.settings.specs.declared.circuit.Circuit.{Circuit}
@@ -23,15 +24,15 @@ use Rattle.gateway.specs.Words.{gatewayOf}
 use Rattle.gateway.specs.Setup.{Refused as RefusedReport, reportIn, startedIn}
 use Rattle.isis_gr.specs.Words.{reportNo, modeOf, modeKnown, kindOf, kindKnown, levelsOf, levelsKnown}
 
-abbrev pub settingsOctets : ℕ
-settingsOctets = 169
-
--- where the eight circuits' octets start
+-- where the octets of each circuit start
 abbrev pub circuitPlace : ℕ → ℕ
 circuitPlace i = 17 + 19 * i
 
 abbrev pub circuitPlaces : List ℕ
-circuitPlaces = tabulate circuitPlace 8
+circuitPlaces = tabulate circuitPlace circuits
+
+abbrev pub settingsOctets : ℕ
+settingsOctets = circuitPlace circuits
 
 -- the circuit whose octets start at a
 unfoldable pub circuitFrom : List ℕ → ℕ → Circuit

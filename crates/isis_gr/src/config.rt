@@ -1,6 +1,7 @@
 // The settings of setup from octets; specs/Settings.antt says where each stands, and specs/Words.antt which numbers are known.
 use basics::kind::CircuitKind;
 use basics::levels::Levels;
+use basics::mask::CIRCUITS;
 use basics::octets::four;
 use basics::octets::two;
 use basics::octets::wide;
@@ -13,12 +14,13 @@ ghost use mathlib.Core.List.{map};
 ghost use Prim.Native.Nat.{_+_, _<_, _≤_};
 ghost use lib.ListN.{length, take};
 ghost use Rattle.basics.specs.Octets.{big};
+ghost use Rattle.basics.specs.Mask.{circuits};
 ghost use Rattle.basics.specs.Lists.{every};
 ghost use Rattle.gateway.specs.Setup.{circuitGiven, settingsGiven};
 ghost use Rattle.isis_gr.specs.Words.{modeOf, kindOf, levelsOf};
 ghost use Rattle.isis_gr.specs.Settings.{settingsOctets, circuitPlaces, circuitFrom, settingsFrom, circuitKnown, settingsKnown};
 
-pub const SETTINGS_OCTETS: usize = 169;
+pub const SETTINGS_OCTETS: usize = FIRST_CIRCUIT + CIRCUIT_OCTETS * CIRCUITS;
 
 // Where the settings stand.
 const SYSTEM: usize = 0;
@@ -35,7 +37,7 @@ const MODE: usize = 15;
 
 const COUNT: usize = 16;
 
-const CIRCUITS: usize = 17;
+const FIRST_CIRCUIT: usize = 17;
 
 // The octets of a circuit, and where its settings stand among them.
 const CIRCUIT_OCTETS: usize = 19;
@@ -105,19 +107,19 @@ fn circuit_at(s: &[u8], at: usize) -> CircuitSettings
     }
 }
 
-fn circuits_in(s: &[u8]) -> [CircuitSettings; 8]
+fn circuits_in(s: &[u8]) -> [CircuitSettings; CIRCUITS]
     requires { ⌜ length (now s) ≡ settingsOctets ⌝ }
     ensures { λ r. ⌜ map circuitGiven r ≡ map (circuitFrom (now (s .entry))) circuitPlaces ⌝ }
 {
     [
-        circuit_at(s, CIRCUITS),
-        circuit_at(s, CIRCUITS + CIRCUIT_OCTETS),
-        circuit_at(s, CIRCUITS + 2 * CIRCUIT_OCTETS),
-        circuit_at(s, CIRCUITS + 3 * CIRCUIT_OCTETS),
-        circuit_at(s, CIRCUITS + 4 * CIRCUIT_OCTETS),
-        circuit_at(s, CIRCUITS + 5 * CIRCUIT_OCTETS),
-        circuit_at(s, CIRCUITS + 6 * CIRCUIT_OCTETS),
-        circuit_at(s, CIRCUITS + 7 * CIRCUIT_OCTETS),
+        circuit_at(s, FIRST_CIRCUIT),
+        circuit_at(s, FIRST_CIRCUIT + CIRCUIT_OCTETS),
+        circuit_at(s, FIRST_CIRCUIT + 2 * CIRCUIT_OCTETS),
+        circuit_at(s, FIRST_CIRCUIT + 3 * CIRCUIT_OCTETS),
+        circuit_at(s, FIRST_CIRCUIT + 4 * CIRCUIT_OCTETS),
+        circuit_at(s, FIRST_CIRCUIT + 5 * CIRCUIT_OCTETS),
+        circuit_at(s, FIRST_CIRCUIT + 6 * CIRCUIT_OCTETS),
+        circuit_at(s, FIRST_CIRCUIT + 7 * CIRCUIT_OCTETS),
     ]
 }
 
@@ -155,12 +157,12 @@ fn is_circuit_known(s: &[u8], at: usize) -> bool
 }
 
 fn are_circuits_known(s: &[u8], count: usize) -> bool
-    requires { ⌜ (length (now s) ≡ settingsOctets) × (count ≤ 8) ⌝ }
+    requires { ⌜ (length (now s) ≡ settingsOctets) × (count ≤ circuits) ⌝ }
     ensures { λ r. ⌜ r ≡ every (circuitKnown (now (s .entry))) (take count circuitPlaces) ⌝ }
 {
     let mut i = 0;
     while i < count {
-        if is_circuit_known(s, CIRCUITS + CIRCUIT_OCTETS * i) {
+        if is_circuit_known(s, FIRST_CIRCUIT + CIRCUIT_OCTETS * i) {
             i += 1;
         } else {
             return false;
@@ -176,10 +178,10 @@ pub(crate) fn are_settings_known(s: &[u8]) -> bool
 {
     let count = wide(s[COUNT]);
     if s[MODE] < 2 {
-        if count < 8 {
+        if count < CIRCUITS {
             return are_circuits_known(s, count);
         }
-        return are_circuits_known(s, 8);
+        return are_circuits_known(s, CIRCUITS);
     }
     false
 }

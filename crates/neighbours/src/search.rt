@@ -95,20 +95,19 @@ fn listed_short(v: &[u8], mac: u64, start: usize) -> bool
     false
 }
 
-// The same of a value of five or more, by fours. The last four are asked together, some of them for the second time.
+// The same of a value of five or more, by fours from the end. The second to the fifth are asked last, some of them for the second time.
 fn listed_long(v: &[u8], mac: u64, start: usize) -> bool
     requires { ⌜ (30 ≤ length (now v)) × (listedTo mac (now v) 1 ≡ false) × SoughtAs mac start ⌝ }
     ensures { λ r. ⌜ r ≡ listedIn mac (now (v .entry)) ⌝ }
 {
-    let n = v.len() - v.len() % 6 - 26;
-    let mut i = 4;
-    while i < n {
-        if one_of_four(v, i, mac, start) {
+    let mut i = v.len() - v.len() % 6;
+    while 30 < i {
+        if one_of_four(v, i - 26, mac, start) {
             return true;
         }
-        i += 24;
+        i -= 24;
     }
-    one_of_four(v, n, mac, start)
+    one_of_four(v, 4, mac, start)
 }
 
 // Whether the MAC is one of those in a value. Octets past the last whole six are no MAC.

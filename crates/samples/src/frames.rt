@@ -1,6 +1,7 @@
 // The hello frames of the sample runs, and a gateway to take them: one circuit, own System ID 1921.6800.1001, neighbour 1921.6800.1002.
 use basics::kind::CircuitKind;
 use basics::levels::Levels;
+use basics::mask::CIRCUITS;
 use gateway::calls::GATEWAY_WORDS;
 use gateway::calls::set_up;
 use gateway::config::CircuitSettings;
@@ -51,7 +52,7 @@ pub fn start(
             clock,
             mode,
             count: 1,
-            circuits: [one; 8],
+            circuits: [one; CIRCUITS],
         },
     );
 }

@@ -3,7 +3,7 @@
 use crate::shapes::{lan, listed, settings};
 use isis_gr_differential::proved::{octets, Memory};
 use isis_gr_reference::{Gateway, Mac, Settings};
-use isis_gr_sys::{isis_gr_raw_look_up, isis_gr_raw_receive, isis_gr_raw_set_up, isis_gr_raw_tick};
+use isis_gr_sys::{isis_gr_raw_look_up, isis_gr_raw_receive, isis_gr_raw_set_up, isis_gr_raw_tick, GATEWAY_WORDS};
 use std::hint::black_box;
 use std::time::Instant;
 
@@ -35,7 +35,7 @@ impl Both {
     }
 
     pub fn of(settings: &Settings) -> Both {
-        let mut memory = Memory([0; 640]);
+        let mut memory = Memory([0; GATEWAY_WORDS]);
         memory.set_up(&octets(settings)).expect("in range");
         Both { memory, reference: Gateway::set_up(settings).expect("in range").0 }
     }

@@ -5,6 +5,7 @@ use crate::frames::{mac, system, Meant, MACS, SYSTEMS};
 use crate::proved::{octets, Memory};
 use crate::random::Random;
 use isis_gr_reference::{Freed, Gateway, Kind, Mac, Mark, Mode, Overload, Received, Record, Refusal, ReplyKind, Settings, TimerOutcome};
+use isis_gr_sys::{CIRCUITS, GATEWAY_WORDS};
 
 /// Both gateways, and the settings that they came from.
 pub struct Pair {
@@ -66,7 +67,7 @@ impl Pair {
     pub fn new(r: &mut Random, c: &mut Coverage, mode: Mode) -> Pair {
         let settings = settings(r, mode);
         let filling = r.pick(&[0, u64::MAX, 0x0101_0101_0101_0101, 5_283_647_409_863_405_617]);
-        let mut memory = Memory([filling; 640]);
+        let mut memory = Memory([filling; GATEWAY_WORDS]);
         let bad = spoilt(r, settings.clone());
         let before = memory.clone();
         assert_eq!(memory.set_up(&octets(&bad)), Err(Refusal::Setting), "{bad:?}");
@@ -85,7 +86,7 @@ impl Pair {
 
     /// Every record of every key that frames can have.
     pub fn look_at_all(&self) {
-        for circuit in 1..=8 {
+        for circuit in 1..=CIRCUITS as u8 {
             for level in 1..=2 {
                 for from in 0..SYSTEMS {
                     for n in 0..MACS {

@@ -4,6 +4,7 @@ use crate::frames::{mac, system, MACS, SYSTEMS};
 use crate::proved::{octets, Memory};
 use crate::random::Random;
 use isis_gr_reference::{Kind, Mac, Mode, Refusal, Settings};
+use isis_gr_sys::GATEWAY_WORDS;
 
 #[derive(Clone, Debug, PartialEq)]
 enum Answer {
@@ -100,7 +101,7 @@ pub fn run(seed: u64, calls: u64) -> (u64, bool) {
     let s = settings(&mut r, Mode::Running);
     let bad = Bad { circuit: 1 + r.below(s.circuits.len() as u64) as u8, source: mac(r.below(3) as u8) };
     let lan = s.circuits[usize::from(bad.circuit) - 1].kind == Kind::Lan;
-    let mut memory = Memory([0; 640]);
+    let mut memory = Memory([0; GATEWAY_WORDS]);
     memory.set_up(&octets(&s)).expect("in range");
     let mut a = Run { memory: memory.clone(), stands: lan };
     let mut b = Run { memory, stands: lan };

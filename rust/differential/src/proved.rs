@@ -7,7 +7,7 @@ use isis_gr_sys::*;
 
 /// A gateway's memory.
 #[derive(Clone, PartialEq, Eq)]
-pub struct Memory(pub [u64; 640]);
+pub struct Memory(pub [u64; GATEWAY_WORDS]);
 
 fn code<T>(word: u64, value: T) -> Result<T, Refusal> {
     match (word & 0xFF) as u8 {
@@ -41,7 +41,7 @@ fn levels(mask: u8) -> Levels {
     Levels { one: mask & 1 == 1, two: mask & 2 == 2 }
 }
 
-fn bools(mask: u8) -> [bool; 8] {
+fn bools(mask: u8) -> [bool; CIRCUITS] {
     std::array::from_fn(|i| mask >> i & 1 == 1)
 }
 
@@ -57,8 +57,8 @@ fn timers(word: u64) -> TimerOutcome {
 }
 
 /// The octets of settings as the boundary has them.
-pub fn octets(settings: &Settings) -> [u8; 169] {
-    let mut out = [0; 169];
+pub fn octets(settings: &Settings) -> [u8; SETTINGS_OCTETS] {
+    let mut out = [0; SETTINGS_OCTETS];
     out[..6].copy_from_slice(&settings.system);
     out[6..8].copy_from_slice(&settings.t1.to_be_bytes());
     out[8..10].copy_from_slice(&settings.t2.to_be_bytes());
@@ -82,7 +82,7 @@ pub fn octets(settings: &Settings) -> [u8; 169] {
 
 impl Memory {
     /// Setup over whatever the memory was.
-    pub fn set_up(&mut self, octets: &[u8; 169]) -> Result<Hellos, Refusal> {
+    pub fn set_up(&mut self, octets: &[u8; SETTINGS_OCTETS]) -> Result<Hellos, Refusal> {
         // SAFETY: both references are valid for the sizes that the archive reads and writes.
         let word = u64::from(unsafe { isis_gr_raw_set_up(self.0.as_mut_ptr(), octets.as_ptr()) });
         code(word, bools((word >> 8) as u8))

@@ -1,7 +1,7 @@
 //! The archive's functions over references. All unsafe code of the crate is here.
 use isis_gr_sys as raw;
 
-pub(crate) use raw::{GATEWAY_WORDS, SETTINGS_OCTETS};
+pub(crate) use raw::{CIRCUITS, GATEWAY_WORDS, SETTINGS_OCTETS};
 
 pub(crate) type Words = [u64; GATEWAY_WORDS];
 

@@ -1,4 +1,5 @@
 //! What calls are about: circuits, levels, System IDs and MACs.
+use crate::ffi::CIRCUITS;
 use std::fmt;
 
 /// A circuit's number, 1 to 8.
@@ -14,7 +15,7 @@ impl Circuit {
     /// assert!(Circuit::new(0).is_none());
     /// ```
     pub fn new(number: u8) -> Option<Circuit> {
-        (1..=8).contains(&number).then_some(Circuit(number))
+        (1..=CIRCUITS).contains(&usize::from(number)).then_some(Circuit(number))
     }
 
     /// Its number.
@@ -45,7 +46,7 @@ impl Circuits {
     /// assert_eq!(Circuits::default().iter().count(), 0);
     /// ```
     pub fn iter(self) -> impl Iterator<Item = Circuit> {
-        (1..=8).map(Circuit).filter(move |circuit| self.contains(*circuit))
+        (1..=CIRCUITS as u8).map(Circuit).filter(move |circuit| self.contains(*circuit))
     }
 }
 

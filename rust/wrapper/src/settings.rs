@@ -1,4 +1,5 @@
 //! The settings that a gateway is set up with (document 01, "What the gateway holds").
+use crate::ffi::{CIRCUITS, SETTINGS_OCTETS};
 use crate::names::{Levels, Mac, SystemId};
 
 /// The kind of a circuit.
@@ -68,7 +69,7 @@ pub struct Settings {
     pub(crate) t2: u16,
     pub(crate) tries: u8,
     pub(crate) count: usize,
-    pub(crate) circuits: [CircuitSettings; 8],
+    pub(crate) circuits: [CircuitSettings; CIRCUITS],
 }
 
 /// The first setting that is out of its range.
@@ -95,7 +96,7 @@ impl Settings {
     /// A gateway with no circuit yet: our own System ID, the mode, and the clock in seconds.
     pub fn new(system: SystemId, mode: Mode, clock: u32) -> Settings {
         let blank = CircuitSettings::new(Kind::Lan, Levels::BOTH, Mac([0; 6]));
-        Settings { system, mode, clock, t1: 3, t2: 60, tries: 3, count: 0, circuits: [blank; 8] }
+        Settings { system, mode, clock, t1: 3, t2: 60, tries: 3, count: 0, circuits: [blank; CIRCUITS] }
     }
 
     /// One more circuit; the first has the number 1.
@@ -134,7 +135,7 @@ impl Settings {
         });
         let faults = [(self.t1 == 0, "t1"), (self.t2 == 0, "t2"), (self.tries == 0, "tries")];
         let lengths = faults.into_iter().find(|(bad, _)| *bad).map(|(_, field)| whole(field));
-        if (1..=8).contains(&self.count) {
+        if (1..=CIRCUITS).contains(&self.count) {
             circuits.or(lengths).unwrap_or(whole("settings"))
         } else {
             whole("circuit")
@@ -142,8 +143,8 @@ impl Settings {
     }
 
     /// The octets that the archive takes.
-    pub(crate) fn octets(&self) -> [u8; crate::ffi::SETTINGS_OCTETS] {
-        let mut out = [0; crate::ffi::SETTINGS_OCTETS];
+    pub(crate) fn octets(&self) -> [u8; SETTINGS_OCTETS] {
+        let mut out = [0; SETTINGS_OCTETS];
         out[..6].copy_from_slice(&self.system.0);
         out[6..8].copy_from_slice(&self.t1.to_be_bytes());
         out[8..10].copy_from_slice(&self.t2.to_be_bytes());

@@ -1,5 +1,5 @@
 -- Each return is one test of `helloRead`.
-use Rattle.hello.proofs.HelloLaws.{eight}
+use Rattle.hello.proofs.HelloLaws.{eight, header-least}
 use Rattle.hello.specs.Hello.{helloRead, layoutRead}
 use native.Mathlib.Omega.{arith}
 use mathlib.Core.Path.{sym, _∙_}
@@ -30,12 +30,19 @@ returns-2 : tie.Need-returns-2
 unfolding helloRead layoutRead
 returns-2 c = rw (sym (c .before .before .before .before .before .is-not-hello .ensures) ∙ c .before .before .before .before .if1 .left, sym (c .before .before .select-layout .ensures) ∙ c .enum-told .given .1)
 
+is-same-kind-requires : tie.Need-is-same-kind-requires
+is-same-kind-requires c κs = search needs
+
 read-as-requires : tie.Need-read-as-requires
-read-as-requires c κs = search needs
+read-as-requires c κs = header-least _ _ _ (c .before .before .before .before .before .select-layout .ensures) (c .before .before .before .layout .given .1)
 
 returns-3 : tie.Need-returns-3
 unfolding helloRead
-returns-3 c = rw (sym (c .before .before .before .before .before .before .before .is-not-hello .ensures) ∙ c .before .before .before .before .before .before .if1 .left, sym (c .before .before .before .before .select-layout .ensures) ∙ c .before .before .layout .given .1) (c .read-as .ensures)
+returns-3 c = rw (sym (c .before .before .before .before .before .before .before .before .before .is-not-hello .ensures) ∙ c .before .before .before .before .before .before .before .before .if1 .left, sym (c .before .before .before .before .before .before .select-layout .ensures) ∙ c .before .before .before .before .layout .given .1, sym (c .before .before .is-same-kind .ensures) ∙ c .before .if2 .taken) (c .read-as .ensures)
+
+returns-4 : tie.Need-returns-4
+unfolding helloRead layoutRead
+returns-4 c = rw (sym (c .before .before .before .before .before .before .before .before .is-not-hello .ensures) ∙ c .before .before .before .before .before .before .before .if1 .left, sym (c .before .before .before .before .before .select-layout .ensures) ∙ c .before .before .before .layout .given .1, sym (c .before .is-same-kind .ensures) ∙ c .if2 .left)
 
 pub read-hello-spec : {M : Type 1} → statement M
 read-hello-spec =
@@ -48,5 +55,7 @@ read-hello-spec =
     enum-known-layout
     enum-told
     returns-2
+    is-same-kind-requires
     read-as-requires
-    returns-3)
+    returns-3
+    returns-4)

@@ -17,8 +17,8 @@ enum-told c = search needs
 returns : tie.Need-returns
 returns c = sym (lan-bad _ _ _ (sym (c .before .before .read-lists .ensures) ∙ c .enum-told .given .1))
 
-shared-slice-read-t8 : tie.Need-shared-slice-read-t8
-shared-slice-read-t8 c = search needs
+shared-slice-read-t9 : tie.Need-shared-slice-read-t9
+shared-slice-read-t9 c = search needs
 
 returns-2 : tie.Need-returns-2
 returns-2 c = sym (lan-good _ _ _ _ (sym (c .before .before .before .before .read-lists .ensures) ∙ c .before .before .listed .given .1))
@@ -31,5 +31,5 @@ read-lan-spec =
     enum-known-listed
     enum-told
     returns
-    shared-slice-read-t8
+    shared-slice-read-t9
     returns-2)

@@ -15,10 +15,10 @@ enum-told : tie.Need-enum-told
 enum-told c = search needs
 
 returns : tie.Need-returns
-returns c = sym (p2p-bad _ _ (sym (c .before .before .read-three-way .ensures) ∙ c .enum-told .given .1))
+returns c = sym (p2p-bad _ _ _ (sym (c .before .before .read-three-way .ensures) ∙ c .enum-told .given .1))
 
 returns-2 : tie.Need-returns-2
-returns-2 c = sym (p2p-good _ _ _ (sym (c .before .before .before .read-three-way .ensures) ∙ c .before .three-way .given .1))
+returns-2 c = sym (p2p-good _ _ _ _ (sym (c .before .before .before .read-three-way .ensures) ∙ c .before .three-way .given .1))
 
 pub read-p2p-spec : {M : Type 1} → statement M
 read-p2p-spec =

@@ -16,13 +16,13 @@ enum-told : tie.Need-enum-told
 enum-told c = search needs
 
 returns : tie.Need-returns
-returns c = sym (at-cut _ _ _ _ (rw (c .before .before .before .before .pre .0) at (sym (c .before .before .walked .ensures) ∙ c .enum-told .given .1)))
+returns c = sym (at-cut _ _ _ _ (sym (c .before .before .walked .ensures) ∙ c .enum-told .given .1))
 
 read-tlvs-requires : tie.Need-read-tlvs-requires
-read-tlvs-requires c κs = (c .before .before .before .before .before .pre .0, c .before .before .before .before .before .pre .1, c .before .before .before .before .before .pre .2, walk-is-whole _ _ (sym (c .before .before .before .walked .ensures) ∙ c .before .counts .given .1) .1)
+read-tlvs-requires c κs = (c .before .before .before .before .before .pre, walk-is-whole _ _ (sym (c .before .before .before .walked .ensures) ∙ c .before .counts .given .1) .1)
 
 returns-2 : tie.Need-returns-2
-returns-2 c = c .read-tlvs .ensures ∙ sym (at-whole _ _ _ _ (rw (c .before .before .before .before .before .before .pre .0) at (sym (c .before .before .before .before .walked .ensures) ∙ c .before .before .counts .given .1)))
+returns-2 c = c .read-tlvs .ensures ∙ sym (at-whole _ _ _ _ (sym (c .before .before .before .before .walked .ensures) ∙ c .before .before .counts .given .1))
 
 pub read-pdu-spec : {M : Type 1} → statement M
 read-pdu-spec =

@@ -1,8 +1,8 @@
 -- Each reading that is bad breaks a rule; where none is, each holds its part of the hello.
 use Rattle.hello.proofs.HelloLaws.{by-circuit, by-restart, by-reverse, by-link, accepted, link-is-bad, link-is-good, reverse-is-bad, reverse-is-good}
 use Rattle.restart_tlv.proofs.RestartLaws.{restart-is-bad, restart-is-good}
-use borrow.Author.Tests.{eq-eqb, ne-eqb}
 use Rattle.tlv.specs.declared.tlvs.Counts.{Counts}
+use borrow.Author.Tests.{eq-eqb, ne-eqb}
 use mathlib.Core.Path.{sym, ap, _∙_}
 use borrow.Author.Needs.{needs}
 use Rattle.hello.proofs.read.read_tlvs.Statement.{statement}
@@ -15,7 +15,7 @@ returns : tie.Need-returns
 returns c = sym (by-circuit _ _ _ (eq-eqb _ _ (c .if1 .taken)))
 
 read-link-requires : tie.Need-read-link-requires
-read-link-requires c κs = (rw (← c .before .before .before .pre .0) (c .before .before .before .pre .2), rw (← c .before .before .before .pre .0) (c .before .before .before .pre .3))
+read-link-requires c κs = search needs
 
 enum-known-link : tie.Need-enum-known-link
 enum-known-link c = search needs
@@ -27,7 +27,7 @@ returns-2 : tie.Need-returns-2
 returns-2 c = sym (by-link _ _ _ (link-is-bad _ _ _ (sym (c .before .before .read-link .ensures) ∙ c .enum-told .given .1)))
 
 read-restart-requires : tie.Need-read-restart-requires
-read-restart-requires c κs = ap (λ (n : Counts). n .restart) (c .before .before .before .before .before .before .before .pre .3)
+read-restart-requires c κs = ap (λ (n : Counts). n .restart) (c .before .before .before .before .before .before .before .pre .1)
 
 enum-known-restart : tie.Need-enum-known-restart
 enum-known-restart c = search needs
@@ -36,10 +36,10 @@ enum-told-2 : tie.Need-enum-told-2
 enum-told-2 c = search needs
 
 returns-3 : tie.Need-returns-3
-returns-3 c = sym (by-restart _ _ _ (restart-is-bad _ (rw (c .before .before .before .before .before .before .before .before .before .before .pre .0) at (sym (c .before .before .read-restart .ensures) ∙ c .enum-told2 .given .1))))
+returns-3 c = sym (by-restart _ _ _ (restart-is-bad _ (sym (c .before .before .read-restart .ensures) ∙ c .enum-told2 .given .1)))
 
 read-reverse-requires : tie.Need-read-reverse-requires
-read-reverse-requires c κs = ap (λ (n : Counts). n .reverse) (c .before .before .before .before .before .before .before .before .before .before .before .pre .3)
+read-reverse-requires c κs = ap (λ (n : Counts). n .reverse) (c .before .before .before .before .before .before .before .before .before .before .before .pre .1)
 
 enum-known-reverse : tie.Need-enum-known-reverse
 enum-known-reverse c = search needs
@@ -48,7 +48,7 @@ enum-told-3 : tie.Need-enum-told-3
 enum-told-3 c = search needs
 
 returns-4 : tie.Need-returns-4
-returns-4 c = sym (by-reverse _ _ _ (reverse-is-bad _ (rw (c .before .before .before .before .before .before .before .before .before .before .before .before .before .before .pre .0) at (sym (c .before .before .read-reverse .ensures) ∙ c .enum-told3 .given .1))))
+returns-4 c = sym (by-reverse _ _ _ (reverse-is-bad _ (sym (c .before .before .read-reverse .ensures) ∙ c .enum-told3 .given .1)))
 
 six-requires : tie.Need-six-requires
 six-requires c κs = search needs
@@ -58,10 +58,9 @@ two-requires c κs = search needs
 
 returns-5 : tie.Need-returns-5
 returns-5 c =
-    let start = c .before .before .before .before .before .before .before .before .before .before .before .before .before .before .before .before .before in
     let k = link-is-good _ _ _ _ (sym (c .before .before .before .before .before .before .before .before .before .before .before .before .before .read-link .ensures) ∙ c .before .before .before .before .before .before .before .before .before .before .before .link .given .1) in
-    let r = restart-is-good _ _ (rw (start .pre .0) at (sym (c .before .before .before .before .before .before .before .before .before .read-restart .ensures) ∙ c .before .before .before .before .before .before .before .restart .given .1)) in
-    let m = reverse-is-good _ _ (rw (start .pre .0) at (sym (c .before .before .before .before .before .read-reverse .ensures) ∙ c .before .before .before .reverse .given .1)) in
+    let r = restart-is-good _ _ (sym (c .before .before .before .before .before .before .before .before .before .read-restart .ensures) ∙ c .before .before .before .before .before .before .before .restart .given .1) in
+    let m = reverse-is-good _ _ (sym (c .before .before .before .before .before .read-reverse .ensures) ∙ c .before .before .before .reverse .given .1) in
     rw (c .before .six .ensures, c .two .ensures, r .1, m .1, k .1) (sym (accepted _ _ _ (ne-eqb _ _ (c .before .before .before .before .before .before .before .before .before .before .before .before .before .before .if1 .left)) (r .0) (m .0) (k .0)))
 
 pub read-tlvs-spec : {M : Type 1} → statement M

@@ -1,4 +1,4 @@
--- The mode, then the first `count` circuits, of which there are eight at most.
+-- The mode, then the first `count` circuits, as far as there are so many.
 use Rattle.isis_gr.proofs.SettingsLaws.{unknown-mode, known-first, known-all}
 use mathlib.Core.Path.{sym, _∙_}
 use borrow.Author.Tests.{lt-ltb, le-ltb}

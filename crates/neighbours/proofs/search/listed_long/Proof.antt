@@ -1,52 +1,58 @@
--- The invariant: the MAC is not among those that end by octet i + 2. The law `by-four` goes one turn on, and from the last four to
--- all of them.
-use Prim.Native.Nat.{_+_, _-_, _/_, _%_, _≤_}
-use mathlib.Core.Bool.{false}
+-- The invariant: none of the MACs past octet i is ours, so ours is in the value just where it is among those before i. The law `by-four`
+-- goes one turn on, and from the first MAC to the first five.
+use Prim.Native.Nat.{_-_, _/_, _%_, _≤_}
+use mathlib.Core.Bool.{_||_, or-false}
 use mathlib.Core.Path.{_≡_, refl, sym, _∙_}
 use native.Mathlib.Omega.{arith}
 use lib.ListN.{length}
 use borrow.Author.Needs.{needs}
+use Rattle.basics.proofs.BoolLaws.{or-true, by-test}
 use Rattle.neighbours.proofs.SearchLaws.{by-four, listed-more, listed-fewer}
-use Rattle.neighbours.specs.Neighbours.{listedTo}
+use Rattle.neighbours.specs.Neighbours.{listedTo, listedIn}
+use Rattle.neighbours.specs.Search.{fourAt}
 use Rattle.neighbours.proofs.search.listed_long.Statement.{statement}
 use Rattle.neighbours.proofs.search.listed_long.Tie as tie
 
 abbrev Inv-loop : tie.InvT-loop
-Inv-loop v mac start n i₀ i = (i % 6 ≡ 4) × (i ≤ n + 24) × (listedTo mac v ((i + 2) / 6) ≡ false)
+Inv-loop v mac start i₀ i = (i % 6 ≡ 0) × (6 ≤ i) × (i ≤ length v) × (listedIn mac v ≡ listedTo mac v (i / 6))
 
 abbrev μ-loop : tie.MeasureT-loop
-μ-loop v mac start n i₀ i = n + 24 - i
+μ-loop v mac start i₀ i = i
 
-sub-n : tie.Need-sub-n Inv-loop μ-loop
-sub-n c = omega arith
-
-sub-n-2 : tie.Need-sub-n-2 Inv-loop μ-loop
-sub-n-2 c = omega arith
+sub-i : tie.Need-sub-i Inv-loop μ-loop
+sub-i c = omega arith
 
 loop-holds : tie.Need-loop-holds Inv-loop μ-loop
-loop-holds c = (refl, omega arith, c .before .pre .1)
+loop-holds c =
+    let n = length (c .before .args .v .now) in
+    let e : (n - n % 6) / 6 ≡ n / 6 = omega arith in
+    (omega arith, omega arith, omega arith, rw e)
+
+sub-one-of-four : tie.Need-sub-one-of-four Inv-loop μ-loop
+sub-one-of-four c = search needs
 
 one-of-four-requires : tie.Need-one-of-four-requires Inv-loop μ-loop
 one-of-four-requires c κs = search needs
 
--- a turn: the MAC is among those up to its end just where `one_of_four` found it
+-- a turn: the MAC is in the value just where it is among those before the four, or `one_of_four` found it
 turn : (f : tie.After-one-of-four Inv-loop μ-loop)
-    → listedTo (f .before .before .before .before .args .mac) (f .before .before .before .before .args .v .now) ((f .before .before .loop .i + 24 + 2) / 6) ≡ f .one-of-four .result
+    → listedIn (f .before .before .before .before .args .mac) (f .before .before .before .before .args .v .now)
+    ≡ (listedTo (f .before .before .before .before .args .mac) (f .before .before .before .before .args .v .now) ((f .before .before .loop .i - 24) / 6) || f .one-of-four .result)
 turn f =
     let l = f .before .before .loop in
-    by-four _ _ ((l .i + 2) / 6) (l .i) _ (omega arith) (omega arith) ∙ rw (l .inv .2, ← f .one-of-four .ensures)
+    l .inv .3 ∙ by-four _ _ ((l .i - 24) / 6) (l .i - 26) _ (omega arith) (omega arith) ∙ rw (← f .one-of-four .ensures)
 
 returns : tie.Need-returns Inv-loop μ-loop
-returns c = sym (listed-more _ _ _ _ (omega arith) (turn (c .before) ∙ c .if1 .taken))
+returns c = sym (turn (c .before) ∙ rw (c .if1 .taken, or-true _))
 
-add-i : tie.Need-add-i Inv-loop μ-loop
-add-i c = search needs
+sub-i-2 : tie.Need-sub-i-2 Inv-loop μ-loop
+sub-i-2 c = search needs
 
 loop-less : tie.Need-loop-less Inv-loop μ-loop
 loop-less c = search needs
 
 loop-again : tie.Need-loop-again Inv-loop μ-loop
-loop-again c = (omega arith, omega arith, turn (c .before) ∙ c .if1 .left)
+loop-again c = (omega arith, omega arith, omega arith, turn (c .before) ∙ rw (c .if1 .left, or-false))
 
 one-of-four-requires-2 : tie.Need-one-of-four-requires-2 Inv-loop μ-loop
 one-of-four-requires-2 c κs = search needs
@@ -55,9 +61,12 @@ returns-2 : tie.Need-returns-2 Inv-loop μ-loop
 returns-2 c =
     let l = c .before .before .loop in
     let a = c .before .before .before .before .args in
-    let n = length (a .v .now) - length (a .v .now) % 6 - 26 in
-    let before = listed-fewer (a .mac) (a .v .now) ((n + 2) / 6) ((l .i + 2) / 6) (omega arith) (l .inv .2) in
-    c .one-of-four2 .ensures ∙ sym (by-four (a .mac) (a .v .now) ((n + 2) / 6) n (length (a .v .now) / 6) (omega arith) (omega arith) ∙ rw before)
+    let five : listedTo (a .mac) (a .v .now) 5 ≡ fourAt (a .v .now) 4 (a .mac) =
+    by-four (a .mac) (a .v .now) 1 4 5 refl refl ∙ rw (c .before .before .before .before .pre .1) in
+    c .one-of-four2 .ensures ∙ sym five
+    ∙ by-test (listedTo (a .mac) (a .v .now) 5)
+    (λ t. t ∙ sym (listed-more _ _ 5 _ (omega arith) t))
+    (λ t. t ∙ sym (l .inv .3 ∙ listed-fewer _ _ _ 5 (omega arith) t))
 
 pub listed-long-spec : {M : Type 1} → statement M
 listed-long-spec =
@@ -65,12 +74,12 @@ listed-long-spec =
     (tie.spec
     Inv-loop
     μ-loop
-    sub-n
-    sub-n-2
+    sub-i
     loop-holds
+    sub-one-of-four
     one-of-four-requires
     returns
-    add-i
+    sub-i-2
     loop-less
     loop-again
     one-of-four-requires-2
