@@ -7,11 +7,13 @@
  * What the proofs assume of a caller:
  * - every pointer is valid for the length beside it, or for the size that its type says; NULL only with length 0;
  * - buffers of one call do not overlap, and nobody writes them during the call (a driver copies a DMA buffer first);
- * - nobody but these functions writes a gateway's words. Any content of them is a gateway all the same: a call on memory that was never
- *   set up is refused as one on a gateway without circuits, and changes nothing.
+ * - nobody but these functions writes a gateway's words. Any content of them is a gateway all the same: memory that was never set up holds no
+ *   circuit, so a call that names one is refused 1, a tick has nothing to do and is done, and nothing waits; no call but set up changes it.
+ * Separate gateways may be used by separate threads at one time; one gateway by one at a time.
  *
  * A refusal leaves the gateway and the reply buffer as they were, and the other fields of its answer 0. Circuits are numbered from 1 to 8. A
- * mask over circuits has bit 0 for circuit 1; a mask of levels has bit 0 for level 1. Times are seconds.
+ * mask over circuits has bit 0 for circuit 1; a mask of levels has bit 0 for level 1 (ISIS_GR_LEVEL_..). An argument `level` is the level's
+ * number, 1 or 2, and no mask. Times are seconds.
  */
 #ifndef ISIS_GR_H
 #define ISIS_GR_H
@@ -26,7 +28,7 @@ extern "C" {
 
 /* a changed number or layout raises the major version */
 #define ISIS_GR_VERSION_MAJOR 0
-#define ISIS_GR_VERSION_MINOR 5
+#define ISIS_GR_VERSION_MINOR 6
 
 #define ISIS_GR_GATEWAY_WORDS 640 /* equal to isis_gr_gateway_words(): compare the two at start-up */
 #define ISIS_GR_SETTINGS_OCTETS 169
@@ -56,8 +58,8 @@ enum { ISIS_GR_KIND_LAN = 0, ISIS_GR_KIND_P2P = 1 };
 enum { ISIS_GR_LEVEL_1 = 1, ISIS_GR_LEVEL_2 = 2, ISIS_GR_LEVEL_BOTH = 3 }; /* masks of levels */
 enum { ISIS_GR_REPLY_NONE = 0, ISIS_GR_REPLY_RA = 2, ISIS_GR_REPLY_PA = 16 };
 enum { ISIS_GR_T1_KEPT = 0, ISIS_GR_T1_STOPPED = 1, ISIS_GR_T1_REINITIALISE = 2 };
-enum { ISIS_GR_TIMERS_IDLE = 0, ISIS_GR_TIMERS_GO_ON = 1, ISIS_GR_TIMERS_ENDED = 2 };
-enum { ISIS_GR_OVERLOAD_QUIET = 0, ISIS_GR_OVERLOAD_SET = 1, ISIS_GR_OVERLOAD_CLEAR = 2, ISIS_GR_OVERLOAD_BOTH = 3 };
+enum { ISIS_GR_RESTART_NONE = 0, ISIS_GR_RESTART_GOES_ON = 1, ISIS_GR_RESTART_ENDED = 2 };
+enum { ISIS_GR_OVERLOAD_KEEP = 0, ISIS_GR_OVERLOAD_SET = 1, ISIS_GR_OVERLOAD_CLEAR = 2, ISIS_GR_OVERLOAD_BOTH = 3 };
 enum { ISIS_GR_RECORD_NONE = 0, ISIS_GR_RECORD_INIT = 1, ISIS_GR_RECORD_UP = 2 };
 enum { ISIS_GR_MARK_CLEAR = 0, ISIS_GR_MARK_RESTART = 1, ISIS_GR_MARK_PLANNED = 2 };
 enum { ISIS_GR_FLAG_RR = 1 };
@@ -94,9 +96,9 @@ typedef struct {
 
 /* How the timers of a router that restarts ended, and what they order. */
 typedef struct {
-    uint8_t end;      /* ISIS_GR_TIMERS_..: idle, the mode was Running; go on; ended, it is Running from this call on */
-    uint8_t spf;      /* mask of levels whose SPF is to run (RFC 8706, 3.3.1) */
-    uint8_t overload; /* ISIS_GR_OVERLOAD_..: set or clear the overload bit of our LSPs (RFC 8706, 3.3.1); both, in this order */
+    uint8_t restart;  /* ISIS_GR_RESTART_..: none, the mode was Running; it goes on; it ended, and the mode is Running from this call on */
+    uint8_t spf;      /* mask of levels whose SPF is to run (RFC 8706, 3.4.1.1) */
+    uint8_t overload; /* ISIS_GR_OVERLOAD_..: the overload bit of our LSPs (RFC 8706, 3.4.1.1); both: set it, then clear it */
 } isis_gr_timers;
 
 typedef struct {
@@ -106,11 +108,18 @@ typedef struct {
 
 typedef struct {
     uint32_t code;
-    uint8_t reply;          /* ISIS_GR_REPLY_..: the Restart TLV of 11 octets in the reply buffer goes into a hello now (RFC 8706, 3.2.1) */
-    uint16_t remaining;     /* its Remaining Time */
-    uint8_t csnps;          /* mask of levels: send a complete set of CSNPs there and set SRM flags (RFC 8706, 3.2.1) */
-    uint8_t t1;             /* ISIS_GR_T1_..: T1 was stopped for want of a Restart TLV; reinitialise: make the neighbour (RFC 8706, 3.3.1) */
+    uint8_t reply;      /* ISIS_GR_REPLY_..: the Restart TLV of 11 octets in the reply buffer goes into a hello now (RFC 8706, 3.2.1; PA: 3.2.3) */
+    uint16_t remaining; /* its Remaining Time */
+    uint8_t csnps;      /* mask of levels: send a complete set of CSNPs there and set SRM flags (RFC 8706, 3.2.1) */
+    uint8_t t1_end;     /* ISIS_GR_T1_..: kept; T1 was stopped for want of a Restart TLV; or that, and the adjacency must be made to
+                           reinitialise by a hello with three-way state Down (RFC 8706, 3.3.1) */
     isis_gr_timers timers;
+    /* the frame's record (the adjacency entry of ISO 10589) */
+    uint8_t level;        /* 1 or 2; 0 on P2P */
+    uint8_t system_id[6]; /* the sender's */
+    uint8_t before;       /* ISIS_GR_RECORD_..: how it stood before the frame */
+    uint8_t after;        /* ISIS_GR_RECORD_..: how it stands now */
+    uint8_t advertised;   /* 1 where it goes into our LSPs now: UP and not suppressed */
 } isis_gr_received;
 
 typedef struct {
@@ -158,12 +167,18 @@ typedef struct {
 
 /* ---- the archive's functions: words and octets, packed and unpacked below */
 
+typedef struct {
+    uint64_t answer;
+    uint64_t change;
+} isis_gr_raw_received;
+
 uint32_t isis_gr_raw_gateway_words(void);
 uint32_t isis_gr_raw_set_up(uint64_t *gateway, const uint8_t *settings);
-uint64_t isis_gr_raw_receive(uint64_t *gateway, uint8_t circuit, const uint8_t *source, const uint8_t *frame, size_t frame_len, uint8_t *reply,
-                             size_t reply_len);
+isis_gr_raw_received isis_gr_raw_receive(uint64_t *gateway, uint8_t circuit, const uint8_t *source, const uint8_t *frame, size_t frame_len,
+                                         uint8_t *reply, size_t reply_len);
 uint64_t isis_gr_raw_tick(uint64_t *gateway, uint32_t clock);
 uint32_t isis_gr_raw_release(uint64_t *gateway, uint8_t circuit);
+uint32_t isis_gr_raw_clear(uint64_t *gateway, uint8_t circuit);
 uint64_t isis_gr_raw_csnp_complete(uint64_t *gateway, uint8_t circuit, uint8_t level);
 uint64_t isis_gr_raw_database_complete(uint64_t *gateway, uint8_t level);
 uint32_t isis_gr_raw_look_up(const uint64_t *gateway, uint8_t circuit, uint8_t level, const uint8_t *system_id, const uint8_t *mac,
@@ -196,6 +211,7 @@ static inline void isis_gr_put_circuit(uint8_t *at, const isis_gr_circuit *circu
 
 static inline void isis_gr_put_settings(uint8_t out[ISIS_GR_SETTINGS_OCTETS], const isis_gr_settings *settings) {
     size_t i;
+    memset(out, 0, ISIS_GR_SETTINGS_OCTETS);
     memcpy(out, settings->system_id, 6);
     isis_gr_put16(out + 6, settings->t1);
     isis_gr_put16(out + 8, settings->t2);
@@ -203,20 +219,40 @@ static inline void isis_gr_put_settings(uint8_t out[ISIS_GR_SETTINGS_OCTETS], co
     isis_gr_put32(out + 11, settings->clock);
     out[15] = settings->mode;
     out[16] = settings->count;
-    for (i = 0; i < ISIS_GR_MAX_CIRCUITS; i++) {
+    for (i = 0; i < ISIS_GR_MAX_CIRCUITS && i < settings->count; i++) {
         isis_gr_put_circuit(out + 17 + 19 * i, &settings->circuits[i]);
     }
 }
 
 static inline isis_gr_timers isis_gr_get_timers(uint64_t word) {
     isis_gr_timers t;
-    t.end = (uint8_t)(word >> 32 & 3u);
+    t.restart = (uint8_t)(word >> 32 & 3u);
     t.spf = (uint8_t)(word >> 34 & 3u);
     t.overload = (uint8_t)(word >> 36 & 3u);
     return t;
 }
 
 /* ---- the calls */
+
+/* A text for a code. */
+static inline const char *isis_gr_text(uint32_t code) {
+    static const char *const texts[13] = {
+        "done",
+        "no circuit of that number, or a level not enabled there",
+        "reply buffer under 11 octets",
+        "not a hello that fits the circuit",
+        "header length or PDU Length wrong",
+        "a TLV passes the PDU Length",
+        "a TLV breaks its rule, or the circuit type is 0",
+        "level not enabled, or our own System ID",
+        "the three-way TLV names another system or circuit",
+        "the circuit's room is full",
+        "clock lower than before",
+        "a notice outside the mode Restarting",
+        "a setting out of range",
+    };
+    return code < 13u ? texts[code] : "no such code";
+}
 
 /* The words of a gateway in this archive. */
 static inline uint32_t isis_gr_gateway_words(void) { return isis_gr_raw_gateway_words(); }
@@ -233,18 +269,27 @@ static inline isis_gr_started isis_gr_set_up(isis_gr_gateway *gateway, const isi
     return s;
 }
 
-/* Takes one hello frame. Refused 1 to 9, gateway and reply are as they were. reply has at least 11 octets; its first 11 are written only where
+/* Takes one hello frame, from its first octet, 0x83, on: after the LLC's FE FE 03; padding behind the PDU may be lent too. Refused 1 to 9, gateway and reply are as they were. reply has at least 11 octets; its first 11 are written only where
    the field reply is not ISIS_GR_REPLY_NONE, those past 11 never. */
 static inline isis_gr_received isis_gr_receive(isis_gr_gateway *gateway, uint8_t circuit, const uint8_t source[6], const uint8_t *frame,
                                                size_t frame_len, uint8_t *reply, size_t reply_len) {
-    uint64_t word = isis_gr_raw_receive(gateway->words, circuit, source, frame, frame_len, reply, reply_len);
+    isis_gr_raw_received words = isis_gr_raw_receive(gateway->words, circuit, source, frame, frame_len, reply, reply_len);
+    uint64_t word = words.answer;
     isis_gr_received r;
+    size_t i;
     r.code = (uint32_t)(word & 255u);
     r.reply = (uint8_t)(word >> 8);
     r.csnps = (uint8_t)(word >> 16);
-    r.t1 = (uint8_t)(word >> 24);
+    r.t1_end = (uint8_t)(word >> 24);
     r.timers = isis_gr_get_timers(word);
     r.remaining = (uint16_t)(word >> 40);
+    for (i = 0; i < 6; i++) {
+        r.system_id[i] = (uint8_t)(words.change >> (40 - 8 * i));
+    }
+    r.level = (uint8_t)(words.change >> 48 & 3u);
+    r.before = (uint8_t)(words.change >> 50 & 3u);
+    r.after = (uint8_t)(words.change >> 52 & 3u);
+    r.advertised = (uint8_t)(words.change >> 54 & 1u);
     return r;
 }
 
@@ -262,7 +307,10 @@ static inline isis_gr_ticked isis_gr_tick(isis_gr_gateway *gateway, uint32_t clo
 /* Removes a circuit's Planned records. Returns the code; refused 1, the gateway is as it was. */
 static inline uint32_t isis_gr_release(isis_gr_gateway *gateway, uint8_t circuit) { return isis_gr_raw_release(gateway->words, circuit); }
 
-/* The CSNP set of a level is complete on a circuit. Refused 1 or 11, the gateway is as it was. */
+/* The link went down: removes all records of a circuit, and touches no timer. Returns the code; refused 1, the gateway is as it was. */
+static inline uint32_t isis_gr_clear(isis_gr_gateway *gateway, uint8_t circuit) { return isis_gr_raw_clear(gateway->words, circuit); }
+
+/* The CSNP set of a level (1 or 2) is complete on a circuit. Refused 1 or 11, the gateway is as it was. */
 static inline isis_gr_noticed isis_gr_csnp_complete(isis_gr_gateway *gateway, uint8_t circuit, uint8_t level) {
     uint64_t word = isis_gr_raw_csnp_complete(gateway->words, circuit, level);
     isis_gr_noticed n;
@@ -271,7 +319,7 @@ static inline isis_gr_noticed isis_gr_csnp_complete(isis_gr_gateway *gateway, ui
     return n;
 }
 
-/* The database of a level is complete. Refused 1 or 11, the gateway is as it was. */
+/* The database of a level (1 or 2) is complete. Refused 1 or 11, the gateway is as it was. */
 static inline isis_gr_noticed isis_gr_database_complete(isis_gr_gateway *gateway, uint8_t level) {
     uint64_t word = isis_gr_raw_database_complete(gateway->words, level);
     isis_gr_noticed n;
@@ -280,11 +328,13 @@ static inline isis_gr_noticed isis_gr_database_complete(isis_gr_gateway *gateway
     return n;
 }
 
-/* The record with a key. On P2P the level and the MAC count for nothing. Changes nothing. */
+/* The record with a key: level (1 or 2), System ID and source MAC. On P2P the level and the MAC count for nothing; there mac may be NULL.
+   Changes nothing. */
 static inline isis_gr_looked isis_gr_look_up(const isis_gr_gateway *gateway, uint8_t circuit, uint8_t level, const uint8_t system_id[6],
-                                             const uint8_t mac[6]) {
+                                             const uint8_t *mac) {
+    static const uint8_t none[6] = {0, 0, 0, 0, 0, 0};
     uint64_t record[2] = {0, 0};
-    uint32_t word = isis_gr_raw_look_up(gateway->words, circuit, level, system_id, mac, record);
+    uint32_t word = isis_gr_raw_look_up(gateway->words, circuit, level, system_id, mac ? mac : none, record);
     isis_gr_looked l;
     l.code = word & 255u;
     l.state = (uint8_t)(word >> 8);

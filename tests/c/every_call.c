@@ -93,15 +93,17 @@ static void neighbour_restarts(void) {
     n = hello(frame, 1, 0, 0);
     r = isis_gr_receive(&g, 1, source, frame, n, reply, sizeof reply);
     EXPECT(r.code == ISIS_GR_OK && r.reply == ISIS_GR_REPLY_NONE && reply[0] == 0xEE);
-    l = isis_gr_look_up(&g, 1, 0, neighbour, source);
-    EXPECT(l.code == ISIS_GR_OK && l.state == ISIS_GR_RECORD_UP && l.expiry == 110 && l.tlv == 1);
+    EXPECT(r.level == 0 && memcmp(r.system_id, neighbour, 6) == 0);
+    EXPECT(r.before == ISIS_GR_RECORD_NONE && r.after == ISIS_GR_RECORD_UP && r.advertised == 1);
+    l = isis_gr_look_up(&g, 1, 0, neighbour, NULL);
+    EXPECT(l.code == ISIS_GR_OK && l.state == ISIS_GR_RECORD_UP && l.expiry == 110 && l.tlv == 1 && l.advertised == 1);
 
     /* C1 */
     EXPECT(isis_gr_tick(&g, 100).lost == 0);
     n = hello(frame, 0, 1, 0);
     r = isis_gr_receive(&g, 1, source, frame, n, reply, sizeof reply);
     EXPECT(r.code == ISIS_GR_OK && r.reply == ISIS_GR_REPLY_RA && r.remaining == 27 && r.csnps == ISIS_GR_LEVEL_BOTH);
-    EXPECT(r.t1 == ISIS_GR_T1_KEPT && r.timers.end == ISIS_GR_TIMERS_IDLE);
+    EXPECT(r.t1_end == ISIS_GR_T1_KEPT && r.timers.restart == ISIS_GR_RESTART_NONE);
     EXPECT(memcmp(reply, c1, sizeof c1) == 0 && reply[11] == 0xEE);
     l = isis_gr_look_up(&g, 1, 0, neighbour, source);
     EXPECT(l.expiry == 127 && l.mark == ISIS_GR_MARK_RESTART);
@@ -139,6 +141,17 @@ static void neighbour_restarts(void) {
     n = hello(frame, 1, 0, 0);
     isis_gr_receive(&g, 1, source, frame, n, reply, sizeof reply);
     EXPECT(isis_gr_tick(&g, 137).lost == 1);
+
+    /* SA: UP and not advertised; three-way Down: INIT; clear: none */
+    n = hello(frame, 1, 4, 0);
+    r = isis_gr_receive(&g, 1, source, frame, n, reply, sizeof reply);
+    EXPECT(r.before == ISIS_GR_RECORD_NONE && r.after == ISIS_GR_RECORD_UP && r.advertised == 0);
+    n = hello(frame, 2, 0, 0);
+    r = isis_gr_receive(&g, 1, source, frame, n, reply, sizeof reply);
+    EXPECT(r.before == ISIS_GR_RECORD_UP && r.after == ISIS_GR_RECORD_INIT && r.advertised == 0);
+    before = g;
+    EXPECT(isis_gr_clear(&g, 3) == ISIS_GR_REFUSED_NO_CIRCUIT && memcmp(&g, &before, sizeof g) == 0);
+    EXPECT(isis_gr_clear(&g, 1) == ISIS_GR_OK && isis_gr_look_up(&g, 1, 0, neighbour, NULL).state == ISIS_GR_RECORD_NONE);
 }
 
 static void we_restart(void) {
@@ -150,9 +163,9 @@ static void we_restart(void) {
     EXPECT(isis_gr_next_hello_flags(&g, 1).flags == ISIS_GR_FLAG_RR);
     EXPECT(isis_gr_waiting_circuits(&g).count == 2 && isis_gr_waiting_circuits(&g).lowest == 1);
     t = isis_gr_tick(&g, 3);
-    EXPECT(t.code == ISIS_GR_OK && t.hellos == 3 && t.timers.end == ISIS_GR_TIMERS_GO_ON);
+    EXPECT(t.code == ISIS_GR_OK && t.hellos == 3 && t.timers.restart == ISIS_GR_RESTART_GOES_ON);
     n = isis_gr_csnp_complete(&g, 2, 2);
-    EXPECT(n.code == ISIS_GR_OK && n.timers.end == ISIS_GR_TIMERS_GO_ON);
+    EXPECT(n.code == ISIS_GR_OK && n.timers.restart == ISIS_GR_RESTART_GOES_ON);
     n = isis_gr_database_complete(&g, 2);
     EXPECT(n.code == ISIS_GR_OK && n.timers.spf == 0);
     isis_gr_tick(&g, 6);
@@ -161,7 +174,7 @@ static void we_restart(void) {
     EXPECT(isis_gr_waiting_circuits(&g).count == 0 && isis_gr_waiting_circuits(&g).lowest == 0);
     EXPECT(isis_gr_next_hello_flags(&g, 1).flags == 0);
     t = isis_gr_tick(&g, 60); /* T2 of level 1 expires: the mode ends */
-    EXPECT(t.timers.end == ISIS_GR_TIMERS_ENDED && t.timers.spf == ISIS_GR_LEVEL_1 && t.timers.overload == ISIS_GR_OVERLOAD_QUIET);
+    EXPECT(t.timers.restart == ISIS_GR_RESTART_ENDED && t.timers.spf == ISIS_GR_LEVEL_1 && t.timers.overload == ISIS_GR_OVERLOAD_KEEP);
 }
 
 int main(void) {

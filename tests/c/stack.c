@@ -21,7 +21,7 @@ static unsigned char *at_call;
 /* where the stack stands when receive is called */
 static void run(void) {
     at_call = __builtin_frame_address(0);
-    answer = isis_gr_raw_receive(g.words, circuit, source, frame, length, reply, sizeof reply);
+    answer = isis_gr_raw_receive(g.words, circuit, source, frame, length, reply, sizeof reply).answer;
 }
 
 /* the same without the call */

@@ -17,7 +17,7 @@ use Rattle.adjacency.specs.declared.record.Key.{Key}
 use Rattle.slots.specs.Slots.{tableOf, roomWords}
 use Rattle.adjacency.specs.Place.{expiredBy}
 use Rattle.adjacency.specs.declared.place.Slot.{Slot}
-use Rattle.room.specs.Table.{find, released, firstState, expired, anyExpired}
+use Rattle.room.specs.Table.{find, released, firstState, expired, anyExpired, emptyRoom}
 use Rattle.room.specs.Sweep.{Sweeps}
 use Rattle.metric.specs.Metric.{linkMetric}
 use Rattle.restart_tlv.specs.declared.flags.Flags.{Flags}
@@ -40,9 +40,9 @@ use Rattle.control.specs.Timing.{CommonSettles, CommonTicks}
 use Rattle.adjacency.specs.Keys.{keyOn}
 use Rattle.model.specs.Numbers.{refusalNo, lowestNo}
 use Rattle.model.specs.Answers.{Answer, Refused, Ticked, Told, Fact, Done, Noticed, Looked, Metric, HelloFlags, Waits, timersAnswer, recordAnswer, lostBits}
-use Rattle.model.specs.Gateway.{Gateway, Room, withRooms, withCommon, noRoom, renew, roomOf}
+use Rattle.model.specs.Gateway.{Gateway, Room, withSlots, withRooms, withCommon, noRoom, renew, roomOf}
 use Rattle.model.specs.Receive.{Acted, refuse}
-use Rattle.model.specs.Step.{Call, Judged, Refused as RefusedCall, Tell, Release, CsnpComplete, LookUp, LinkMetric, NextHello, Tick, DatabaseComplete, Waiting, Over, act, asksLevel, csnpComplete, lookUp, linkMetricOf, nextHello, noticeOf, settledBy, lift, noneOf, quiet, tickOf, databaseOf, judge, carry, sweptRoom, lapsed, step}
+use Rattle.model.specs.Step.{Call, Judged, Refused as RefusedCall, Tell, Release, Clear, CsnpComplete, LookUp, LinkMetric, NextHello, Tick, DatabaseComplete, Waiting, Over, told, act, asksLevel, csnpComplete, lookUp, linkMetricOf, nextHello, noticeOf, settledBy, lift, noneOf, quiet, tickOf, databaseOf, judge, carry, sweptRoom, lapsed, step}
 use Rattle.gateway.specs.Words.{gatewayWords, roomPlace, gatewayOf, Meets}
 use Rattle.basics.specs.Lists.{part}
 use Rattle.gateway.proofs.WordLaws.{along, asks, common-at, common-put, room-put, room-at, room-of, renew-at, same-room}
@@ -67,20 +67,34 @@ module _ (ws : List ℕ) (n : ℕ) (len : length ws ≡ gatewayWords) where
         kept = λ y z. absurd (let w : _≡_ {A = ℕ} 0 1 = cc in omega arith);
       }
 
-  -- release
-  pub releases : (lo : 0 < n) (hi : n ≤ circuits) (s : Circuit) (t : List ℕ) → length t ≡ roomPlace (n - 1) + roomWords - roomPlace (n - 1)
-      → tableOf t ≡ released (tableOf (part (roomPlace (n - 1)) (roomPlace (n - 1) + roomWords - roomPlace (n - 1)) ws))
-      → Meets (Told Done) (lift g n (act n s Release)) ws (putMid (roomPlace (n - 1)) (roomPlace (n - 1) + roomWords - roomPlace (n - 1)) ws t) []
-  unfolding lift act
-  releases lo hi s t lt e =
-      let r : Room = record { slots = released (roomOf g n .slots) } in
-      let q : record { slots = tableOf t } ≡ r = ap (λ x. record { slots = x }) (e ∙ ap released (room-of ws n lo hi)) in
+  -- a call that changes its circuit's room alone, and answers that it was done
+  room-acts : (lo : 0 < n) (hi : n ≤ circuits) (new : List Slot) (t : List ℕ) → length t ≡ roomPlace (n - 1) + roomWords - roomPlace (n - 1)
+      → tableOf t ≡ new
+      → Meets (Told Done) (lift g n (λ c r. told Done c (withSlots r new))) ws (putMid (roomPlace (n - 1)) (roomPlace (n - 1) + roomWords - roomPlace (n - 1)) ws t) []
+  unfolding lift
+  room-acts lo hi new t lt e =
+      let r : Room = record { slots = new } in
+      let q : record { slots = tableOf t } ≡ r = ap (λ x. record { slots = x }) e in
       record {
         answer = refl;
         reply = refl;
         next = room-put ws t len (n - 1) (omega arith) lt ∙ ap (λ (x : Room). withRooms g (set (g .rooms) (n - 1) x)) q ∙ ap (withRooms g) (sym (renew-at (g .rooms) n r lo));
         kept = λ y z. absurd (let w : _≡_ {A = ℕ} 0 1 = cc in omega arith);
       }
+
+  -- release
+  pub releases : (lo : 0 < n) (hi : n ≤ circuits) (s : Circuit) (t : List ℕ) → length t ≡ roomPlace (n - 1) + roomWords - roomPlace (n - 1)
+      → tableOf t ≡ released (tableOf (part (roomPlace (n - 1)) (roomPlace (n - 1) + roomWords - roomPlace (n - 1)) ws))
+      → Meets (Told Done) (lift g n (act n s Release)) ws (putMid (roomPlace (n - 1)) (roomPlace (n - 1) + roomWords - roomPlace (n - 1)) ws t) []
+  unfolding lift act
+  releases lo hi s t lt e = room-acts lo hi (released (roomOf g n .slots)) t lt (e ∙ ap released (room-of ws n lo hi))
+
+  -- clear
+  pub clears : (lo : 0 < n) (hi : n ≤ circuits) (s : Circuit) (t : List ℕ) → length t ≡ roomPlace (n - 1) + roomWords - roomPlace (n - 1)
+      → tableOf t ≡ emptyRoom (s .kind)
+      → Meets (Told Done) (lift g n (act n s Clear)) ws (putMid (roomPlace (n - 1)) (roomPlace (n - 1) + roomWords - roomPlace (n - 1)) ws t) []
+  unfolding lift act
+  clears lo hi s t lt e = room-acts lo hi (emptyRoom (s .kind)) t lt e
 
   -- CSNP set complete
   module _ (s : Circuit) (level : ℕ) where

@@ -15,6 +15,7 @@ use Rattle.hello.specs.declared.read.Hello.{Hello}
 use Rattle.hello.specs.declared.read.Read.the-variants.{Refused as RefusedRead, Accepted as ReadAs}
 use Rattle.basics.specs.declared.refusal.Refusal.{Refusal}
 use Rattle.basics.specs.declared.refusal.Refusal.the-variants.{ReplyRoom, WrongSource}
+use Rattle.adjacency.specs.Record.{phaseOf}
 use Rattle.adjacency.specs.Step.{wrongSource}
 use Rattle.adjacency.specs.declared.duty.Csnps.{Csnps}
 use Rattle.adjacency.specs.declared.duty.Rank.{Rank}
@@ -24,6 +25,7 @@ use Rattle.adjacency.specs.declared.react.Reaction.{Reaction}
 use Rattle.adjacency.specs.declared.react.Reaction.the-variants.{Refused as RefusedReaction, Accepted}
 use Rattle.adjacency.specs.declared.record.Adjacency.{Adjacency}
 use Rattle.adjacency.specs.declared.record.Key.{Key}
+use Rattle.adjacency.specs.declared.record.Phase.{Phase}
 use Rattle.adjacency.specs.declared.step.Here.{Here}
 use Rattle.slots.specs.Slots.{tableOf, roomWords}
 use Rattle.adjacency.specs.declared.place.Slot.{Slot}
@@ -37,10 +39,13 @@ use Rattle.control.specs.Words.{commonOf, controlWords}
 use Rattle.control.specs.Timing.{CommonHears}
 use Rattle.adjacency.specs.Keys.{keyIn}
 use Rattle.room.specs.Accept.{decided, kept, csnpsIn}
-use Rattle.room.specs.AcceptWords.{Accepts}
+use Rattle.room.specs.Table.{find}
+use Rattle.room.specs.declared.accept.Decision.{Decision}
+use Rattle.room.specs.AcceptWords.{Did, Accepts}
+use Rattle.model.specs.declared.answers.Change.{Change}
 use Rattle.model.specs.declared.answers.Orders.{Orders}
 use Rattle.model.specs.Numbers.{refusalNo}
-use Rattle.model.specs.Answers.{Refused, Received, frameAnswer}
+use Rattle.model.specs.Answers.{Refused, Received, frameAnswer, changeOf}
 use Rattle.model.specs.Gateway.{Gateway, Room, withRooms, withCommon, renew, roomOf}
 use Rattle.model.specs.Receive.{refuse, hereOf, rankOf, saidOf, ordersOf, accepted, reacted, decidedIn, checked, readIn, receive}
 use Rattle.model.specs.Step.{Receive, act, lift}
@@ -111,11 +116,12 @@ module _ (ws : List ℕ) (n : ℕ) (s : Circuit) (mac : ℕ) (h : Hello) (b : Li
         ∙ ap (λ (x : Key). decided (hereOf (g .common) s) x h (tableOf (part a (a + roomWords - a) ws))) ke
         ∙ ap (decided (hereOf (g .common) s) k h) (room-of ws n lo hi)
 
-    pub left : (x : Refusal) (t b′ : List ℕ) → Accepts here key h (part a (a + roomWords - a) ws) b t b′ (RefusedReaction x)
+    pub left : (x : Refusal) (t b′ : List ℕ) (d : Decision) → d .reaction ≡ RefusedReaction x → Accepts here key h (part a (a + roomWords - a) ws) b t b′ d
         → Meets (Refused (refusalNo x)) (lift g n (decidedIn n s mac b h)) ws (putMid a (a + roomWords - a) ws t) b′
-    left x t b′ l =
-        let w : putMid a (a + roomWords - a) ws t ≡ ws = ap (putMid a (a + roomWords - a) ws) (l .did .0) ∙ put-same a (a + roomWords - a) ws in
-        rw (w, l .did .1) (along (refused-is x (decided-at (RefusedReaction x) (l .is))) (refuses ws n b x))
+    left x t b′ d e l =
+        let did : Did key (h .system) (part a (a + roomWords - a) ws) b t b′ (RefusedReaction x) = rw e at (l .did) in
+        let w : putMid a (a + roomWords - a) ws t ≡ ws = ap (putMid a (a + roomWords - a) ws) (did .0) ∙ put-same a (a + roomWords - a) ws in
+        rw (w, did .1) (along (refused-is x (decided-at (RefusedReaction x) (sym e ∙ l .is))) (refuses ws n b x))
 
     module _ (t b′ : List ℕ) (after : Adjacency) (reply : Acknowledgement) (line : Line) (lt : length t ≡ a + roomWords - a) where
       abbrev ws1 : List ℕ
@@ -131,40 +137,50 @@ module _ (ws : List ℕ) (n : ℕ) (s : Circuit) (mac : ℕ) (h : Hello) (b : Li
       kept1 e =
           e ∙ ap (λ (x : Key). kept x after (tableOf (part a (a + roomWords - a) ws))) ke ∙ ap (kept k after) (room-of ws n lo hi)
 
-      pub taken : (ws2 : List ℕ) (o : Orders) → Accepts here key h (part a (a + roomWords - a) ws) b t b′ (Accepted after reply line)
-          → GivesOrders n s h reply line ws1 ws2 o → Meets (Received (frameAnswer o)) (lift g n (decidedIn n s mac b h)) ws ws2 b′
+      -- what became of the record with the key, of the room that stood
+      changed-at : (before : Phase) → before ≡ phaseOf (find key (tableOf (part a (a + roomWords - a) ws)))
+          → changeOf key before after ≡ changeOf k (phaseOf (find k (roomOf g n .slots))) after
+      changed-at before e =
+          ap (λ (x : Phase). changeOf key x after) (e ∙ ap (λ (x : List Slot). phaseOf (find key x)) (room-of ws n lo hi))
+          ∙ ap (λ (x : Key). changeOf x (phaseOf (find x (roomOf g n .slots))) after) ke
+
+      pub taken : (ws2 : List ℕ) (o : Orders) (d : Decision) → d .reaction ≡ Accepted after reply line
+          → Accepts here key h (part a (a + roomWords - a) ws) b t b′ d → (change : Change) → change ≡ changeOf key (d .before) after
+          → GivesOrders n s h reply line change ws1 ws2 o → Meets (Received (frameAnswer o)) (lift g n (decidedIn n s mac b h)) ws ws2 b′
       unfolding lift accepted
-      taken ws2 o l y =
-          let e = kept1 (l .did .0) in
+      taken ws2 o d de l change ce y =
+          let did : Did key (h .system) (part a (a + roomWords - a) ws) b t b′ (Accepted after reply line) = rw de at (l .did) in
+          let e = kept1 (did .0) in
+          let cs = ce ∙ changed-at (d .before) (l .before) in
           let own : roomOf (gatewayOf ws1) n ≡ room =
           ap (λ (x : List Slot). record { slots = x }) (sym (room-of ws1 n lo hi) ∙ ap tableOf (room-same ws t len (n - 1) (omega arith) lt) ∙ e) in
           let same : gatewayOf ws1 ≡ withRooms g (renew (g .rooms) n room) =
           put1 ∙ ap (λ (x : List Slot). withRooms g (set (g .rooms) (n - 1) (record { slots = x }))) e ∙ ap (withRooms g) (sym (renew-at (g .rooms) n room lo)) in
           let common : gatewayOf ws1 .common ≡ g .common = ap (λ (x : Gateway). x .common) same in
-          along (accepted-is after reply line (decided-at (Accepted after reply line) (l .is)))
+          along (accepted-is after reply line (decided-at (Accepted after reply line) (sym de ∙ l .is)))
           (record {
-            answer = ap (λ (x : Orders). Received (frameAnswer x)) (y .orders ∙ (λ i. ordersOf n s h reply line (common i) (own i)));
-            reply = l .did .1;
+            answer = ap (λ (x : Orders). Received (frameAnswer x)) (y .orders ∙ (λ i. ordersOf n s h reply line (cs i) (common i) (own i)));
+            reply = did .1;
             next = y .next ∙ ap (λ (x : Gateway). withCommon x (commonAfter n s h (x .common))) same;
             kept = λ x z. absurd (let y : _≡_ {A = ℕ} 0 1 = cc in omega arith);
           })
 
 -- ---- the orders of an accepted frame
 
-module _ (ws : List ℕ) (n : ℕ) (s : Circuit) (h : Hello) (reply : Acknowledgement) (line : Line) (len : length ws ≡ gatewayWords) (lo : 0 < n) (hi : n ≤ circuits) where
+module _ (ws : List ℕ) (n : ℕ) (s : Circuit) (h : Hello) (reply : Acknowledgement) (line : Line) (change : Change) (len : length ws ≡ gatewayWords) (lo : 0 < n) (hi : n ≤ circuits) where
   abbrev at : ℕ
   at = roomPlace (n - 1)
 
   pub gives : (rank : Rank) (cs : Csnps) (timed : TimerOutcome) (freed : Freed) (u : List ℕ) → length u ≡ controlWords → rank ≡ rankOf s h
       → cs ≡ csnpsIn rank line (s .levels) (h .link) (tableOf (part at (at + roomWords - at) ws))
       → CommonHears (n - 1) (s .levels) (saidOf (commonOf (part 0 controlWords ws)) s h) (part 0 controlWords ws) u timed freed
-      → GivesOrders n s h reply line ws (putMid 0 controlWords ws u) (record { reply = reply; csnps = cs; outcome = timed; freed = freed })
+      → GivesOrders n s h reply line change ws (putMid 0 controlWords ws u) (record { reply = reply; csnps = cs; outcome = timed; freed = freed; change = change })
   unfolding gatewayOf
   gives rank cs timed freed u lu re ce hs =
       let c : cs ≡ csnpsIn (rankOf s h) line (s .levels) (h .link) (roomOf (gatewayOf ws) n .slots) =
       ce ∙ ap (λ (x : Rank). csnpsIn x line (s .levels) (h .link) (tableOf (part at (at + roomWords - at) ws))) re
       ∙ ap (csnpsIn (rankOf s h) line (s .levels) (h .link)) (room-of ws n lo hi) in
       record {
-        orders = λ i. record { reply = reply; csnps = c i; outcome = hs .settles .outcome i; freed = hs .freed i };
+        orders = λ i. record { reply = reply; csnps = c i; outcome = hs .settles .outcome i; freed = hs .freed i; change = change };
         next = common-put ws u len lu ∙ ap (withCommon (gatewayOf ws)) (hs .settles .common);
       }

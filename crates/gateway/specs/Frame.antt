@@ -9,6 +9,7 @@ use Rattle.adjacency.specs.declared.marks.Line.{Line}
 use Rattle.settings.specs.declared.circuit.Circuit.{Circuit}
 use Rattle.timers.specs.Timers.{heard}
 use Rattle.control.specs.Common.{Common, withTimers}
+use Rattle.model.specs.declared.answers.Change.{Change}
 use Rattle.model.specs.declared.answers.Orders.{Orders}
 use Rattle.model.specs.Gateway.{withCommon, roomOf}
 use Rattle.model.specs.Receive.{saidOf, ordersOf}
@@ -18,6 +19,6 @@ use Rattle.gateway.specs.Words.{gatewayOf}
 abbrev pub commonAfter : ℕ → Circuit → Hello → Common → Common
 commonAfter n s h c = withTimers (heard (c .clock) (n - 1) (s .levels) (saidOf c s h) (c .timers)) c
 
-pub record GivesOrders (n : ℕ) (s : Circuit) (h : Hello) (reply : Acknowledgement) (line : Line) (ws ws′ : List ℕ) (o : Orders) : Type 0 where
-  pub orders : o ≡ ordersOf n s h reply line (gatewayOf ws .common) (roomOf (gatewayOf ws) n)
+pub record GivesOrders (n : ℕ) (s : Circuit) (h : Hello) (reply : Acknowledgement) (line : Line) (change : Change) (ws ws′ : List ℕ) (o : Orders) : Type 0 where
+  pub orders : o ≡ ordersOf n s h reply line change (gatewayOf ws .common) (roomOf (gatewayOf ws) n)
   pub next : gatewayOf ws′ ≡ withCommon (gatewayOf ws) (commonAfter n s h (gatewayOf ws .common))

@@ -1,4 +1,4 @@
-// The ten calls of document 01 ("What the gateway holds"). The gateway is memory that the caller lends; any content of it means some
+// The ten calls of document 01 ("What the gateway holds") and clear, which is ours. The gateway is memory that the caller lends; any content of it means some
 // gateway, and memory that was never set up is one without circuits. Circuits are numbered from 1; MACs and System IDs are six octets.
 // A refusal leaves the memory and the reply buffer as they were.
 use crate::asks::flags_in;
@@ -11,6 +11,7 @@ use crate::notices::csnp_in;
 use crate::notices::database_in;
 use crate::setup::set_up_in;
 use crate::setup::settings_given;
+use crate::ticks::clear_in;
 use crate::ticks::release_in;
 use crate::ticks::tick_in;
 use adjacency::record::Key;
@@ -33,7 +34,7 @@ ghost use lib.ListN.{length};
 ghost use Rattle.basics.specs.Octets.{big};
 ghost use Rattle.model.specs.Answers.{receivedOf, tickedOf, releasedOf, noticedOf, lookedOf, metricOf, flagsOf, waitingOf};
 ghost use Rattle.model.specs.Gateway.{setup};
-ghost use Rattle.model.specs.Step.{step, At, Over, Receive, Tick, Release, CsnpComplete, DatabaseComplete, LookUp, LinkMetric, NextHello};
+ghost use Rattle.model.specs.Step.{step, At, Over, Receive, Tick, Release, Clear, CsnpComplete, DatabaseComplete, LookUp, LinkMetric, NextHello};
 ghost use Rattle.model.specs.Step.{Waiting as Waits};
 ghost use Rattle.gateway.specs.Words.{gatewayOf, keyGiven, Meets};
 ghost use Rattle.gateway.specs.Setup.{settingsGiven, SetsUp};
@@ -73,6 +74,13 @@ pub fn release(gateway: &mut [u64; GATEWAY_WORDS], circuit: u8) -> Released
     ensures { λ r. ⌜ Meets (releasedOf r) (step (gatewayOf (now (gateway .entry))) (At circuit Release)) (now (gateway .entry)) (now (gateway .exit)) [] ⌝ }
 {
     release_in(gateway, circuit)
+}
+
+// The link went down: all records of the circuit go, and no timer is touched.
+pub fn clear(gateway: &mut [u64; GATEWAY_WORDS], circuit: u8) -> Released
+    ensures { λ r. ⌜ Meets (releasedOf r) (step (gatewayOf (now (gateway .entry))) (At circuit Clear)) (now (gateway .entry)) (now (gateway .exit)) [] ⌝ }
+{
+    clear_in(gateway, circuit)
 }
 
 // The CSNP set of a level is complete on a circuit.

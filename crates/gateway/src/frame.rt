@@ -5,6 +5,11 @@ use adjacency::keys::level_in;
 use adjacency::marks::Acknowledgement;
 use adjacency::marks::Line;
 use adjacency::react::Reaction;
+use adjacency::record::Adjacency;
+use adjacency::record::Key;
+use adjacency::record::Phase;
+use adjacency::record::is_advertised;
+use adjacency::record::phase_of;
 use adjacency::step::Here;
 use adjacency::step::is_wrong_source;
 use basics::octets::six;
@@ -19,6 +24,7 @@ use control::words::system_of;
 use hello::read::Hello;
 use hello::read::Read;
 use hello::read::read_hello;
+use model::answers::Change;
 use model::answers::Orders;
 use model::answers::Received;
 use room::accept::accept_in;
@@ -36,7 +42,7 @@ ghost use Rattle.basics.specs.Mask.{circuits};
 ghost use Rattle.basics.specs.Octets.{big};
 ghost use Rattle.control.specs.Words.{controlWords, commonOf};
 ghost use Rattle.control.specs.Timing.{CommonHears};
-ghost use Rattle.model.specs.Answers.{receivedOf};
+ghost use Rattle.model.specs.Answers.{receivedOf, isShown, changeOf};
 ghost use Rattle.model.specs.Receive.{hereOf, rankOf, saidOf, decidedIn, checked};
 ghost use Rattle.model.specs.Step.{lift, step, At, Receive};
 ghost use Rattle.gateway.specs.Words.{gatewayWords, gatewayOf, Meets};
@@ -91,9 +97,10 @@ fn order_in(
     frame: Hello,
     reply: Acknowledgement,
     line: Line,
+    change: Change,
 ) -> Orders
     requires { ⌜ (length (now gateway) ≡ gatewayWords) × (0 < n) × (n ≤ circuits) × (mode ≡ gatewayOf (now gateway) .common .timers .mode) ⌝ }
-    ensures { λ r. ⌜ GivesOrders n s frame reply line (now (gateway .entry)) (now (gateway .exit)) r ⌝ }
+    ensures { λ r. ⌜ GivesOrders n s frame reply line change (now (gateway .entry)) (now (gateway .exit)) r ⌝ }
 {
     let levels = s.levels;
     let link = frame.link;
@@ -109,6 +116,31 @@ fn order_in(
         csnps,
         outcome,
         freed,
+        change,
+    }
+}
+
+fn is_shown(left: Adjacency) -> bool
+    ensures { λ r. ⌜ r ≡ isShown left ⌝ }
+{
+    match left {
+        Adjacency::Absent => false,
+        Adjacency::Present(state) => is_advertised(state),
+    }
+}
+
+// What became of the record with a key.
+fn change_of(key: Key, before: Phase, left: Adjacency) -> Change
+    ensures { λ r. ⌜ r ≡ changeOf key before left ⌝ }
+{
+    let after = phase_of(left);
+    let advertised = is_shown(left);
+    Change {
+        level: key.level,
+        system: key.system,
+        before,
+        after,
+        advertised,
     }
 }
 
@@ -129,9 +161,12 @@ fn decide_in(
     let here = here_of(&gateway[0..CONTROL_WORDS], mode, s);
     let key = key_in(kind, mac, frame);
     let a = CONTROL_WORDS + ROOM_WORDS * (n as usize - 1);
-    match accept_in(&mut gateway[a..a + ROOM_WORDS], here, key, frame, reply) {
+    let decided = accept_in(&mut gateway[a..a + ROOM_WORDS], here, key, frame, reply);
+    let before = decided.before;
+    let reaction = decided.reaction;
+    match reaction {
         Reaction::Refused(x) => Received::Refused(x),
-        Reaction::Accepted(_, acknowledgement, line) => Received::Done(order_in(
+        Reaction::Accepted(after, acknowledgement, line) => Received::Done(order_in(
             gateway,
             mode,
             n,
@@ -139,6 +174,7 @@ fn decide_in(
             frame,
             acknowledgement,
             line,
+            change_of(key, before, after),
         )),
     }
 }

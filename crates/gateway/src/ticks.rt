@@ -1,4 +1,4 @@
-// Tick and release: records removed, and the timers moved (document 01, "Marks and holding time" and "Timers while Restarting").
+// Tick, release and clear: records removed, and the timers moved (document 01, "Marks and holding time" and "Timers while Restarting").
 use basics::mask::CIRCUITS;
 use basics::mask::put_bit;
 use basics::refusal::Refusal;
@@ -9,6 +9,7 @@ use control::words::clock_of;
 use control::words::count_of;
 use model::answers::Released;
 use model::answers::Ticked;
+use room::empty::open_room;
 use room::sweep::expire;
 use room::sweep::release;
 use settings::circuit::Chosen;
@@ -21,7 +22,7 @@ ghost use lib.ListN.{length, getD, set};
 ghost use Rattle.basics.specs.Mask.{circuits};
 ghost use Rattle.model.specs.Answers.{tickedOf, releasedOf, lostBits};
 ghost use Rattle.model.specs.Gateway.{withRooms, noRoom};
-ghost use Rattle.model.specs.Step.{sweptRoom, lapsed, step, At, Over, Tick, Release};
+ghost use Rattle.model.specs.Step.{sweptRoom, lapsed, step, At, Over, Tick, Release, Clear};
 ghost use Rattle.gateway.specs.Words.{gatewayWords, gatewayOf, Meets};
 ghost use Rattle.gateway.specs.Tick.{SweepsAll};
 
@@ -93,5 +94,19 @@ pub(crate) fn release_in(gateway: &mut [u64], n: u8) -> Released
     };
     let a = CONTROL_WORDS + ROOM_WORDS * (n as usize - 1);
     release(&mut gateway[a..a + ROOM_WORDS]);
+    Released::Done
+}
+
+// Refusal 1, or all records of the circuit go.
+pub(crate) fn clear_in(gateway: &mut [u64], n: u8) -> Released
+    requires { ⌜ length (now gateway) ≡ gatewayWords ⌝ }
+    ensures { λ r. ⌜ Meets (releasedOf r) (step (gatewayOf (now (gateway .entry))) (At n Clear)) (now (gateway .entry)) (now (gateway .exit)) [] ⌝ }
+{
+    let Chosen::Known(s) = circuit_of(&gateway[0..CONTROL_WORDS], n) else {
+        return Released::Refused(Refusal::NoCircuit);
+    };
+    let kind = s.kind;
+    let a = CONTROL_WORDS + ROOM_WORDS * (n as usize - 1);
+    open_room(&mut gateway[a..a + ROOM_WORDS], kind);
     Released::Done
 }

@@ -36,7 +36,7 @@ use Rattle.timers.proofs.TimersLaws.{mode-running}
 use Rattle.control.specs.Common.{Common, withClock, withTimers, circuitOf, startOf, setupCommon}
 use Rattle.model.specs.Gateway.{Room, Gateway}
 use Rattle.model.specs.Receive.{refuse, hereOf, saidOf, accepted, reacted, decidedIn, checked, readIn, receive}
-use Rattle.model.specs.Step.{Local, Receive, Release, CsnpComplete, LookUp, LinkMetric, NextHello, Global, Tick, DatabaseComplete, Waiting, Call, At, Over, asksLevel, csnpComplete, lookUp, linkMetricOf, nextHello, act, lift, on, Judged, Refused as RefusedCall, Sweep, Tell, noneOf, tickOf, databaseOf, judge, carry, step}
+use Rattle.model.specs.Step.{Local, Receive, Release, Clear, CsnpComplete, LookUp, LinkMetric, NextHello, Global, Tick, DatabaseComplete, Waiting, Call, At, Over, asksLevel, csnpComplete, lookUp, linkMetricOf, nextHello, act, lift, on, Judged, Refused as RefusedCall, Sweep, Tell, noneOf, tickOf, databaseOf, judge, carry, step}
 use Rattle.invariants.specs.Invariants.{Quiet, Restarts, SetupSettings, SetupTimers, Onward}
 use Rattle.invariants.proofs.QuietLaws.{started-quiet, started-restarts, settled-quiet, settled-restarts, toT3-mode, heardIn-mode, csnpIn-mode, noticeT2s-mode}
 use Rattle.invariants.proofs.SetupTimersLaws.{started-kept, settled-kept, later-kept, toT3-kept, heardIn-kept, csnpIn-kept, noticeT2s-kept}
@@ -144,6 +144,7 @@ module _ (n : ℕ) (s : Circuit) (c : Common) (r : Room) where
   unfolding act linkMetricOf nextHello
   act-keeps (Receive mac frame b) = receive-keeps mac frame b
   act-keeps Release = keeps-same c
+  act-keeps Clear = keeps-same c
   act-keeps (CsnpComplete level) = csnp-keeps level
   act-keeps (LookUp k) = look-keeps k
   act-keeps LinkMetric = keeps-same c

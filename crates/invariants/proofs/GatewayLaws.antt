@@ -14,7 +14,7 @@ use Rattle.adjacency.specs.Record.{expiryOf}
 use Rattle.adjacency.specs.declared.record.Key.{Key}
 use Rattle.adjacency.specs.declared.record.State.{State}
 use Rattle.adjacency.specs.declared.place.Slot.{Slot}
-use Rattle.room.specs.Table.{crowded, put, sweep}
+use Rattle.room.specs.Table.{crowded, put, sweep, emptyRoom}
 use Rattle.room.specs.Gather.{gather}
 use Rattle.settings.specs.Settings.{between, circuitOk, circuitsOf, lengthsOk, settingsOk}
 use Rattle.basics.specs.Lists.{every}
@@ -91,6 +91,10 @@ room-sweep own x old clock p t f ok =
 pub record RoomsOk (g : Gateway) : Type 0 where
   pub hold : (n : ℕ) (s : Circuit) → circuitOf (g .common) n ≡ Known s → s .hold ≤ 65535
   pub rooms : (n : ℕ) → RoomOk (g .common .system) (circuitOf (g .common) n) (g .common .clock) (roomOf g n .slots)
+
+-- a room without a record
+pub room-empty : (own : ℕ) (s : Circuit) (clock : ℕ) → RoomOk own (Known s) clock (emptyRoom (s .kind))
+room-empty own s clock = no-records-ok _ (empty-no-records (s .kind)) own (Known s) clock (places-of (empty-places (s .kind)))
 
 -- ---- rooms after a call
 

@@ -19,11 +19,11 @@ use Rattle.settings.specs.declared.circuit.Chosen.{Chosen}
 use Rattle.settings.specs.declared.circuit.Chosen.the-variants.{Known, Unknown}
 use Rattle.model.specs.Gateway.{Room, Gateway, noRoom, numbered, renew, roomOf}
 use Rattle.model.specs.Receive.{Acted, refuse}
-use Rattle.model.specs.Step.{Local, Receive, Release, CsnpComplete, LookUp, LinkMetric, NextHello, Call, At, Over, asksLevel, csnpComplete, lookUp, linkMetricOf, nextHello, act, lift, on, Judged, Refused as RefusedCall, Sweep, Tell, judge, carry, step}
+use Rattle.model.specs.Step.{Local, Receive, Release, Clear, CsnpComplete, LookUp, LinkMetric, NextHello, Call, At, Over, asksLevel, csnpComplete, lookUp, linkMetricOf, nextHello, act, lift, on, Judged, Refused as RefusedCall, Sweep, Tell, judge, carry, step}
 use Rattle.invariants.specs.Invariants.{Octets, Fits, Span}
 use Rattle.invariants.proofs.NumberedLaws.{renew-all}
 use Rattle.invariants.proofs.CommonLaws.{Keeps, act-keeps, JudgedOk, judge-ok, step-moves, common-moved}
-use Rattle.invariants.proofs.GatewayLaws.{RoomOk, room-sweep, RoomsOk, swept-at, Holds}
+use Rattle.invariants.proofs.GatewayLaws.{RoomOk, room-empty, room-sweep, RoomsOk, swept-at, Holds}
 use Rattle.invariants.proofs.ReceiveLaws.{ActOk, receive-ok}
 
 -- ---- a call on a circuit
@@ -43,6 +43,7 @@ module _ (n : ℕ) (c : Common) (s : Circuit) (r : Room) (hold : s .hold ≤ 655
   unfolding act linkMetricOf nextHello
   act-ok (Receive mac frame b) f = receive-ok c s r hold ok n mac b frame (f mac frame b refl)
   act-ok Release f = room-sweep (c .system) (Known s) (c .clock) (c .clock) plannedState (r .slots) (λ v e q. q) ok
+  act-ok Clear f = room-empty (c .system) s (c .clock)
   act-ok (CsnpComplete level) f = csnp-ok level
   act-ok (LookUp k) f = look-ok k
   act-ok LinkMetric f = ok

@@ -22,6 +22,8 @@ use Rattle.adjacency.specs.Record.{markOf}
 use Rattle.adjacency.specs.declared.record.Adjacency.the-variants.{Present}
 use Rattle.adjacency.specs.declared.record.Mark.{Mark}
 use Rattle.adjacency.specs.declared.record.Mark.the-variants.{Clear as Unmarked, Restart, Planned}
+use Rattle.adjacency.specs.declared.record.Phase.{Phase}
+use Rattle.adjacency.specs.declared.record.Phase.the-variants.{Gone, Init as InitPhase, Up as UpPhase}
 use Rattle.adjacency.specs.declared.record.State.{State}
 use Rattle.adjacency.specs.declared.record.State.the-variants.{Init, Up}
 use Rattle.timer_parts.specs.declared.t1.Freed.{Freed}
@@ -30,11 +32,12 @@ use Rattle.timers.specs.declared.outcome.TimerOutcome.{TimerOutcome}
 use Rattle.timers.specs.declared.outcome.TimerOutcome.the-variants.{Idle, Goes, Ended}
 use Rattle.timers.specs.declared.outcome.Overload.{Overload}
 use Rattle.timers.specs.declared.outcome.Overload.the-variants.{Quiet, Set, Clear, Both}
+use Rattle.model.specs.declared.answers.Change.{Change}
 use Rattle.model.specs.declared.answers.Orders.{Orders}
-use Rattle.model.specs.Numbers.{refusalNo, replyFlags, levelsNo, csnpsNo, freedNo, overloadNo, markNo, stateNo}
-use Rattle.model.specs.Answers.{Answer, Refused, Received, Ticked, Told, Fact, Done, Noticed, Looked, Metric, HelloFlags, Waits, TimersAnswer, FrameAnswer, RecordAnswer, numberOf, timersAnswer, frameAnswer, stateAnswer, lastOf}
+use Rattle.model.specs.Numbers.{refusalNo, replyFlags, levelsNo, csnpsNo, freedNo, overloadNo, markNo, phaseNo, stateNo}
+use Rattle.model.specs.Answers.{Answer, Refused, Received, Ticked, Told, Fact, Done, Noticed, Looked, Metric, HelloFlags, Waits, TimersAnswer, FrameAnswer, RecordAnswer, numberOf, timersAnswer, changeAnswer, frameAnswer, stateAnswer, lastOf}
 use Rattle.gateway.specs.Setup.{Begun}
-use Rattle.isis_gr.specs.Words.{maskNo, timersNo, frameNo, answerNo, reportNo, recordNo}
+use Rattle.isis_gr.specs.Words.{maskNo, timersNo, frameNo, changeNo, answerNo, reportNo, recordNo}
 
 -- ---- the range of each part
 
@@ -79,6 +82,11 @@ mark-le : (m : Mark) → markNo m ≤ 2
 mark-le Unmarked = omega arith
 mark-le Restart = omega arith
 mark-le Planned = omega arith
+
+phase-le : (p : Phase) → phaseNo p ≤ 2
+phase-le Gone = omega arith
+phase-le InitPhase = omega arith
+phase-le UpPhase = omega arith
 
 state-le : (s : State) → stateNo s ≤ 2
 state-le (Init d) = omega arith
@@ -137,6 +145,17 @@ module _ (o : Orders) where
       let c = freed-below (o .freed) in
       let d : timersNo (told .timers) < 256 = timers-parts (o .outcome) .below in
       (omega arith, omega arith, omega arith, omega arith, omega arith)
+
+-- the frame's second word
+pub change-parts : (x : Change) → x .system < 2 ^ 48 → x .level ≤ 2
+    → let w = changeNo (changeAnswer x) in
+    (w % 2 ^ 48 ≡ x .system) × (w / 2 ^ 48 % 4 ≡ x .level) × (w / 2 ^ 50 % 4 ≡ phaseNo (x .before)) × (w / 2 ^ 52 % 4 ≡ phaseNo (x .after))
+    × (w / 2 ^ 54 ≡ bitOf (x .advertised))
+change-parts x hs hl =
+    let a = phase-le (x .before) in
+    let b = phase-le (x .after) in
+    let c = bit-le (x .advertised) in
+    (omega arith, omega arith, omega arith, omega arith, omega arith)
 
 mask-below : (l : List Bool) → maskNo l < 2 ^ length l
 unfolding maskNo

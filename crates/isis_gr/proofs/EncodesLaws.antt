@@ -20,11 +20,16 @@ use Rattle.model.specs.Step.{Outcome, step, judge, carry, Over}
 use Rattle.model.specs.Step.{Waiting as WaitingCall}
 use Rattle.gateway.specs.Words.{gatewayOf, Meets}
 use Rattle.gateway.proofs.CallLaws.{length-bits}
-use Rattle.isis_gr.specs.Words.{answerNo, recordWords, foundWords}
-use Rattle.isis_gr.specs.Encodes.{Encodes, EncodesFound}
+use Rattle.isis_gr.specs.Words.{answerNo, changedNo, recordWords, foundWords}
+use Rattle.isis_gr.specs.declared.answers.ReceivedWords.{ReceivedWords}
+use Rattle.isis_gr.specs.Encodes.{Encodes, EncodesFrame, EncodesFound}
 
 pub encodes : {w : ℕ} {a : Answer} {o : Outcome} {ws ws′ b′ : List ℕ} → Meets a o ws ws′ b′ → w ≡ answerNo a → Encodes w o ws ws′ b′
 encodes m e = record { number = e ∙ ap answerNo (m .answer); reply = m .reply; next = m .next; kept = λ x q. m .kept x (m .answer ∙ q) }
+
+pub encodes-frame : {w : ReceivedWords} {a : Answer} {o : Outcome} {ws ws′ b′ : List ℕ} → Meets a o ws ws′ b′ → w .answer ≡ answerNo a → w .change ≡ changedNo a
+    → EncodesFrame w o ws ws′ b′
+encodes-frame m e f = record { encodes = encodes m e; change = f ∙ ap changedNo (m .answer) }
 
 pub encodes-found : {w : ℕ} {a : Answer} {o : Outcome} {ws d d′ : List ℕ} → Meets a o ws ws [] → w ≡ answerNo a → d′ ≡ foundWords a d
     → EncodesFound w o ws d d′

@@ -10,7 +10,7 @@ use Rattle.basics.specs.declared.kind.CircuitKind.the-variants.{Lan, P2p}
 use Rattle.basics.specs.declared.levels.Levels.{Levels}
 use Rattle.settings.specs.declared.mode.Mode.{Mode}
 use Rattle.settings.specs.declared.mode.Mode.the-variants.{Running, Restarting}
-use Rattle.model.specs.Answers.{Answer, Refused, Received, Ticked, Told, Fact, Done, Noticed, Looked, Metric, HelloFlags, Waits, TimersAnswer, FrameAnswer, RecordAnswer}
+use Rattle.model.specs.Answers.{Answer, Refused, Received, Ticked, Told, Fact, Done, Noticed, Looked, Metric, HelloFlags, Waits, TimersAnswer, ChangeAnswer, FrameAnswer, RecordAnswer}
 use Rattle.gateway.specs.Setup.{Report, Refused as RefusedReport, Begun}
 
 -- ---- the parts
@@ -44,6 +44,16 @@ answerNo (Refused n) = n
 answerNo (Received f) = frameNo f
 answerNo (Ticked lost hellos t) = 2 ^ 8 * maskNo lost + 2 ^ 16 * maskNo hellos + 2 ^ 32 * timersNo t
 answerNo (Told f) = factNo f
+
+-- the second word of an accepted frame: the System ID of the frame's record, its level, its state before and after, whether it is advertised
+abbrev pub changeNo : ChangeAnswer → ℕ
+changeNo x = x .system % 2 ^ 48 + 2 ^ 48 * (x .level % 4 + 4 * x .before + 16 * x .after + 64 * bitOf (x .advertised))
+
+abbrev pub changedNo : Answer → ℕ
+changedNo (Refused n) = 0
+changedNo (Received f) = changeNo (f .change)
+changedNo (Ticked lost hellos t) = 0
+changedNo (Told f) = 0
 
 -- setup
 abbrev pub reportNo : Report → ℕ

@@ -2,6 +2,7 @@
 use crate::numbers::FIFTH;
 use crate::numbers::FOURTH;
 use crate::numbers::SECOND;
+use crate::numbers::SEVENTH;
 use crate::numbers::SIXTH;
 use crate::numbers::THIRD;
 use crate::numbers::csnps_number;
@@ -9,12 +10,14 @@ use crate::numbers::data_number;
 use crate::numbers::freed_number;
 use crate::numbers::lowest_number;
 use crate::numbers::outcome_number;
+use crate::numbers::phase_number;
 use crate::numbers::reply_flags;
 use crate::numbers::reply_time;
 use crate::numbers::state_number;
 use adjacency::record::Mark;
 use adjacency::record::State;
 use basics::bits::digit;
+use model::answers::Change;
 use model::answers::Looked;
 use model::answers::Metric;
 use model::answers::NextFlags;
@@ -29,11 +32,11 @@ use model::numbers::number_of;
 ghost use mathlib.Core.Path.{_≡_};
 ghost use Prim.Native.Nat.{_≤_};
 ghost use lib.ListN.{length};
-ghost use Rattle.model.specs.Answers.{frameAnswer, recordAnswer, receivedOf, tickedOf, releasedOf, noticedOf, lookedOf, metricOf, flagsOf, waitingOf};
+ghost use Rattle.model.specs.Answers.{changeAnswer, frameAnswer, recordAnswer, receivedOf, tickedOf, releasedOf, noticedOf, lookedOf, metricOf, flagsOf, waitingOf};
 ghost use Rattle.adjacency.specs.declared.record.Adjacency.the-variants.{Present};
 ghost use Rattle.basics.specs.Mask.{circuits};
 ghost use Rattle.gateway.specs.Setup.{reportOf};
-ghost use Rattle.isis_gr.specs.Words.{frameNo, answerNo, reportNo, recordWords, foundWords};
+ghost use Rattle.isis_gr.specs.Words.{frameNo, changeNo, answerNo, changedNo, reportNo, recordWords, foundWords};
 
 fn orders_word(o: Orders) -> u64
     ensures { λ r. ⌜ r ≡ frameNo (frameAnswer o) ⌝ }
@@ -48,13 +51,52 @@ fn orders_word(o: Orders) -> u64
     first + FIFTH * outcome_number(outcome) as u64 + SIXTH * reply_time(reply) as u64
 }
 
-pub(crate) fn received_word(a: Received) -> u64
+// The two words of a frame's answer.
+#[repr(C)]
+pub struct ReceivedWords {
+    pub answer: u64,
+    pub change: u64,
+}
+
+fn change_word(x: Change) -> u64
+    ensures { λ r. ⌜ r ≡ changeNo (changeAnswer x) ⌝ }
+{
+    let before = x.before;
+    let after = x.after;
+    let small = x.level as u64 % 4
+        + 4 * phase_number(before) as u64
+        + 16 * phase_number(after) as u64
+        + 64 * digit(x.advertised);
+    x.system % SEVENTH + SEVENTH * small
+}
+
+fn received_change(a: Received) -> u64
+    ensures { λ r. ⌜ r ≡ changedNo (receivedOf a) ⌝ }
+{
+    match a {
+        Received::Refused(_) => 0,
+        Received::Done(o) => {
+            let change = o.change;
+            change_word(change)
+        }
+    }
+}
+
+fn received_word(a: Received) -> u64
     ensures { λ r. ⌜ r ≡ answerNo (receivedOf a) ⌝ }
 {
     match a {
         Received::Refused(x) => number_of(x) as u64,
         Received::Done(o) => orders_word(o),
     }
+}
+
+pub(crate) fn received_words(a: Received) -> ReceivedWords
+    ensures { λ r. ⌜ (r .answer ≡ answerNo (receivedOf a)) × (r .change ≡ changedNo (receivedOf a)) ⌝ }
+{
+    let answer = received_word(a);
+    let change = received_change(a);
+    ReceivedWords { answer, change }
 }
 
 pub(crate) fn ticked_word(a: Ticked) -> u64

@@ -1,10 +1,11 @@
 // The calls of crate gateway, each with its answer as one word (specs/Words.antt). The lowest octet is the code: 0 where the call was
 // done, else the refusal's number, which then is the whole word. A refusal leaves every lent word and octet as it was.
+use crate::answers::ReceivedWords;
 use crate::answers::flags_word;
 use crate::answers::looked_word;
 use crate::answers::metric_word;
 use crate::answers::noticed_word;
-use crate::answers::received_word;
+use crate::answers::received_words;
 use crate::answers::released_word;
 use crate::answers::set_up_word;
 use crate::answers::ticked_word;
@@ -15,6 +16,7 @@ use crate::config::are_settings_known;
 use crate::config::settings_in;
 use basics::refusal::Refusal;
 use gateway::calls::GATEWAY_WORDS;
+use gateway::calls::clear;
 use gateway::calls::csnp_complete;
 use gateway::calls::database_complete;
 use gateway::calls::link_metric;
@@ -29,9 +31,9 @@ use model::answers::SetUp;
 ghost use mathlib.Core.Path.{_≡_};
 ghost use mathlib.Core.List.{[]};
 ghost use Rattle.basics.specs.Octets.{big};
-ghost use Rattle.model.specs.Step.{step, At, Over, Receive, Tick, Release, CsnpComplete, DatabaseComplete, LookUp, LinkMetric, NextHello, Waiting};
+ghost use Rattle.model.specs.Step.{step, At, Over, Receive, Tick, Release, Clear, CsnpComplete, DatabaseComplete, LookUp, LinkMetric, NextHello, Waiting};
 ghost use Rattle.gateway.specs.Words.{gatewayWords, gatewayOf, keyGiven};
-ghost use Rattle.isis_gr.specs.Encodes.{Encodes, EncodesFound};
+ghost use Rattle.isis_gr.specs.Encodes.{Encodes, EncodesFrame, EncodesFound};
 ghost use Rattle.isis_gr.specs.Settings.{setupFrom, EncodesSetup};
 
 // How many words of memory a caller lends.
@@ -64,10 +66,10 @@ pub extern "C" fn isis_gr_raw_receive(
     source: &[u8; 6],
     frame: &[u8],
     reply: &mut [u8],
-) -> u64
-    ensures { λ r. ⌜ Encodes r (step (gatewayOf (now (gateway .entry))) (At circuit (Receive (big 6 (now (source .entry)) 0) (now (frame .entry)) (now (reply .entry))))) (now (gateway .entry)) (now (gateway .exit)) (now (reply .exit)) ⌝ }
+) -> ReceivedWords
+    ensures { λ r. ⌜ EncodesFrame r (step (gatewayOf (now (gateway .entry))) (At circuit (Receive (big 6 (now (source .entry)) 0) (now (frame .entry)) (now (reply .entry))))) (now (gateway .entry)) (now (gateway .exit)) (now (reply .exit)) ⌝ }
 {
-    received_word(receive(gateway, circuit, source, frame, reply))
+    received_words(receive(gateway, circuit, source, frame, reply))
 }
 
 // The clock.
@@ -84,6 +86,14 @@ pub extern "C" fn isis_gr_raw_release(gateway: &mut [u64; GATEWAY_WORDS], circui
     ensures { λ r. ⌜ Encodes r (step (gatewayOf (now (gateway .entry))) (At circuit Release)) (now (gateway .entry)) (now (gateway .exit)) [] ⌝ }
 {
     released_word(release(gateway, circuit))
+}
+
+// All records of a circuit go.
+#[no_mangle]
+pub extern "C" fn isis_gr_raw_clear(gateway: &mut [u64; GATEWAY_WORDS], circuit: u8) -> u32
+    ensures { λ r. ⌜ Encodes r (step (gatewayOf (now (gateway .entry))) (At circuit Clear)) (now (gateway .entry)) (now (gateway .exit)) [] ⌝ }
+{
+    released_word(clear(gateway, circuit))
 }
 
 // The CSNP set of a level is complete on a circuit.

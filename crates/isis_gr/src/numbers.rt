@@ -3,6 +3,7 @@ use adjacency::duty::Csnps;
 use adjacency::marks::Acknowledgement;
 use adjacency::record::Data;
 use adjacency::record::Mark;
+use adjacency::record::Phase;
 use adjacency::record::State;
 use basics::bits::digit;
 use basics::levels::Levels;
@@ -16,7 +17,7 @@ use timers::outcome::TimerOutcome;
 ghost use mathlib.Core.Path.{_≡_};
 ghost use Prim.Native.Nat.{_+_, _^_, _≤_, _<_};
 ghost use Rattle.restart_tlv.specs.Restart.{ackFlag};
-ghost use Rattle.model.specs.Numbers.{replyFlags, replyTime, lowestNo, levelsNo, csnpsNo, freedNo, overloadNo, markNo, stateNo};
+ghost use Rattle.model.specs.Numbers.{replyFlags, replyTime, lowestNo, levelsNo, csnpsNo, freedNo, overloadNo, markNo, phaseNo, stateNo};
 ghost use Rattle.model.specs.Answers.{timersAnswer, recordAnswer, isReversed, offsetOf, wholeOf, unreachableOf};
 ghost use Rattle.adjacency.specs.declared.record.Adjacency.the-variants.{Present};
 ghost use Rattle.adjacency.specs.declared.record.State.the-variants.{Up};
@@ -32,6 +33,8 @@ pub const FOURTH: u64 = 16777216;
 pub const FIFTH: u64 = 4294967296;
 
 pub const SIXTH: u64 = 1099511627776;
+
+pub const SEVENTH: u64 = 281474976710656;
 
 fn levels_number(l: Levels) -> u8
     ensures { λ r. ⌜ (r ≡ levelsNo l) × (r ≤ 3) ⌝ }
@@ -149,6 +152,16 @@ pub(crate) fn data_number(m: Mark, d: Data) -> u64
     let reverse = last.reverse;
     let lost = mark_number(m) as u64 + 4 * digit(d.suppressed) + 8 * digit(last.tlv);
     lost + SECOND * last.priority as u64 + reverse_number(reverse)
+}
+
+pub(crate) fn phase_number(p: Phase) -> u8
+    ensures { λ r. ⌜ (r ≡ phaseNo p) × (r ≤ 2) ⌝ }
+{
+    match p {
+        Phase::Gone => 0,
+        Phase::Init => 1,
+        Phase::Up => 2,
+    }
 }
 
 pub(crate) fn state_number(s: State) -> u8

@@ -42,7 +42,7 @@ use Rattle.control.specs.Common.{Common, withTimers}
 use Rattle.room.specs.Accept.{ifRoom, decided, kept}
 use Rattle.model.specs.Gateway.{Room}
 use Rattle.model.specs.Receive.{Acted, refuse, hereOf, saidOf, accepted, reacted, decidedIn, checked, readIn, isShort, receive}
-use Rattle.model.specs.Step.{Local, Receive, Release, CsnpComplete, LookUp, LinkMetric, NextHello, csnpComplete, asksLevel, lookUp, linkMetricOf, nextHello, act}
+use Rattle.model.specs.Step.{Local, Receive, Release, Clear, CsnpComplete, LookUp, LinkMetric, NextHello, csnpComplete, asksLevel, lookUp, linkMetricOf, nextHello, act}
 use Rattle.model.specs.Claim.{Neighbour, isSent, isNine, unordered, comparedThere}
 
 -- the records of every MAC but m are the same
@@ -125,6 +125,7 @@ pub act-its : (b : Neighbour) (n : ℕ) (s : Circuit) (l : Local) (c : Common) (
 unfolding act isSent
 act-its b n s (Receive mac frame buf) c r lan e = rw (← eqb-true mac (b .mac) e) (receive-its n s mac lan buf c r frame)
 act-its b n s Release c r lan e = absurd (false≢true e)
+act-its b n s Clear c r lan e = absurd (false≢true e)
 act-its b n s (CsnpComplete level) c r lan e = absurd (false≢true e)
 act-its b n s (LookUp k) c r lan e = absurd (false≢true e)
 act-its b n s LinkMetric c r lan e = absurd (false≢true e)
@@ -147,26 +148,27 @@ module _ (b : Neighbour) (n : ℕ) (s : Circuit) (mac : ℕ) (frame buf : List �
   both-refuse x h₁ h₂ = record { room = near; answer = refl; reply = refl }
 
   both-accepted : (h : Hello) (k : Key) (after : Adjacency) (reply : Acknowledgement) (line : Line)
-      → crowded k (r₁ .slots) ≡ false → crowded k (r₂ .slots) ≡ false
+      → crowded k (r₁ .slots) ≡ false → crowded k (r₂ .slots) ≡ false → find k (r₁ .slots) ≡ find k (r₂ .slots)
       → Both (accepted n s h k buf after reply line c r₁) (accepted n s h k buf after reply line c r₂)
   unfolding accepted comparedThere unordered
-  both-accepted h k after reply line e₁ e₂ h₁ h₂ = record { room = but-for-kept k _ e₁ e₂ near; answer = refl; reply = refl }
+  both-accepted h k after reply line e₁ e₂ f h₁ h₂ = record { room = but-for-kept k _ e₁ e₂ near; answer = rw f refl; reply = refl }
 
-  reacted-both : (h : Hello) (k : Key) (a : Reaction)
+  reacted-both : (h : Hello) (k : Key) (a : Reaction) → find k (r₁ .slots) ≡ find k (r₂ .slots)
       → Both (reacted n s h k buf (ifRoom (crowded k (r₁ .slots)) a) c r₁) (reacted n s h k buf (ifRoom (crowded k (r₂ .slots)) a) c r₂)
   unfolding reacted ifRoom
-  reacted-both h k (RefusedReaction x) = both-refuse x
-  reacted-both h k (Accepted after reply line) =
+  reacted-both h k (RefusedReaction x) f = both-refuse x
+  reacted-both h k (Accepted after reply line) f =
       by-test (crowded k (r₁ .slots)) (λ e₁. rw e₁ (λ h₁ h₂. absurd (not-nine buf c r₁ h₁)))
       (λ e₁.
       by-test (crowded k (r₂ .slots)) (λ e₂. rw e₂ (λ h₁ h₂. absurd (not-nine buf c r₂ h₂)))
-      (λ e₂. rw (e₁, e₂) (both-accepted h k after reply line e₁ e₂)))
+      (λ e₂. rw (e₁, e₂) (both-accepted h k after reply line e₁ e₂ f)))
 
   decided-both : s .kind ≡ Lan → mac ≢ b .mac → (h : Hello) → Both (decidedIn n s mac buf h c r₁) (decidedIn n s mac buf h c r₂)
   unfolding decidedIn decided
   decided-both lan other h =
       let k : Key = keyIn (s .kind) mac h in
-      rw (but-for-find near k (λ e. other (sym (key-mac s mac h lan) ∙ e))) (reacted-both h k (reactOf (hereOf c s) h (find k (r₂ .slots))))
+      let f = but-for-find near k (λ e. other (sym (key-mac s mac h lan) ∙ e)) in
+      rw (ap (reactOf (hereOf c s) h) f) (reacted-both h k (reactOf (hereOf c s) h (find k (r₂ .slots))) f)
 
   read-both : s .kind ≡ Lan → mac ≢ b .mac → (d : Read) → Both (readIn n s mac buf d c r₁) (readIn n s mac buf d c r₂)
   unfolding readIn checked
@@ -207,6 +209,7 @@ unfolding act isSent comparedThere refuse linkMetricOf nextHello
 act-both b n s (Receive mac frame buf) c r₁ r₂ run lan e near h₁ h₂ =
     receive-both b n s mac frame buf c r₁ r₂ near lan (eqb-false _ _ e) h₁ h₂
 act-both b n s Release c r₁ r₂ run lan e near h₁ h₂ = record { room = but-for-sweep plannedState near; answer = refl; reply = refl }
+act-both b n s Clear c r₁ r₂ run lan e near h₁ h₂ = record { room = but-for-refl _ _; answer = refl; reply = refl }
 act-both b n s (CsnpComplete level) c r₁ r₂ run lan e near h₁ h₂ =
     rw (csnp-refused n s level c r₁ run, csnp-refused n s level c r₂ run) (record { room = near; answer = refl; reply = refl })
 act-both b n s (LookUp k) c r₁ r₂ run lan e near h₁ h₂ = look-both b s k c r₁ r₂ lan near
@@ -233,6 +236,7 @@ module _ (n : ℕ) (s : Circuit) (c : Common) (r : Room) (run : c .timers .mode 
   act-common (Receive mac frame buf) =
       by-test (isShort buf) (λ e. rw e) (λ e. rw e (read-common mac buf (helloRead (s .kind) (s .mac) frame)))
   act-common Release = refl
+  act-common Clear = refl
   act-common (CsnpComplete level) = rw (csnp-refused n s level c r run)
   act-common (LookUp k) = by-test (asksLevel (s .kind) (s .levels) (k .level)) (λ e. rw e) (λ e. rw e)
   act-common LinkMetric = refl

@@ -27,7 +27,7 @@ use Rattle.room.specs.Accept.{decided}
 use Rattle.model.specs.Answers.{Refused, Told, Fact, TimersAnswer}
 use Rattle.model.specs.Gateway.{Gateway, Room, withRooms, renew, noRoom, roomOf}
 use Rattle.model.specs.Receive.{Acted, refuse, hereOf, accepted, reacted, decidedIn, checked, readIn, isShort, receive}
-use Rattle.model.specs.Step.{Outcome, Local, Receive, Release, CsnpComplete, LookUp, LinkMetric, NextHello, Global, Tick, DatabaseComplete, Waiting, At, Over, told, asksLevel, csnpComplete, lookUp, linkMetricOf, nextHello, act, lent, lift, on, Judged, Refused as RefusedCall, Sweep, Tell, noneOf, quiet, isBack, tickOf, databaseOf, judge, carry, step}
+use Rattle.model.specs.Step.{Outcome, Local, Receive, Release, Clear, CsnpComplete, LookUp, LinkMetric, NextHello, Global, Tick, DatabaseComplete, Waiting, At, Over, told, asksLevel, csnpComplete, lookUp, linkMetricOf, nextHello, act, lent, lift, on, Judged, Refused as RefusedCall, Sweep, Tell, noneOf, quiet, isBack, tickOf, databaseOf, judge, carry, step}
 use Rattle.model.specs.Refusals.{RefusalsKeep}
 use Rattle.model.proofs.Lists.{renew-numbered}
 
@@ -75,6 +75,7 @@ act-keeps : (n : ℕ) (s : Circuit) (l : Local) (c : Common) (r : Room) → Keep
 unfolding act csnpComplete lookUp linkMetricOf nextHello
 act-keeps n s (Receive mac frame b) c r = receive-keeps b c r n s mac frame
 act-keeps n s Release c r = told-keeps [] c _ r _ _
+act-keeps n s Clear c r = told-keeps [] c _ r _ _
 act-keeps n s (CsnpComplete level) c r =
     cond-keeps [] c r (hasLevel (s .levels) level) _ _ (cond-keeps [] c r (isRestarting (c .timers .mode)) _ _ (told-keeps [] c _ r _ _) (refuse-keeps [] c r NotRestarting))
     (refuse-keeps [] c r NoCircuit)

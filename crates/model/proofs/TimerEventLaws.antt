@@ -26,7 +26,7 @@ use Rattle.control.specs.Common.{Common, circuitOf}
 use Rattle.timers.specs.Timers.{Timers}
 use Rattle.model.specs.Gateway.{Gateway, Room, roomOf}
 use Rattle.model.specs.Receive.{Acted, refuse, hereOf, saidOf, accepted, reacted, decidedIn, checked, readIn, isShort, receive}
-use Rattle.model.specs.Step.{Local, Receive, Release, CsnpComplete, LookUp, LinkMetric, NextHello, Global, Tick, DatabaseComplete, Waiting, Call, At, Over, Outcome, asksLevel, csnpComplete, lookUp, linkMetricOf, nextHello, act, lift, on, noneOf, isBack, tickOf, databaseOf, judge, carry, step}
+use Rattle.model.specs.Step.{Local, Receive, Release, Clear, CsnpComplete, LookUp, LinkMetric, NextHello, Global, Tick, DatabaseComplete, Waiting, Call, At, Over, Outcome, asksLevel, csnpComplete, lookUp, linkMetricOf, nextHello, act, lift, on, noneOf, isBack, tickOf, databaseOf, judge, carry, step}
 use Rattle.model.specs.Trace.{trace, leftBy, after}
 use Rattle.model.specs.TimerEvents.{TimerEvent, Nothing, Hello as Heard, moved, movedAll, heardFrom, offeredOn, offeredOver, offered, whereDone, eventOf, eventsOf}
 
@@ -61,6 +61,7 @@ module _ (n : ℕ) (s : Circuit) (c : Common) (r : Room) where
   unfolding act csnpComplete lookUp linkMetricOf nextHello refuse offeredOn moved whereDone
   act-moves (Receive mac frame b) = receive-moves mac frame b
   act-moves Release = refl
+  act-moves Clear = refl
   act-moves (CsnpComplete level) =
       by-test (hasLevel (s .levels) level)
       (λ e. by-test (isRestarting (c .timers .mode)) (λ m. rw (e, m) refl) (λ m. rw (e, m) refl))

@@ -6,16 +6,19 @@ use mathlib.Core.List.{List}
 use Rattle.basics.specs.Mask.{circuits, bitsOf}
 use Rattle.hello.specs.declared.reverse.ReverseMetric.{ReverseMetric}
 use Rattle.hello.specs.declared.reverse.ReverseMetric.the-variants.{Absent as NoReverse, Present as Reverse}
-use Rattle.adjacency.specs.Record.{advertised, expiryOf, markOf, suppressedOf}
+use Rattle.adjacency.specs.Record.{advertised, phaseOf, expiryOf, markOf, suppressedOf}
 use Rattle.adjacency.specs.declared.record.Adjacency.{Adjacency}
 use Rattle.adjacency.specs.declared.record.Adjacency.the-variants.{Absent, Present}
+use Rattle.adjacency.specs.declared.record.Key.{Key}
 use Rattle.adjacency.specs.declared.record.Last.{Last}
+use Rattle.adjacency.specs.declared.record.Phase.{Phase}
 use Rattle.adjacency.specs.declared.record.State.{State}
 use Rattle.adjacency.specs.declared.record.State.the-variants.{Init, Up}
 use Rattle.timers.specs.Events.{helloBits}
 use Rattle.timers.specs.declared.outcome.TimerOutcome.{TimerOutcome}
 use Rattle.timers.specs.declared.outcome.TimerOutcome.the-variants.{Idle, Goes, Ended}
-use Rattle.model.specs.Numbers.{refusalNo, replyFlags, replyTime, lowestNo, levelsNo, csnpsNo, freedNo, overloadNo, markNo, stateNo}
+use Rattle.model.specs.Numbers.{refusalNo, replyFlags, replyTime, lowestNo, levelsNo, csnpsNo, freedNo, overloadNo, markNo, phaseNo, stateNo}
+use Rattle.model.specs.declared.answers.Change.{Change}
 use Rattle.model.specs.declared.answers.Orders.{Orders}
 use Rattle.model.specs.declared.answers.Received.{Received as ReceivedCode}
 use Rattle.model.specs.declared.answers.Received.the-variants.{Refused as RefusedFrame, Done as DoneFrame}
@@ -42,13 +45,23 @@ pub record TimersAnswer : Type 0 where
   pub spf : ℕ
   pub overload : ℕ
 
--- an accepted frame: the reply's flags and Remaining Time, the levels of line 1's order, T1's end for want of a Restart TLV, the timers
+-- what became of the frame's record: its key's level (0 on P2P) and System ID, its state before and after, whether it is advertised after
+pub record ChangeAnswer : Type 0 where
+  pub level : ℕ
+  pub system : ℕ
+  pub before : ℕ
+  pub after : ℕ
+  pub advertised : Bool
+
+-- an accepted frame: the reply's flags and Remaining Time, the levels of line 1's order, T1's end for want of a Restart TLV, the timers, and the
+-- frame's record
 pub record FrameAnswer : Type 0 where
   pub reply : ℕ
   pub time : ℕ
   pub csnps : ℕ
   pub freed : ℕ
   pub timers : TimersAnswer
+  pub change : ChangeAnswer
 
 -- a record with all its data; of one that is not there every number is 0
 pub record RecordAnswer : Type 0 where
@@ -95,6 +108,10 @@ timersAnswer Idle = record { restart = 0; spf = 0; overload = 0 }
 timersAnswer (Goes spf overload) = record { restart = 1; spf = levelsNo spf; overload = overloadNo overload }
 timersAnswer (Ended spf overload) = record { restart = 2; spf = levelsNo spf; overload = overloadNo overload }
 
+abbrev pub changeAnswer : Change → ChangeAnswer
+changeAnswer x =
+    record { level = x .level; system = x .system; before = phaseNo (x .before); after = phaseNo (x .after); advertised = x .advertised }
+
 abbrev pub frameAnswer : Orders → FrameAnswer
 frameAnswer o =
     record {
@@ -103,6 +120,7 @@ frameAnswer o =
       csnps = csnpsNo (o .csnps);
       freed = freedNo (o .freed);
       timers = timersAnswer (o .outcome);
+      change = changeAnswer (o .change);
     }
 
 -- what is kept of a record's last frame
@@ -163,6 +181,15 @@ noRecord =
 abbrev pub recordAnswer : Adjacency → RecordAnswer
 recordAnswer Absent = noRecord
 recordAnswer (Present s) = stateAnswer s (advertised s)
+
+abbrev pub isShown : Adjacency → Bool
+isShown Absent = false
+isShown (Present s) = advertised s
+
+-- the record with the key k, its state before and itself after
+abbrev pub changeOf : Key → Phase → Adjacency → Change
+changeOf k before after =
+    record { level = k .level; system = k .system; before = before; after = phaseOf after; advertised = isShown after }
 
 -- ---- the code's answers
 

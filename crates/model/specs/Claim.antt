@@ -15,7 +15,7 @@ use Rattle.settings.specs.declared.circuit.Chosen.{Chosen}
 use Rattle.settings.specs.declared.circuit.Chosen.the-variants.{Known, Unknown}
 use Rattle.model.specs.Answers.{Answer, Refused, Received, Ticked, Told, Done, FrameAnswer}
 use Rattle.model.specs.Gateway.{Gateway, Started, setup, renew, recordAt}
-use Rattle.model.specs.Step.{Local, Receive, Release, CsnpComplete, LookUp, LinkMetric, NextHello, Call, At, Over, Outcome}
+use Rattle.model.specs.Step.{Local, Receive, Release, Clear, CsnpComplete, LookUp, LinkMetric, NextHello, Call, At, Over, Outcome}
 use Rattle.model.specs.Trace.{Turn, trace}
 
 -- a bad neighbour: one source MAC on one circuit
@@ -29,6 +29,7 @@ pub record Neighbour : Type 0 where
 unfoldable pub isSent : Neighbour → Local → Bool
 isSent b (Receive mac frame buffer) = eqb mac (b .mac)
 isSent b Release = false
+isSent b Clear = false
 isSent b (CsnpComplete level) = false
 isSent b (LookUp k) = false
 isSent b LinkMetric = false
@@ -94,7 +95,7 @@ withoutLost n (Told f) = Told f
 
 -- ".. but for line 1's orders"
 abbrev pub withoutCsnps : FrameAnswer → FrameAnswer
-withoutCsnps f = record { reply = f .reply; time = f .time; csnps = 0; freed = f .freed; timers = f .timers }
+withoutCsnps f = record { reply = f .reply; time = f .time; csnps = 0; freed = f .freed; timers = f .timers; change = f .change }
 
 unfoldable pub unordered : Answer → Answer
 unordered (Received f) = Received (withoutCsnps f)
@@ -107,6 +108,7 @@ unfoldable pub comparedThere : Neighbour → Local → Answer → Answer
 comparedThere b (Receive mac frame buffer) a = unordered a
 comparedThere b (LookUp k) a = cond (eqb (k .mac) (b .mac)) (Told Done) a
 comparedThere b Release a = a
+comparedThere b Clear a = a
 comparedThere b (CsnpComplete level) a = a
 comparedThere b LinkMetric a = a
 comparedThere b NextHello a = a

@@ -17,8 +17,11 @@ use Rattle.adjacency.specs.declared.marks.Acknowledgement.{Acknowledgement}
 use Rattle.adjacency.specs.declared.marks.Acknowledgement.the-variants.{Nothing as NoReply, Send}
 use Rattle.adjacency.specs.declared.record.Mark.{Mark}
 use Rattle.adjacency.specs.declared.record.Mark.the-variants.{Clear as Unmarked, Restart, Planned}
+use Rattle.adjacency.specs.Record.{phaseOf}
+use Rattle.adjacency.specs.declared.record.Adjacency.the-variants.{Present}
+use Rattle.adjacency.specs.declared.record.Phase.{Phase}
+use Rattle.adjacency.specs.declared.record.Phase.the-variants.{Gone, Init as InitPhase, Up as UpPhase}
 use Rattle.adjacency.specs.declared.record.State.{State}
-use Rattle.adjacency.specs.declared.record.State.the-variants.{Init, Up}
 use Rattle.timer_parts.specs.declared.t1.Freed.{Freed}
 use Rattle.timer_parts.specs.declared.t1.Freed.the-variants.{Kept, Stopped, Reinitialise}
 use Rattle.timers.specs.declared.outcome.Overload.{Overload}
@@ -85,7 +88,11 @@ markNo Unmarked = 0
 markNo Restart = 1
 markNo Planned = 2
 
--- INIT and UP; 0 is no record
+-- no record, INIT and UP
+abbrev pub phaseNo : Phase → ℕ
+phaseNo Gone = 0
+phaseNo InitPhase = 1
+phaseNo UpPhase = 2
+
 abbrev pub stateNo : State → ℕ
-stateNo (Init d) = 1
-stateNo (Up d m) = 2
+stateNo s = phaseNo (phaseOf (Present s))

@@ -11,6 +11,7 @@ use Rattle.hello.specs.declared.read.Read.{Read}
 use Rattle.hello.specs.declared.read.Read.the-variants.{Refused as RefusedRead, Accepted as ReadAs}
 use Rattle.basics.specs.declared.refusal.Refusal.{Refusal}
 use Rattle.basics.specs.declared.refusal.Refusal.the-variants.{ReplyRoom, WrongSource}
+use Rattle.adjacency.specs.Record.{phaseOf}
 use Rattle.adjacency.specs.Step.{wrongSource}
 use Rattle.adjacency.specs.declared.duty.Rank.{Rank}
 use Rattle.adjacency.specs.declared.marks.Acknowledgement.{Acknowledgement}
@@ -28,10 +29,12 @@ use Rattle.timers.specs.Outcome.{ordered, heardFreed}
 use Rattle.settings.specs.declared.circuit.Circuit.{Circuit}
 use Rattle.control.specs.Common.{Common, withTimers}
 use Rattle.adjacency.specs.Keys.{levelIn, keyIn}
+use Rattle.room.specs.Table.{find}
 use Rattle.room.specs.Accept.{decided, kept, written, csnpsIn}
+use Rattle.model.specs.declared.answers.Change.{Change}
 use Rattle.model.specs.declared.answers.Orders.{Orders}
 use Rattle.model.specs.Numbers.{refusalNo}
-use Rattle.model.specs.Answers.{Answer, Refused, Received, frameAnswer}
+use Rattle.model.specs.Answers.{Answer, Refused, Received, frameAnswer, changeOf}
 use Rattle.model.specs.Gateway.{Room, withSlots}
 
 -- what a call on a circuit answers and replies, and what it makes of the common part and of the circuit's own
@@ -59,20 +62,21 @@ rankOf s h = record { level = levelIn (h .link); priority = s .priority; mac = s
 abbrev pub saidOf : Common → Circuit → Hello → Heard
 saidOf c s h = heardOf (c .system) (s .id) h
 
-abbrev pub ordersOf : ℕ → Circuit → Hello → Acknowledgement → Line → Common → Room → Orders
-ordersOf n s h reply line c r =
+abbrev pub ordersOf : ℕ → Circuit → Hello → Acknowledgement → Line → Change → Common → Room → Orders
+ordersOf n s h reply line change c r =
     record {
       reply = reply;
       csnps = csnpsIn (rankOf s h) line (s .levels) (h .link) (r .slots);
       outcome = ordered (heardIn (c .clock) (n - 1) (s .levels) (saidOf c s h)) (c .timers);
       freed = heardFreed (n - 1) (saidOf c s h) (c .timers);
+      change = change;
     }
 
 -- The record, then line 1's order, then the timers, then the reply. Circuits' timers count from 0.
 unfoldable pub accepted : ℕ → Circuit → Hello → Key → List ℕ → Adjacency → Acknowledgement → Line → Common → Room → Acted
 accepted n s h k b after reply line c r =
     record {
-      answer = Received (frameAnswer (ordersOf n s h reply line c (withSlots r (kept k after (r .slots)))));
+      answer = Received (frameAnswer (ordersOf n s h reply line (changeOf k (phaseOf (find k (r .slots))) after) c (withSlots r (kept k after (r .slots)))));
       reply = written (h .system) reply b;
       common = withTimers (heard (c .clock) (n - 1) (s .levels) (saidOf c s h) (c .timers)) c;
       room = withSlots r (kept k after (r .slots));

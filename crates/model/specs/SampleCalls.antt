@@ -8,7 +8,7 @@ use lib.ListN.{length, replicate, set}
 use Rattle.settings.specs.declared.mode.Mode.the-variants.{Running}
 use Rattle.model.specs.Answers.{Answer, Refused, Received, Ticked, Told, Done, Noticed, Looked, Metric, HelloFlags, Waits, numberOf}
 use Rattle.model.specs.Gateway.{Gateway, Refused as RefusedSetup, setup}
-use Rattle.model.specs.Step.{Call, At, Over, Receive, CsnpComplete, LookUp, LinkMetric, Tick, DatabaseComplete, step}
+use Rattle.model.specs.Step.{Call, At, Over, Receive, Clear, CsnpComplete, LookUp, LinkMetric, Tick, DatabaseComplete, step}
 use Rattle.model.specs.Trace.{Turn, trace, after}
 use Rattle.model.specs.SampleFrames.{settings, frameOf, frameWith, hello, row, lentOctets, callsOf, From}
 
@@ -143,5 +143,14 @@ Advertised =
     (looking ∷ receive (hello 0 (4 ∷ [])) ∷ looking ∷ receive (hello 2 (0 ∷ [])) ∷ looking ∷ Over (Tick 200) ∷ looking ∷ [])))
     ≡ (2, true) ∷ (0, false) ∷ (2, false) ∷ (0, false) ∷ (1, false) ∷ (0, false) ∷ (0, false) ∷ [])
 
+-- clear: 1 where there is no such circuit; else the record is gone, and the next hello is a new neighbour's (three-way Down gives INIT)
+abbrev pub Clears : Type 0
+Clears =
+    OnSample
+    (λ g.
+    (map numberOf (answers (trace g (At 2 Clear ∷ At 1 Clear ∷ []))) ≡ 1 ∷ 0 ∷ [])
+    × (map shown (answers (trace g (At 1 Clear ∷ looking ∷ receive (hello 2 (0 ∷ [])) ∷ looking ∷ [])))
+    ≡ (0, false) ∷ (0, false) ∷ (0, false) ∷ (1, false) ∷ []))
+
 abbrev pub SampleCalls : Type 0
-SampleCalls = EachNumber × FirstOfTwo × Twelve × Ticks × Advertised
+SampleCalls = EachNumber × FirstOfTwo × Twelve × Ticks × Advertised × Clears

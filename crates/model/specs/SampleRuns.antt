@@ -6,6 +6,7 @@ use mathlib.Core.Bool.{true, false}
 use mathlib.Core.Path.{_≡_}
 use mathlib.Core.List.{List, [], _∷_, _++_, map}
 use lib.ListN.{replicate}
+use lib.Dec.{eqb}
 use Rattle.hello.specs.declared.reverse.ReverseMetric.the-variants.{Absent as NoMetric}
 use Rattle.adjacency.specs.declared.record.Adjacency.{Adjacency}
 use Rattle.adjacency.specs.declared.record.Adjacency.the-variants.{Present}
@@ -49,14 +50,23 @@ up expiry mark = Present (Up (kept expiry) mark)
 abbrev pub octets : ℕ → ℕ → ℕ → List ℕ
 octets flag high low = 0xD3 ∷ 0x09 ∷ flag ∷ high ∷ low ∷ 0x19 ∷ 0x21 ∷ 0x68 ∷ 0x00 ∷ 0x10 ∷ 0x02 ∷ 0xFF ∷ []
 
--- the flags and the Remaining Time of the reply, the levels of line 1's order (3 for both), whether the restart goes on (1)
-abbrev pub accepted : ℕ → ℕ → ℕ → ℕ → Answer
-accepted flags time csnps restart =
-    Received (record { reply = flags; time = time; csnps = csnps; freed = 0; timers = record { restart = restart; spf = 0; overload = 0 } })
+-- the flags and the Remaining Time of the reply, the levels of line 1's order (3 for both), the record's state before and after (0 none, 1 INIT,
+-- 2 UP; none is suppressed), whether the restart goes on (1)
+abbrev pub accepted : ℕ → ℕ → ℕ → ℕ → ℕ → ℕ → Answer
+accepted flags time csnps before after restart =
+    Received
+    (record {
+      reply = flags;
+      time = time;
+      csnps = csnps;
+      freed = 0;
+      timers = record { restart = restart; spf = 0; overload = 0 };
+      change = record { level = 0; system = 0x192168001002; before = before; after = after; advertised = eqb after 2 };
+    })
 
 -- in the mode Running
-abbrev pub received : ℕ → ℕ → ℕ → Answer
-received flags time csnps = accepted flags time csnps 0
+abbrev pub received : ℕ → ℕ → ℕ → ℕ → ℕ → Answer
+received flags time csnps before after = accepted flags time csnps before after 0
 
 -- ---- C1 to C7: marks and holding time
 
@@ -74,13 +84,13 @@ C1toC6 =
     ∷ row 120 0 (8 ∷ 0x02 ∷ 0x58 ∷ [])
     ∷ row 130 0 (1 ∷ 0 ∷ 0 ∷ [])
     ∷ [])
-    ≡ saw (up 110 Clear) lentOctets (received 0 0 0)
-    ∷ saw (up 127 Restart) (octets 0x02 0x00 0x1B) (received 2 27 3)
-    ∷ saw (up 127 Restart) (octets 0x02 0x00 0x16) (received 2 22 3)
-    ∷ saw (up 133 Clear) lentOctets (received 0 0 0)
-    ∷ saw (up 410 Planned) (octets 0x10 0x01 0x2C) (received 16 300 0)
-    ∷ saw (up 410 Planned) (octets 0x10 0x01 0x22) (received 16 290 0)
-    ∷ saw (up 160 Restart) (octets 0x02 0x00 0x1E) (received 2 30 3)
+    ≡ saw (up 110 Clear) lentOctets (received 0 0 0 0 2)
+    ∷ saw (up 127 Restart) (octets 0x02 0x00 0x1B) (received 2 27 3 2 2)
+    ∷ saw (up 127 Restart) (octets 0x02 0x00 0x16) (received 2 22 3 2 2)
+    ∷ saw (up 133 Clear) lentOctets (received 0 0 0 2 2)
+    ∷ saw (up 410 Planned) (octets 0x10 0x01 0x2C) (received 16 300 0 2 2)
+    ∷ saw (up 410 Planned) (octets 0x10 0x01 0x22) (received 16 290 0 2 2)
+    ∷ saw (up 160 Restart) (octets 0x02 0x00 0x1E) (received 2 30 3 2 2)
     ∷ [])
 
 -- C7: no record stands
@@ -89,7 +99,7 @@ C7 =
     From (setup (settings Running 10 100))
     (λ g.
     played seen g (row 100 2 (1 ∷ 0 ∷ 0 ∷ []) ∷ [])
-    ≡ saw (Present (Init (kept 127))) (octets 0x02 0x00 0x1B) (received 2 27 0) ∷ [])
+    ≡ saw (Present (Init (kept 127))) (octets 0x02 0x00 0x1B) (received 2 27 0 0 1) ∷ [])
 
 -- ---- C8: lengths of the Restart TLV
 
@@ -112,7 +122,7 @@ C8On g =
     ∷ saw (up 110 Clear) lentOctets (Refused 6)
     ∷ saw (up 110 Clear) lentOctets (Refused 6)
     ∷ saw (up 110 Clear) lentOctets (Refused 6)
-    ∷ saw (up 383 Planned) (octets 0x10 0x01 0x2C) (received 16 300 0)
+    ∷ saw (up 383 Planned) (octets 0x10 0x01 0x2C) (received 16 300 0 2 2)
     ∷ [])
     × (map (λ v. trial g v .next) badValues ≡ replicate 4 g)
 
@@ -124,9 +134,9 @@ C8 = From (setup (settings Running 10 80)) (λ g. C8On (after g (callsOf (row 83
 abbrev pub timed : Outcome → T3 × Seen
 timed o = (o .next .common .timers .t3, seen o)
 
--- every frame is accepted with no reply, and no timer ends
-abbrev pub goesOn : Answer
-goesOn = accepted 0 0 0 1
+-- every frame is accepted with no reply, and no timer ends; the record's state before, and UP
+abbrev pub goesOn : ℕ → Answer
+goesOn before = accepted 0 0 0 before 2 1
 
 -- RA 40, Up; RA 50, Up; RA 20, not Up
 abbrev pub C9 : Type 0
@@ -134,9 +144,9 @@ C9 =
     From (setup (settings Restarting 10 0))
     (λ g.
     played timed g (row 5 0 (acknowledging 40) ∷ row 10 0 (acknowledging 50) ∷ row 12 1 (acknowledging 20) ∷ [])
-    ≡ (Runs 45, saw (up 32 Clear) lentOctets goesOn)
-    ∷ (Runs 45, saw (up 37 Clear) lentOctets goesOn)
-    ∷ (Runs 45, saw (up 39 Clear) lentOctets goesOn)
+    ≡ (Runs 45, saw (up 32 Clear) lentOctets (goesOn 0))
+    ∷ (Runs 45, saw (up 37 Clear) lentOctets (goesOn 2))
+    ∷ (Runs 45, saw (up 39 Clear) lentOctets (goesOn 2))
     ∷ [])
 
 -- ---- C10: the link metric

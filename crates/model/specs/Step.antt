@@ -12,7 +12,7 @@ use Rattle.basics.specs.declared.refusal.Refusal.{Refusal}
 use Rattle.basics.specs.declared.refusal.Refusal.the-variants.{NoCircuit, ClockBack, NotRestarting}
 use Rattle.basics.specs.Levels.{hasLevel, onlyLevel}
 use Rattle.adjacency.specs.declared.record.Key.{Key}
-use Rattle.room.specs.Table.{find, released, expired, anyExpired, firstState}
+use Rattle.room.specs.Table.{find, released, expired, anyExpired, firstState, emptyRoom}
 use Rattle.metric.specs.Metric.{linkMetric}
 use Rattle.basics.specs.Mask.{circuits}
 use Rattle.timer_parts.specs.T1.{helloFlags}
@@ -37,6 +37,7 @@ use Rattle.model.specs.Receive.{Acted, refuse, receive}
 pub data Local : Type 0 where
   Receive : (mac : ℕ) (frame buffer : List ℕ) → Local
   Release : Local
+  Clear : Local
   CsnpComplete : (level : ℕ) → Local
   LookUp : Key → Local
   LinkMetric : Local
@@ -96,9 +97,11 @@ linkMetricOf s c r = told (Metric (linkMetric (s .kind) (s .metric) (firstState 
 unfoldable pub nextHello : ℕ → Common → Room → Acted
 nextHello n c r = told (HelloFlags (helloFlags (getD (c .timers .t1s) (n - 1) noT1) .bits)) c r
 
+-- Clear (house, beside the calls of document 01): the link went down, and all records of its circuit go; no timer is touched
 unfoldable pub act : ℕ → Circuit → Local → Common → Room → Acted
 act n s (Receive mac frame b) c r = receive n s mac frame b c r
 act n s Release c r = told Done c (withSlots r (released (r .slots)))
+act n s Clear c r = told Done c (withSlots r (emptyRoom (s .kind)))
 act n s (CsnpComplete level) c r = csnpComplete n s level c r
 act n s (LookUp k) c r = lookUp s k c r
 act n s LinkMetric c r = linkMetricOf s c r
@@ -108,6 +111,7 @@ act n s NextHello c r = nextHello n c r
 abbrev pub lent : Local → List ℕ
 lent (Receive mac frame b) = b
 lent Release = []
+lent Clear = []
 lent (CsnpComplete level) = []
 lent (LookUp k) = []
 lent LinkMetric = []

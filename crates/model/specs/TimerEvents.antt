@@ -18,7 +18,7 @@ use Rattle.control.specs.Common.{Common, circuitOf}
 use Rattle.model.specs.Answers.{Answer, Refused, Received, Ticked, Told}
 use Rattle.model.specs.Gateway.{Gateway}
 use Rattle.model.specs.Receive.{saidOf}
-use Rattle.model.specs.Step.{Local, Receive, Release, CsnpComplete, LookUp, LinkMetric, NextHello, Global, Tick, DatabaseComplete, Waiting, Call, At, Over, noneOf, step}
+use Rattle.model.specs.Step.{Local, Receive, Release, Clear, CsnpComplete, LookUp, LinkMetric, NextHello, Global, Tick, DatabaseComplete, Waiting, Call, At, Over, noneOf, step}
 use Rattle.model.specs.Trace.{Turn}
 
 -- Circuits' places count from 0. A hello: the clock at its arrival, the circuit's levels, and what the frame says. A CSNP notice: the circuit's
@@ -53,6 +53,7 @@ unfoldable pub offeredOn : ℕ → Common → Local → Chosen → TimerEvent
 offeredOn n c l Unknown = Nothing
 offeredOn n c (Receive mac frame b) (Known s) = heardFrom n s c (helloRead (s .kind) (s .mac) frame)
 offeredOn n c Release (Known s) = Nothing
+offeredOn n c Clear (Known s) = Nothing
 offeredOn n c (CsnpComplete level) (Known s) = CsnpSet (n - 1) (s .levels) (onlyLevel level)
 offeredOn n c (LookUp k) (Known s) = Nothing
 offeredOn n c LinkMetric (Known s) = Nothing

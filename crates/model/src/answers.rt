@@ -2,6 +2,7 @@
 // the lowest bit for circuit 1.
 use adjacency::duty::Csnps;
 use adjacency::marks::Acknowledgement;
+use adjacency::record::Phase;
 use adjacency::record::State;
 use basics::mask::Lowest;
 use basics::refusal::Refusal;
@@ -9,13 +10,24 @@ use restart_tlv::flags::Flags;
 use timer_parts::t1::Freed;
 use timers::outcome::TimerOutcome;
 
-// Of an accepted frame: the reply that was written, line 1's order, how the timers ended and what they order, and whether the circuit's
-// T1 was stopped for want of a Restart TLV.
+// What became of the record of a frame: its key's level (0 on P2P) and System ID, its state before and after, and whether it is advertised
+// after.
+pub struct Change {
+    pub level: u8,
+    pub system: u64,
+    pub before: Phase,
+    pub after: Phase,
+    pub advertised: bool,
+}
+
+// Of an accepted frame: the reply that was written, line 1's order, how the timers ended and what they order, whether the circuit's T1 was
+// stopped for want of a Restart TLV, and what became of the record.
 pub struct Orders {
     pub reply: Acknowledgement,
     pub csnps: Csnps,
     pub outcome: TimerOutcome,
     pub freed: Freed,
+    pub change: Change,
 }
 
 pub enum Received {
@@ -33,7 +45,7 @@ pub enum Ticked {
     },
 }
 
-// Of a call with nothing to report.
+// Of a call with nothing to report: release and clear.
 pub enum Released {
     Refused(Refusal),
     Done,

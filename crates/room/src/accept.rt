@@ -7,6 +7,8 @@ use adjacency::react::Reaction;
 use adjacency::react::react_to;
 use adjacency::record::Adjacency;
 use adjacency::record::Key;
+use adjacency::record::Phase;
+use adjacency::record::phase_of;
 use adjacency::step::Here;
 use basics::refusal::Refusal;
 use hello::read::Hello;
@@ -64,6 +66,12 @@ fn accept_at(
     Reaction::Accepted(after, acknowledgement, line)
 }
 
+// What is decided of a frame, and the state of its record before it.
+pub struct Decision {
+    pub reaction: Reaction,
+    pub before: Phase,
+}
+
 // A frame with a key, over its circuit's words.
 pub fn accept_in(
     words: &mut [u64],
@@ -71,7 +79,7 @@ pub fn accept_in(
     key: Key,
     frame: Hello,
     reply: &mut [u8],
-) -> Reaction
+) -> Decision
     requires { ⌜ (length (now words) ≡ roomWords) × (11 ≤ length (now reply)) ⌝ }
     ensures { λ r. ⌜ Accepts here key frame (now (words .entry)) (now (reply .entry)) (now (words .exit)) (now (reply .exit)) r ⌝ }
 {
@@ -79,6 +87,8 @@ pub fn accept_in(
     let place = place_of(words, key);
     let stood = place.before;
     let spot = place.spot;
+    let before = phase_of(stood);
     let what = react_to(here, frame, stood);
-    accept_at(words, spot, key, what, system, reply)
+    let reaction = accept_at(words, spot, key, what, system, reply);
+    Decision { reaction, before }
 }

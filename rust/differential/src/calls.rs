@@ -12,6 +12,8 @@ pub enum Call {
     Tick(u32),
     /// Release.
     Release(u8),
+    /// Clear.
+    Clear(u8),
     /// CSNP set complete.
     Csnp(u8, u8),
     /// Database complete.
@@ -109,7 +111,8 @@ pub fn call(r: &mut Random, s: &Settings, now: &mut Now) -> Call {
             now.0 = now.0.saturating_add(step);
             Call::Tick(now.0)
         }
-        82..=83 => Call::Release(n),
+        82 => Call::Release(n),
+        83 => Call::Clear(n),
         84..=88 => Call::Csnp(n, level(r)),
         89..=91 => Call::Database(level(r)),
         92..=95 => Call::LookUp(n, level(r), system(r.below(u64::from(SYSTEMS)) as u8), mac(r.below(u64::from(MACS)) as u8)),

@@ -195,6 +195,7 @@ impl Pair {
                 }
             },
             Call::Release(n) => Pair::told(self.memory.release(n), self.reference.release(n)).err().inspect(|_| c.hit("release refused 1")),
+            Call::Clear(n) => Pair::told(self.memory.clear(n), self.reference.clear(n)).err().inspect(|_| c.hit("clear refused 1")),
             Call::Csnp(n, level) => match Pair::told(self.memory.csnp_complete(n, level), self.reference.csnp_complete(n, level)) {
                 Ok(t) => {
                     timers(c, t);

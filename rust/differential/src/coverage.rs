@@ -12,6 +12,7 @@ fn branches() -> Vec<String> {
     for text in [
         "tick refused 10",
         "release refused 1",
+        "clear refused 1",
         "csnp refused 1",
         "csnp refused 11",
         "database refused 1",

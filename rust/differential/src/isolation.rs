@@ -52,6 +52,7 @@ impl Run {
                 t
             })),
             Call::Release(n) => told(self.memory.release(n)),
+            Call::Clear(n) => told(self.memory.clear(n)),
             Call::Csnp(n, level) => told(self.memory.csnp_complete(n, level)),
             Call::Database(level) => told(self.memory.database_complete(level)),
             Call::LookUp(n, _, _, source) if there(n) && source == bad.source => Answer::Aside,
@@ -69,7 +70,7 @@ impl Run {
 
 fn names(call: &Call) -> Option<u8> {
     match *call {
-        Call::Receive(n, ..) | Call::Release(n) | Call::Csnp(n, _) | Call::LookUp(n, ..) | Call::Metric(n) | Call::Flags(n) => Some(n),
+        Call::Receive(n, ..) | Call::Release(n) | Call::Clear(n) | Call::Csnp(n, _) | Call::LookUp(n, ..) | Call::Metric(n) | Call::Flags(n) => Some(n),
         Call::Tick(_) | Call::Database(_) | Call::Waiting => None,
     }
 }

@@ -1,6 +1,6 @@
 //! The archive's calls, by their raw words, with the reference's types as answers.
 use isis_gr_reference::{
-    CircuitSettings, Freed, Hellos, Kind, Levels, Mac, Mark, Mode, Overload, Received, Record, Refusal, Reply, ReplyKind, Reverse,
+    Change, CircuitSettings, Freed, Hellos, Kind, Levels, Mac, Mark, Mode, Overload, Received, Record, Refusal, Reply, ReplyKind, Reverse,
     Settings, SystemId, Ticked, TimerOutcome,
 };
 use isis_gr_sys::*;
@@ -91,9 +91,10 @@ impl Memory {
     /// Receive.
     pub fn receive(&mut self, circuit: u8, source: Mac, frame: &[u8], reply: &mut [u8]) -> Result<Received, Refusal> {
         // SAFETY: each slice goes with its length; the borrows do not overlap.
-        let word = unsafe {
+        let words = unsafe {
             isis_gr_raw_receive(self.0.as_mut_ptr(), circuit, source.as_ptr(), frame.as_ptr(), frame.len(), reply.as_mut_ptr(), reply.len())
         };
+        let ReceivedWords { answer: word, change } = words;
         let remaining = (word >> 40) as u16;
         let reply = match (word >> 8) as u8 {
             0 => None,
@@ -104,9 +105,13 @@ impl Memory {
         let csnps = Some(levels((word >> 16) as u8)).filter(|l| !l.is_empty());
         let freed = [Freed::Kept, Freed::Stopped, Freed::Reinitialise][usize::from((word >> 24) as u8)];
         if word & 0xFF != 0 {
-            assert_eq!(word >> 8, 0, "a refusal tells nothing else");
+            assert_eq!((word >> 8, change), (0, 0), "a refusal tells nothing else");
         }
-        code(word, Received { reply, csnps, timers: timers(word), freed })
+        let up = |at: u32| [None, Some(false), Some(true)][(change >> at & 3) as usize];
+        let [_, _, system @ ..] = change.to_be_bytes();
+        let change =
+            Change { level: (change >> 48 & 3) as u8, system, before: up(50), after: up(52), advertised: change >> 54 == 1 };
+        code(word, Received { reply, csnps, timers: timers(word), freed, change })
     }
 
     /// Tick.
@@ -120,6 +125,12 @@ impl Memory {
     pub fn release(&mut self, circuit: u8) -> Result<(), Refusal> {
         // SAFETY: the reference is valid for the words of a gateway.
         code(u64::from(unsafe { isis_gr_raw_release(self.0.as_mut_ptr(), circuit) }), ())
+    }
+
+    /// Clear.
+    pub fn clear(&mut self, circuit: u8) -> Result<(), Refusal> {
+        // SAFETY: the reference is valid for the words of a gateway.
+        code(u64::from(unsafe { isis_gr_raw_clear(self.0.as_mut_ptr(), circuit) }), ())
     }
 
     /// CSNP set complete.

@@ -1,6 +1,6 @@
 //! What the calls answer.
 
-use crate::settings::{Levels, MAX_CIRCUITS};
+use crate::settings::{Levels, SystemId, MAX_CIRCUITS};
 
 /// For each circuit, whether a hello is ordered on it; circuit 1 comes first.
 pub type Hellos = [bool; MAX_CIRCUITS];
@@ -69,6 +69,21 @@ pub enum Freed {
     Reinitialise,
 }
 
+/// What became of the record of a frame.
+#[derive(Clone, Copy, Debug, PartialEq, Eq)]
+pub struct Change {
+    /// The level of its key; 0 on point-to-point.
+    pub level: u8,
+    /// The System ID of its key.
+    pub system: SystemId,
+    /// Whether it was UP, if it stood before the frame.
+    pub before: Option<bool>,
+    /// Whether it is UP, if it stands after it.
+    pub after: Option<bool>,
+    /// Whether it is advertised after it.
+    pub advertised: bool,
+}
+
 /// The answer to an accepted frame.
 #[derive(Clone, Copy, Debug, PartialEq, Eq)]
 pub struct Received {
@@ -80,6 +95,8 @@ pub struct Received {
     pub timers: TimerOutcome,
     /// Whether it stopped T1 for want of a Restart TLV.
     pub freed: Freed,
+    /// What became of the frame's record.
+    pub change: Change,
 }
 
 /// The answer to a tick.

@@ -1,7 +1,7 @@
 //! The gateway and its calls (document 01, "What the gateway holds").
 
 use crate::adjacency::{self, Own, Record};
-use crate::answers::{Freed, Hellos, Received, Reply, ReplyKind, Ticked, TimerOutcome};
+use crate::answers::{Change, Freed, Hellos, Received, Reply, ReplyKind, Ticked, TimerOutcome};
 use crate::frame::{self, Link, RESTART};
 use crate::metric;
 use crate::refusal::Refusal;
@@ -71,6 +71,16 @@ impl Gateway {
         let (Place::Taken(slot) | Place::Free(slot)) = place else { return Err(Refusal::RoomFull) };
 
         let reaction = adjacency::react(&hello, before, &own);
+        let change = Change {
+            level: match hello.link {
+                Link::Lan { level, .. } => level.number(),
+                Link::PointToPoint(_) => 0,
+            },
+            system: hello.source,
+            before: before.map(|record| record.up),
+            after: reaction.record.map(|record| record.up),
+            advertised: reaction.record.is_some_and(|record| record.advertised()),
+        };
         if let Some(record) = reaction.record {
             circuit.room.put(slot, key, record);
         }
@@ -85,7 +95,7 @@ impl Gateway {
             write_reply(reply, kind, remaining, &hello.source);
             Reply { kind, remaining }
         });
-        Ok(Received { reply, csnps, timers, freed })
+        Ok(Received { reply, csnps, timers, freed, change })
     }
 
     /// Moves the clock, removes the records that ended and runs the timers. An equal clock is a whole tick. Refusal 10.
@@ -110,6 +120,13 @@ impl Gateway {
     pub fn release(&mut self, circuit: u8) -> Result<(), Refusal> {
         let at = self.place(circuit)?;
         self.circuits[at].room.release();
+        Ok(())
+    }
+
+    /// Removes all records of a circuit: its link went down. No timer is touched. Refusal 1.
+    pub fn clear(&mut self, circuit: u8) -> Result<(), Refusal> {
+        let at = self.place(circuit)?;
+        self.circuits[at].room = Room::new(self.circuits[at].settings.kind);
         Ok(())
     }
 

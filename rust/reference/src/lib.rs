@@ -21,7 +21,7 @@ mod timers;
 mod tlvs;
 
 pub use adjacency::{Mark, Record};
-pub use answers::{Freed, Hellos, Overload, Received, Reply, ReplyKind, Ticked, TimerOutcome};
+pub use answers::{Change, Freed, Hellos, Overload, Received, Reply, ReplyKind, Ticked, TimerOutcome};
 pub use gateway::Gateway;
 pub use refusal::Refusal;
 pub use settings::{CircuitSettings, Kind, Levels, Mac, Mode, Settings, SystemId, MAX_CIRCUITS};

@@ -43,6 +43,13 @@ pub(crate) enum Level {
 }
 
 impl Level {
+    pub(crate) fn number(self) -> u8 {
+        match self {
+            Level::One => 1,
+            Level::Two => 2,
+        }
+    }
+
     pub(crate) fn from_number(number: u8) -> Option<Level> {
         match number {
             1 => Some(Level::One),

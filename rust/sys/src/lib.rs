@@ -6,6 +6,16 @@
 
 include!(concat!(env!("OUT_DIR"), "/sizes.rs"));
 
+/// The two words of a frame's answer: what receive answers, and what became of the frame's record.
+#[repr(C)]
+#[derive(Clone, Copy, PartialEq, Eq, Debug)]
+pub struct ReceivedWords {
+    /// The answer.
+    pub answer: u64,
+    /// The record.
+    pub change: u64,
+}
+
 extern "C" {
     /// The words of a gateway in this archive.
     pub fn isis_gr_raw_gateway_words() -> u32;
@@ -20,11 +30,13 @@ extern "C" {
         frame_len: usize,
         reply: *mut u8,
         reply_len: usize,
-    ) -> u64;
+    ) -> ReceivedWords;
     /// The clock.
     pub fn isis_gr_raw_tick(gateway: *mut u64, clock: u32) -> u64;
     /// Removes a circuit's Planned records.
     pub fn isis_gr_raw_release(gateway: *mut u64, circuit: u8) -> u32;
+    /// Removes all records of a circuit.
+    pub fn isis_gr_raw_clear(gateway: *mut u64, circuit: u8) -> u32;
     /// The CSNP set of a level is complete on a circuit.
     pub fn isis_gr_raw_csnp_complete(gateway: *mut u64, circuit: u8, level: u8) -> u64;
     /// The database of a level is complete.

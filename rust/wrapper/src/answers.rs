@@ -1,5 +1,5 @@
 //! What the calls answer. An order is an action that the caller must take.
-use crate::names::{Circuit, Circuits, Levels};
+use crate::names::{Circuit, Circuits, Level, Levels, SystemId};
 
 /// Why a call was refused; the number is that of document 01. A refusal leaves the gateway and the reply buffer as they were.
 #[derive(Clone, Copy, PartialEq, Eq, Hash, Debug)]
@@ -176,10 +176,55 @@ pub struct Received {
     pub freed: Freed,
     /// How the timers ended.
     pub timers: Timers,
+    /// What became of the frame's record.
+    pub change: Change,
+}
+
+/// Whether a record stands, and its state.
+#[derive(Clone, Copy, PartialEq, Eq, Hash, Debug)]
+pub enum Standing {
+    /// There is none.
+    None,
+    /// INIT.
+    Init,
+    /// UP.
+    Up,
+}
+
+/// What became of the record of a frame.
+#[derive(Clone, Copy, PartialEq, Eq, Hash, Debug)]
+pub struct Change {
+    /// The level of its key; none on P2P.
+    pub level: Option<Level>,
+    /// The System ID of its key.
+    pub system: SystemId,
+    /// How it stood before the frame.
+    pub before: Standing,
+    /// How it stands after it.
+    pub after: Standing,
+    /// Whether it goes into our LSPs after it: it is UP and not suppressed.
+    pub advertised: bool,
+}
+
+impl Change {
+    fn of_word(word: u64) -> Change {
+        let standing = |at: u32| match word >> at & 3 {
+            0 => Standing::None,
+            1 => Standing::Init,
+            _ => Standing::Up,
+        };
+        let level = match word >> 48 & 3 {
+            1 => Some(Level::One),
+            2 => Some(Level::Two),
+            _ => None,
+        };
+        let [_, _, system @ ..] = word.to_be_bytes();
+        Change { level, system: SystemId(system), before: standing(50), after: standing(52), advertised: word >> 54 & 1 == 1 }
+    }
 }
 
 impl Received {
-    pub(crate) fn of_word(word: u64) -> Received {
+    pub(crate) fn of_words(word: u64, change: u64) -> Received {
         let remaining = (word >> 40) as u16;
         let reply = match (word >> 8) as u8 {
             2 => Some(Reply { ack: Ack::Restart, remaining }),
@@ -191,7 +236,8 @@ impl Received {
             1 => Freed::Stopped,
             _ => Freed::Reinitialise,
         };
-        Received { reply, csnps: Levels::of_mask((word >> 16) as u8), freed, timers: Timers::of_word(word) }
+        let csnps = Levels::of_mask((word >> 16) as u8);
+        Received { reply, csnps, freed, timers: Timers::of_word(word), change: Change::of_word(change) }
     }
 }
 

@@ -16,7 +16,7 @@ pub(crate) fn set_up(words: &mut Words, settings: &[u8; SETTINGS_OCTETS]) -> u32
     unsafe { raw::isis_gr_raw_set_up(words.as_mut_ptr(), settings.as_ptr()) }
 }
 
-pub(crate) fn receive(words: &mut Words, circuit: u8, source: &[u8; 6], frame: &[u8], reply: &mut [u8]) -> u64 {
+pub(crate) fn receive(words: &mut Words, circuit: u8, source: &[u8; 6], frame: &[u8], reply: &mut [u8]) -> raw::ReceivedWords {
     // SAFETY: each slice is valid for the length that is handed on with it; the borrows do not overlap.
     unsafe {
         raw::isis_gr_raw_receive(words.as_mut_ptr(), circuit, source.as_ptr(), frame.as_ptr(), frame.len(), reply.as_mut_ptr(), reply.len())
@@ -31,6 +31,11 @@ pub(crate) fn tick(words: &mut Words, clock: u32) -> u64 {
 pub(crate) fn release(words: &mut Words, circuit: u8) -> u32 {
     // SAFETY: the reference is valid for the words of a gateway.
     unsafe { raw::isis_gr_raw_release(words.as_mut_ptr(), circuit) }
+}
+
+pub(crate) fn clear(words: &mut Words, circuit: u8) -> u32 {
+    // SAFETY: the reference is valid for the words of a gateway.
+    unsafe { raw::isis_gr_raw_clear(words.as_mut_ptr(), circuit) }
 }
 
 pub(crate) fn csnp_complete(words: &mut Words, circuit: u8, level: u8) -> u64 {

@@ -37,8 +37,8 @@ impl Gateway {
     /// Takes one hello frame from a source MAC. A reply, where one is due, is the first 11 octets of `reply`; else the buffer is untouched.
     /// Refused 1 to 9.
     pub fn receive(&mut self, circuit: Circuit, from: Mac, frame: &[u8], reply: &mut [u8]) -> Result<Received, Refusal> {
-        let word = ffi::receive(&mut self.words, circuit.number(), &from.0, frame, reply);
-        Refusal::unless(word, Received::of_word(word))
+        let words = ffi::receive(&mut self.words, circuit.number(), &from.0, frame, reply);
+        Refusal::unless(words.answer, Received::of_words(words.answer, words.change))
     }
 
     /// The clock in seconds. Refused 10 where it is lower than the held one.
@@ -50,6 +50,11 @@ impl Gateway {
     /// Removes a circuit's Planned records. Refused 1.
     pub fn release(&mut self, circuit: Circuit) -> Result<(), Refusal> {
         Refusal::unless(u64::from(ffi::release(&mut self.words, circuit.number())), ())
+    }
+
+    /// The link went down: removes all records of a circuit, and touches no timer. Refused 1.
+    pub fn clear(&mut self, circuit: Circuit) -> Result<(), Refusal> {
+        Refusal::unless(u64::from(ffi::clear(&mut self.words, circuit.number())), ())
     }
 
     /// The CSNP set of a level is complete on a circuit. Refused 1 or 11.

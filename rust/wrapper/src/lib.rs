@@ -24,7 +24,9 @@ mod gateway;
 mod names;
 mod settings;
 
-pub use answers::{Ack, Freed, Mark, Overload, Phase, Received, Record, Refusal, Reply, ReverseMetric, Ticked, Timers, Waiting};
+pub use answers::{
+    Ack, Change, Freed, Mark, Overload, Phase, Received, Record, Refusal, Reply, ReverseMetric, Standing, Ticked, Timers, Waiting,
+};
 pub use gateway::{Gateway, REPLY_OCTETS};
 pub use names::{Circuit, Circuits, Level, Levels, Mac, SystemId};
 pub use settings::{CircuitSettings, Kind, Mode, SettingError, Settings};

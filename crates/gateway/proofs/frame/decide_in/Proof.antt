@@ -2,11 +2,10 @@
 use Rattle.gateway.proofs.FrameLaws.{left, taken}
 use Rattle.gateway.proofs.WordLaws.{length-room, mode-put}
 use Rattle.gateway.specs.Words.{roomPlace}
-use Rattle.room.specs.AcceptWords.{Accepts}
 use Rattle.slots.specs.Slots.{roomWords}
 use borrow.Rule.Slice.PartMut.{mid-len}
 use native.Mathlib.Omega.{arith}
-use mathlib.Core.Path.{subst, _∙_}
+use mathlib.Core.Path.{_∙_}
 use Prim.Native.Nat.{_+_, _-_}
 use borrow.Author.Needs.{needs}
 use Rattle.gateway.proofs.frame.decide_in.Statement.{statement}
@@ -66,14 +65,27 @@ part-accept-in-end c = search needs
 accept-in-requires : tie.Need-accept-in-requires
 accept-in-requires c κs = search needs
 
-enum-known-x : tie.Need-enum-known-x
-enum-known-x c = search needs
+enum-known-reaction : tie.Need-enum-known-reaction
+enum-known-reaction c = search needs
 
-enum-known-acknowledgement : tie.Need-enum-known-acknowledgement
-enum-known-acknowledgement c = search needs
+enum-known-reaction-2 : tie.Need-enum-known-reaction-2
+enum-known-reaction-2 c = search needs
+
+change-of-requires : tie.Need-change-of-requires
+change-of-requires c κs = search needs
 
 order-in-requires : tie.Need-order-in-requires
-order-in-requires c κs = let a = c .before .before .before .before .before .before .before .before .before .before .before .before .before .before .before .before .before .before .before .before .args in let x = c .before .before .before .before .before .before .before .before .accept-in in let l = (x .kept .0 ∙ mid-len (roomPlace (a .n - 1)) (roomPlace (a .n - 1) + roomWords) (a .gateway .now) (omega (arith, c .before .before .before .before .before .before .before .before .before .before .before .before .before .before .before .before .before .before .before .before .pre .0, c .before .before .before .before .before .before .before .before .before .before .before .before .before .before .before .before .before .before .before .before .pre .1, c .before .before .before .before .before .before .before .before .before .before .before .before .before .before .before .before .before .before .before .before .pre .2))) in (length-room (a .gateway .now) (x .last .0) (c .before .before .before .before .before .before .before .before .before .before .before .before .before .before .before .before .before .before .before .before .pre .0) (a .n - 1) (omega (arith, c .before .before .before .before .before .before .before .before .before .before .before .before .before .before .before .before .before .before .before .before .pre .1, c .before .before .before .before .before .before .before .before .before .before .before .before .before .before .before .before .before .before .before .before .pre .2)) l, c .before .before .before .before .before .before .before .before .before .before .before .before .before .before .before .before .before .before .before .before .pre .1, c .before .before .before .before .before .before .before .before .before .before .before .before .before .before .before .before .before .before .before .before .pre .2, mode-put (a .gateway .now) (x .last .0) (c .before .before .before .before .before .before .before .before .before .before .before .before .before .before .before .before .before .before .before .before .pre .0) (a .n - 1) (omega (arith, c .before .before .before .before .before .before .before .before .before .before .before .before .before .before .before .before .before .before .before .before .pre .1, c .before .before .before .before .before .before .before .before .before .before .before .before .before .before .before .before .before .before .before .before .pre .2)) l _ (c .before .before .before .before .before .before .before .before .before .before .before .before .before .before .before .mode-of .ensures))
+order-in-requires c κs =
+    let x = c .before .before .before .before .before .before .before .before .before in
+    let s = x .before .before .before .before .before .before .before .before .before .before .before .before in
+    let a = s .args in
+    let l = x .accept-in .kept .0 ∙ mid-len (roomPlace (a .n - 1)) (roomPlace (a .n - 1) + roomWords) (a .gateway .now) (omega (arith, s .pre)) in
+    let mode = x .before .before .before .before .before .before .before .mode-of .ensures in (
+      length-room (a .gateway .now) (x .accept-in .last .0) (s .pre .0) (a .n - 1) (omega (arith, s .pre)) l,
+      s .pre .1,
+      s .pre .2,
+      mode-put (a .gateway .now) (x .accept-in .last .0) (s .pre .0) (a .n - 1) (omega (arith, s .pre)) l _ mode,
+    )
 
 same-length : tie.Need-same-length
 same-length c = search needs
@@ -82,7 +94,12 @@ same-length-2 : tie.Need-same-length-2
 same-length-2 c = search needs
 
 returns : tie.Need-returns
-returns c = let a = c .before .before .before .before .before .before .before .before .before .before .before .before .before .before .before .before .before .before .before .args in let x = c .before .before .before .before .before .before .before .accept-in in left (a .gateway .now) (a .n) (a .s) (a .mac) (a .frame) (a .reply .now) (c .before .before .before .before .before .before .before .before .before .before .before .before .before .before .before .before .before .before .before .pre .0) (c .before .before .before .before .before .before .before .before .before .before .before .before .before .before .before .before .before .before .before .pre .1) (c .before .before .before .before .before .before .before .before .before .before .before .before .before .before .before .before .before .before .before .pre .2) _ _ (c .before .before .before .before .before .before .before .before .before .before .before .here-of .ensures) (c .before .before .before .before .before .before .before .before .before .before .key-in .ensures) _ (x .last .0) _ (subst (Accepts _ _ _ _ _ _ _) (c .before .x .given .1) (x .ensures))
+returns c =
+    let x = c .before .before .before .before .before .before .before in
+    let s = x .before .before .before .before .before .before .before .before .before .before .before .before in
+    let a = s .args in
+    left (a .gateway .now) (a .n) (a .s) (a .mac) (a .frame) (a .reply .now) (s .pre .0) (s .pre .1) (s .pre .2) _ _ (x .before .before .before .before .here-of .ensures)
+    (x .before .before .before .key-in .ensures) _ (x .accept-in .last .0) _ _ (c .before .reaction .given .1) (x .accept-in .ensures)
 
 same-length-3 : tie.Need-same-length-3
 same-length-3 c = search needs
@@ -91,7 +108,15 @@ same-length-4 : tie.Need-same-length-4
 same-length-4 c = search needs
 
 returns-2 : tie.Need-returns-2
-returns-2 c = let a = c .before .before .before .before .before .before .before .before .before .before .before .before .before .before .before .before .before .before .before .before .before .before .before .args in let x = c .before .before .before .before .before .before .before .before .before .before .before .accept-in in let y = c .before .before .order-in in taken (a .gateway .now) (a .n) (a .s) (a .mac) (a .frame) (a .reply .now) (c .before .before .before .before .before .before .before .before .before .before .before .before .before .before .before .before .before .before .before .before .before .before .before .pre .0) (c .before .before .before .before .before .before .before .before .before .before .before .before .before .before .before .before .before .before .before .before .before .before .before .pre .1) (c .before .before .before .before .before .before .before .before .before .before .before .before .before .before .before .before .before .before .before .before .before .before .before .pre .2) _ _ (c .before .before .before .before .before .before .before .before .before .before .before .before .before .before .before .here-of .ensures) (c .before .before .before .before .before .before .before .before .before .before .before .before .before .before .key-in .ensures) (x .last .0) _ _ _ _ (x .kept .0 ∙ mid-len (roomPlace (a .n - 1)) (roomPlace (a .n - 1) + roomWords) (a .gateway .now) (omega (arith, c .before .before .before .before .before .before .before .before .before .before .before .before .before .before .before .before .before .before .before .before .before .before .before .pre .0, c .before .before .before .before .before .before .before .before .before .before .before .before .before .before .before .before .before .before .before .before .before .before .before .pre .1, c .before .before .before .before .before .before .before .before .before .before .before .before .before .before .before .before .before .before .before .before .before .before .before .pre .2))) (y .last .0) _ (subst (Accepts _ _ _ _ _ _ _) (c .before .before .before .before .before .acknowledgement .given .1) (x .ensures)) (y .ensures)
+returns-2 c =
+    let x = c .before .before .before .before .before .before .before .before .before .before .before .before in
+    let s = x .before .before .before .before .before .before .before .before .before .before .before .before in
+    let a = s .args in
+    let l = x .accept-in .kept .0 ∙ mid-len (roomPlace (a .n - 1)) (roomPlace (a .n - 1) + roomWords) (a .gateway .now) (omega (arith, s .pre)) in
+    let y = c .before .before .order-in in
+    taken (a .gateway .now) (a .n) (a .s) (a .mac) (a .frame) (a .reply .now) (s .pre .0) (s .pre .1) (s .pre .2) _ _ (x .before .before .before .before .here-of .ensures)
+    (x .before .before .before .key-in .ensures) (x .accept-in .last .0) _ _ _ _ l (y .last .0) _ _ (c .before .before .before .before .before .before .reaction2 .given .1) (x .accept-in .ensures) _
+    (c .before .before .before .change-of .ensures) (y .ensures)
 
 pub decide-in-spec : {M : Type 1} → statement M
 decide-in-spec =
@@ -115,8 +140,9 @@ decide-in-spec =
     part-accept-in-start
     part-accept-in-end
     accept-in-requires
-    enum-known-x
-    enum-known-acknowledgement
+    enum-known-reaction
+    enum-known-reaction-2
+    change-of-requires
     order-in-requires
     same-length
     same-length-2

@@ -54,7 +54,7 @@ same-length : tie.Need-same-length
 same-length c = search needs
 
 returns : tie.Need-returns
-returns c = let a = c .before .before .before .before .before .before .before .before .before .before .args in let y = c .before .before .hear-frame in gives (a .gateway .now) (a .n) (a .s) (a .frame) (a .reply) (a .line) (c .before .before .before .before .before .before .before .before .before .before .pre .0) (c .before .before .before .before .before .before .before .before .before .before .pre .1) (c .before .before .before .before .before .before .before .before .before .before .pre .2) _ _ _ _ (y .last .0) (omega (arith, y .kept .0)) (c .before .before .before .before .before .before .before .rank-of .ensures) (c .before .before .before .before .csnps-in .ensures) (y .ensures)
+returns c = let a = c .before .before .before .before .before .before .before .before .before .before .args in let y = c .before .before .hear-frame in gives (a .gateway .now) (a .n) (a .s) (a .frame) (a .reply) (a .line) (a .change) (c .before .before .before .before .before .before .before .before .before .before .pre .0) (c .before .before .before .before .before .before .before .before .before .before .pre .1) (c .before .before .before .before .before .before .before .before .before .before .pre .2) _ _ _ _ (y .last .0) (omega (arith, y .kept .0)) (c .before .before .before .before .before .before .before .rank-of .ensures) (c .before .before .before .before .csnps-in .ensures) (y .ensures)
 
 pub order-in-spec : {M : Type 1} → statement M
 order-in-spec =

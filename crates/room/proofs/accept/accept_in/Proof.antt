@@ -1,5 +1,6 @@
 -- The decision is that of the record that stood.
-use mathlib.Core.Path.{_∙_}
+use mathlib.Core.Path.{ap, sym, _∙_}
+use Rattle.adjacency.specs.Record.{phaseOf}
 use Rattle.room.proofs.AcceptLaws.{decided-is}
 use borrow.Author.Needs.{needs}
 use Rattle.room.proofs.accept.accept_in.Statement.{statement}
@@ -8,11 +9,14 @@ use Rattle.room.proofs.accept.accept_in.Tie as tie
 place-of-requires : tie.Need-place-of-requires
 place-of-requires c κs = search needs
 
+phase-of-requires : tie.Need-phase-of-requires
+phase-of-requires c κs = search needs
+
 react-to-requires : tie.Need-react-to-requires
 react-to-requires c κs = search needs
 
 accept-at-requires : tie.Need-accept-at-requires
-accept-at-requires c κs = (c .before .before .before .before .before .before .before .pre .0, c .before .before .before .place-of .ensures .spot, c .before .before .before .before .before .before .before .pre .1)
+accept-at-requires c κs = search needs
 
 same-length : tie.Need-same-length
 same-length c = search needs
@@ -21,13 +25,22 @@ same-length-2 : tie.Need-same-length-2
 same-length-2 c = search needs
 
 returns : tie.Need-returns
-returns c = let x = c .before .before .before .before .accept-at .ensures in record { is = x .is ∙ decided-is _ _ _ _ _ _ (c .before .before .before .before .before .before .before .before .place-of .ensures .found) (c .before .before .before .before .before .before .before .react-to .ensures); did = x .did }
+returns c =
+    let x = c .before .before .before .before .accept-at .ensures in
+    let w = c .before .before .before .before .before .before .before in
+    let found = w .before .before .place-of .ensures .found in
+    record {
+      is = x .is ∙ decided-is _ _ _ _ _ _ found (w .react-to .ensures);
+      did = x .did;
+      before = w .before .phase-of .ensures ∙ ap phaseOf (sym found);
+    }
 
 pub accept-in-spec : {M : Type 1} → statement M
 accept-in-spec =
     tie.close
     (tie.spec
     place-of-requires
+    phase-of-requires
     react-to-requires
     accept-at-requires
     same-length
