@@ -12,6 +12,7 @@ test: kit
 	@tools/check_vectors
 	@tools/check_codes
 	@tools/check_crates
+	@tools/check_rules
 	@rt fmt --check
 	@set -o pipefail; log=$$(mktemp); rt ci | tee $$log && $(MAKE) -s boundary && tail -n 1 $$log; status=$$?; rm -f $$log; exit $$status
 
