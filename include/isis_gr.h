@@ -26,9 +26,12 @@
 extern "C" {
 #endif
 
-/* a changed number or layout raises the major version */
 #define ISIS_GR_VERSION_MAJOR 0
 #define ISIS_GR_VERSION_MINOR 6
+
+/* The layout of settings and answers between this header and the archive; it rises whenever one of them changes. The code below is compiled into
+   the caller, so set up hands it on: an archive of another layout refuses 12 (isis_gr_fault: ISIS_GR_SETTING_VERSION). */
+#define ISIS_GR_LAYOUT 6u
 
 #define ISIS_GR_GATEWAY_WORDS 640 /* equal to isis_gr_gateway_words(): compare the two at start-up */
 #define ISIS_GR_SETTINGS_OCTETS 169
@@ -63,6 +66,20 @@ enum { ISIS_GR_OVERLOAD_KEEP = 0, ISIS_GR_OVERLOAD_SET = 1, ISIS_GR_OVERLOAD_CLE
 enum { ISIS_GR_RECORD_NONE = 0, ISIS_GR_RECORD_INIT = 1, ISIS_GR_RECORD_UP = 2 };
 enum { ISIS_GR_MARK_CLEAR = 0, ISIS_GR_MARK_RESTART = 1, ISIS_GR_MARK_PLANNED = 2 };
 enum { ISIS_GR_FLAG_RR = 1 };
+enum {
+    ISIS_GR_SETTING_NONE = 0,
+    ISIS_GR_SETTING_VERSION = 1,
+    ISIS_GR_SETTING_T1 = 2,
+    ISIS_GR_SETTING_T2 = 3,
+    ISIS_GR_SETTING_TRIES = 4,
+    ISIS_GR_SETTING_MODE = 5,
+    ISIS_GR_SETTING_COUNT = 6,
+    ISIS_GR_SETTING_KIND = 7,
+    ISIS_GR_SETTING_LEVELS = 8,
+    ISIS_GR_SETTING_PRIORITY = 9,
+    ISIS_GR_SETTING_HOLD = 10,
+    ISIS_GR_SETTING_METRIC = 11
+};
 
 /* ---- memory and settings */
 
@@ -105,6 +122,12 @@ typedef struct {
     uint32_t code;
     uint8_t hellos; /* mask of circuits on which to send a hello with RR now (RFC 8706, 3.3.1) */
 } isis_gr_started;
+
+/* The first setting that set up refuses, in the order of isis_gr_settings with the circuits last. */
+typedef struct {
+    uint8_t setting; /* ISIS_GR_SETTING_.. */
+    uint8_t circuit; /* the circuit that it is of, from 1; 0 where it is of none */
+} isis_gr_setting_fault;
 
 typedef struct {
     uint32_t code;
@@ -173,7 +196,8 @@ typedef struct {
 } isis_gr_raw_received;
 
 uint32_t isis_gr_raw_gateway_words(void);
-uint32_t isis_gr_raw_set_up(uint64_t *gateway, const uint8_t *settings);
+uint32_t isis_gr_raw_set_up(uint32_t layout, uint64_t *gateway, const uint8_t *settings);
+uint32_t isis_gr_raw_fault(uint32_t layout, const uint8_t *settings);
 isis_gr_raw_received isis_gr_raw_receive(uint64_t *gateway, uint8_t circuit, const uint8_t *source, const uint8_t *frame, size_t frame_len,
                                          uint8_t *reply, size_t reply_len);
 uint64_t isis_gr_raw_tick(uint64_t *gateway, uint32_t clock);
@@ -257,16 +281,28 @@ static inline const char *isis_gr_text(uint32_t code) {
 /* The words of a gateway in this archive. */
 static inline uint32_t isis_gr_gateway_words(void) { return isis_gr_raw_gateway_words(); }
 
-/* A new gateway, whatever the memory was. Refused 12, the memory is as it was. */
+/* A new gateway, whatever the memory was. Refused 12, the memory is as it was; isis_gr_fault says which setting it is. */
 static inline isis_gr_started isis_gr_set_up(isis_gr_gateway *gateway, const isis_gr_settings *settings) {
     uint8_t octets[ISIS_GR_SETTINGS_OCTETS];
     uint32_t word;
     isis_gr_started s;
     isis_gr_put_settings(octets, settings);
-    word = isis_gr_raw_set_up(gateway->words, octets);
+    word = isis_gr_raw_set_up(ISIS_GR_LAYOUT, gateway->words, octets);
     s.code = word & 255u;
     s.hellos = (uint8_t)(word >> 8);
     return s;
+}
+
+/* Which setting a set up with these would refuse; ISIS_GR_SETTING_NONE exactly where it would not. */
+static inline isis_gr_setting_fault isis_gr_fault(const isis_gr_settings *settings) {
+    uint8_t octets[ISIS_GR_SETTINGS_OCTETS];
+    uint32_t word;
+    isis_gr_setting_fault f;
+    isis_gr_put_settings(octets, settings);
+    word = isis_gr_raw_fault(ISIS_GR_LAYOUT, octets);
+    f.setting = (uint8_t)word;
+    f.circuit = (uint8_t)(word >> 8);
+    return f;
 }
 
 /* Takes one hello frame, from its first octet, 0x83, on: after the LLC's FE FE 03; padding behind the PDU may be lent too. Refused 1 to 9, gateway and reply are as they were. reply has at least 11 octets; its first 11 are written only where

@@ -15,14 +15,16 @@ fn main() {
     let text = std::fs::read_to_string(&header).expect("the header is beside the crates");
     let size = |name: &str| -> usize {
         let line = text.lines().find(|line| line.starts_with(&format!("#define ISIS_GR_{name} "))).expect("the header names the size");
-        line.split_whitespace().nth(2).expect("a number follows").parse().expect("it is a number")
+        line.split_whitespace().nth(2).expect("a number follows").trim_end_matches('u').parse().expect("it is a number")
     };
     let sizes = format!(
         "/// The words of a gateway.\npub const GATEWAY_WORDS: usize = {};\n\n/// The octets of the settings.\npub const SETTINGS_OCTETS: usize = {};\n\n\
-         /// The most circuits of a gateway.\npub const CIRCUITS: usize = {};\n",
+         /// The most circuits of a gateway.\npub const CIRCUITS: usize = {};\n\n\
+         /// The layout of settings and answers that the header has.\npub const LAYOUT: u32 = {};\n",
         size("GATEWAY_WORDS"),
         size("SETTINGS_OCTETS"),
-        size("MAX_CIRCUITS")
+        size("MAX_CIRCUITS"),
+        size("LAYOUT")
     );
     let out = PathBuf::from(std::env::var_os("OUT_DIR").expect("cargo sets it")).join("sizes.rs");
     std::fs::write(out, sizes).expect("the output folder can be written");

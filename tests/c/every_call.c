@@ -59,8 +59,10 @@ static void setup_is_checked(void) {
     isis_gr_settings s = settings(ISIS_GR_MODE_RUNNING, 83);
     memset(&g, 0xA5, sizeof g);
     before = g;
+    EXPECT(isis_gr_fault(&s).setting == ISIS_GR_SETTING_NONE);
     s.circuits[1].levels = 4;
     EXPECT(isis_gr_set_up(&g, &s).code == ISIS_GR_REFUSED_BAD_SETTING);
+    EXPECT(isis_gr_fault(&s).setting == ISIS_GR_SETTING_LEVELS && isis_gr_fault(&s).circuit == 2);
     s = settings(2, 83);
     EXPECT(isis_gr_set_up(&g, &s).code == ISIS_GR_REFUSED_BAD_SETTING);
     s = settings(ISIS_GR_MODE_RUNNING, 83);
@@ -69,6 +71,20 @@ static void setup_is_checked(void) {
     s = settings(ISIS_GR_MODE_RUNNING, 83);
     s.t1 = 0;
     EXPECT(isis_gr_set_up(&g, &s).code == ISIS_GR_REFUSED_BAD_SETTING);
+    s.circuits[0].hold = 0; /* the first of two */
+    EXPECT(isis_gr_fault(&s).setting == ISIS_GR_SETTING_T1 && isis_gr_fault(&s).circuit == 0);
+    s.t1 = 3;
+    EXPECT(isis_gr_fault(&s).setting == ISIS_GR_SETTING_HOLD && isis_gr_fault(&s).circuit == 1);
+    s.count = 9;
+    EXPECT(isis_gr_fault(&s).setting == ISIS_GR_SETTING_COUNT);
+    {
+        /* an object of another layout */
+        uint8_t octets[ISIS_GR_SETTINGS_OCTETS];
+        s = settings(ISIS_GR_MODE_RUNNING, 83);
+        isis_gr_put_settings(octets, &s);
+        EXPECT(isis_gr_raw_set_up(ISIS_GR_LAYOUT - 1, g.words, octets) == ISIS_GR_REFUSED_BAD_SETTING);
+        EXPECT(isis_gr_raw_fault(ISIS_GR_LAYOUT - 1, octets) == ISIS_GR_SETTING_VERSION);
+    }
     EXPECT(memcmp(&g, &before, sizeof g) == 0);
     /* memory that was never set up: no circuit, and nothing changes */
     EXPECT(isis_gr_release(&g, 1) == ISIS_GR_REFUSED_NO_CIRCUIT);

@@ -1,4 +1,5 @@
 pub mod NumberLaws
 pub mod EncodesLaws
 pub mod SettingsLaws
+pub mod FaultLaws
 pub mod DigitLaws

@@ -6,6 +6,7 @@ use mathlib.Core.Bool.{true, false}
 use mathlib.Core.List.{List}
 use lib.ListN.{getD, take, drop}
 use lib.Seq.{take-all}
+use borrow.Author.Tests.{eq-eqb, ne-eqb}
 use Rattle.basics.specs.Octets.{octet}
 use Rattle.basics.specs.Mask.{circuits}
 use Rattle.basics.specs.declared.refusal.Refusal.the-variants.{BadSetting}
@@ -17,7 +18,7 @@ use Rattle.model.specs.Gateway.{setup}
 use Rattle.model.specs.declared.answers.SetUp.{SetUp}
 use Rattle.gateway.specs.Setup.{Refused as RefusedReport, SetsUp, reportOf}
 use Rattle.isis_gr.specs.Words.{reportNo, modeKnown}
-use Rattle.isis_gr.specs.Settings.{circuitPlace, circuitPlaces, circuitKnown, settingsFrom, settingsKnown, setupFrom, EncodesSetup}
+use Rattle.isis_gr.specs.Settings.{layout, circuitPlace, circuitPlaces, circuitKnown, settingsFrom, settingsKnown, setupFrom, EncodesSetup}
 
 -- ---- the circuits' numbers
 
@@ -54,12 +55,17 @@ module _ (s : List ℕ) where
 -- ---- setup
 
 module _ (s : List ℕ) {w : ℕ} {ws : List ℕ} where
-  pub encodes-known : {g : Settings} {ws′ : List ℕ} {r : SetUp} → settingsKnown s ≡ true → g ≡ settingsFrom s → SetsUp (setup g) ws ws′ r
-      → w ≡ reportNo (reportOf r) → EncodesSetup w (setupFrom s) ws ws′
+  pub encodes-known : {g : Settings} {ws′ : List ℕ} {r : SetUp} (version : ℕ) → version ≡ layout → settingsKnown s ≡ true → g ≡ settingsFrom s
+      → SetsUp (setup g) ws ws′ r → w ≡ reportNo (reportOf r) → EncodesSetup w (setupFrom version s) ws ws′
   unfolding setupFrom
-  encodes-known e f m q =
-      rw (e, ← f) (record { number = q ∙ ap reportNo (m .answer); next = m .next; kept = λ x y. m .kept x (m .answer ∙ y) })
+  encodes-known version v e f m q =
+      rw (eq-eqb version layout v, e, ← f) (record { number = q ∙ ap reportNo (m .answer); next = m .next; kept = λ x y. m .kept x (m .answer ∙ y) })
 
-  pub encodes-unknown : settingsKnown s ≡ false → w ≡ reportNo (RefusedReport (refusalNo BadSetting)) → EncodesSetup w (setupFrom s) ws ws
+  pub encodes-unknown : (version : ℕ) → version ≡ layout → settingsKnown s ≡ false → w ≡ reportNo (RefusedReport (refusalNo BadSetting))
+      → EncodesSetup w (setupFrom version s) ws ws
   unfolding setupFrom
-  encodes-unknown e q = rw e (record { number = q; next = refl; kept = λ x y. refl })
+  encodes-unknown version v e q = rw (eq-eqb version layout v, e) (record { number = q; next = refl; kept = λ x y. refl })
+
+  pub encodes-other : (version : ℕ) → (version ≡ layout → ⊥) → w ≡ reportNo (RefusedReport (refusalNo BadSetting)) → EncodesSetup w (setupFrom version s) ws ws
+  unfolding setupFrom
+  encodes-other version v q = rw (ne-eqb version layout v) (record { number = q; next = refl; kept = λ x y. refl })

@@ -1,3 +1,4 @@
 pub mod Words
 pub mod Encodes
 pub mod Settings
+pub mod Faults

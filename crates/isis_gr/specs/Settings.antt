@@ -12,6 +12,7 @@ use mathlib.Core.Path.{_≡_}
 use mathlib.Core.Bool.{Bool, cond, _&&_}
 use mathlib.Core.List.{List, map}
 use lib.ListN.{take}
+use lib.Dec.{eqb}
 use Rattle.basics.specs.Octets.{octet, big}
 use Rattle.basics.specs.Mask.{circuits}
 use Rattle.basics.specs.declared.refusal.Refusal.the-variants.{BadSetting}
@@ -66,9 +67,16 @@ circuitKnown s a = kindKnown (octet s a) && levelsKnown (octet s (a + 1))
 unfoldable pub settingsKnown : List ℕ → Bool
 settingsKnown s = modeKnown (octet s 15) && every (circuitKnown s) (take (octet s 16) circuitPlaces)
 
--- document 01, "Refusals by number", 12: a number that is not known is a setting out of range
-unfoldable pub setupFrom : List ℕ → Setup
-setupFrom s = cond (settingsKnown s) (setup (settingsFrom s)) (RefusedSetup (refusalNo BadSetting))
+-- The version of the octets' and the words' layout, which rises whenever one of them does: a caller's object hands its own on, since the header
+-- packs the octets and takes the words apart in the caller.
+abbrev pub layout : ℕ
+layout = 6
+
+-- document 01, "Refusals by number", 12: another version, and a number that is not known, is a setting out of range
+unfoldable pub setupFrom : ℕ → List ℕ → Setup
+setupFrom version s =
+    cond (eqb version layout) (cond (settingsKnown s) (setup (settingsFrom s)) (RefusedSetup (refusalNo BadSetting)))
+    (RefusedSetup (refusalNo BadSetting))
 
 -- The number w of a setup on the words ws with the outcome o: a refusal leaves every word as it was.
 pub record EncodesSetup (w : ℕ) (o : Setup) (ws ws′ : List ℕ) : Type 0 where

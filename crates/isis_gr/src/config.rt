@@ -22,35 +22,38 @@ ghost use Rattle.isis_gr.specs.Settings.{settingsOctets, circuitPlaces, 
 
 pub const SETTINGS_OCTETS: usize = FIRST_CIRCUIT + CIRCUIT_OCTETS * CIRCUITS;
 
+// The version of the layout of these octets and of the answers' words.
+pub const LAYOUT: u32 = 6;
+
 // Where the settings stand.
 const SYSTEM: usize = 0;
 
-const T1: usize = 6;
+pub(crate) const T1: usize = 6;
 
-const T2: usize = 8;
+pub(crate) const T2: usize = 8;
 
-const TRIES: usize = 10;
+pub(crate) const TRIES: usize = 10;
 
 const CLOCK: usize = 11;
 
-const MODE: usize = 15;
+pub(crate) const MODE: usize = 15;
 
-const COUNT: usize = 16;
+pub(crate) const COUNT: usize = 16;
 
-const FIRST_CIRCUIT: usize = 17;
+pub(crate) const FIRST_CIRCUIT: usize = 17;
 
 // The octets of a circuit, and where its settings stand among them.
-const CIRCUIT_OCTETS: usize = 19;
+pub(crate) const CIRCUIT_OCTETS: usize = 19;
 
-const LEVELS: usize = 1;
+pub(crate) const LEVELS: usize = 1;
 
 const MAC: usize = 2;
 
-const PRIORITY: usize = 8;
+pub(crate) const PRIORITY: usize = 8;
 
-const HOLD: usize = 9;
+pub(crate) const HOLD: usize = 9;
 
-const METRIC: usize = 11;
+pub(crate) const METRIC: usize = 11;
 
 const ID: usize = 15;
 

@@ -11,9 +11,11 @@ use crate::answers::set_up_word;
 use crate::answers::ticked_word;
 use crate::answers::waiting_word;
 use crate::answers::write_found;
+use crate::config::LAYOUT;
 use crate::config::SETTINGS_OCTETS;
 use crate::config::are_settings_known;
 use crate::config::settings_in;
+use crate::faults::fault_of;
 use basics::refusal::Refusal;
 use gateway::calls::GATEWAY_WORDS;
 use gateway::calls::clear;
@@ -35,6 +37,7 @@ ghost use Rattle.model.specs.Step.{step, At, Over, Receive, Tick, Release, Clea
 ghost use Rattle.gateway.specs.Words.{gatewayWords, gatewayOf, keyGiven};
 ghost use Rattle.isis_gr.specs.Encodes.{Encodes, EncodesFrame, EncodesFound};
 ghost use Rattle.isis_gr.specs.Settings.{setupFrom, EncodesSetup};
+ghost use Rattle.isis_gr.specs.Faults.{faultOf};
 
 // How many words of memory a caller lends.
 #[no_mangle]
@@ -44,18 +47,30 @@ pub extern "C" fn isis_gr_raw_gateway_words() -> u32
     GATEWAY_WORDS as u32
 }
 
-// The settings' octets stand as specs/Settings.antt says; a number that is not known there is refused (12).
+// The settings' octets stand as specs/Settings.antt says; another version of the layout, or a number that is not known there, is refused (12).
 #[no_mangle]
 pub extern "C" fn isis_gr_raw_set_up(
+    version: u32,
     gateway: &mut [u64; GATEWAY_WORDS],
     settings: &[u8; SETTINGS_OCTETS],
 ) -> u32
-    ensures { λ r. ⌜ EncodesSetup r (setupFrom (now (settings .entry))) (now (gateway .entry)) (now (gateway .exit)) ⌝ }
+    ensures { λ r. ⌜ EncodesSetup r (setupFrom version (now (settings .entry))) (now (gateway .entry)) (now (gateway .exit)) ⌝ }
 {
+    if version != LAYOUT {
+        return set_up_word(SetUp::Refused(Refusal::BadSetting));
+    }
     if are_settings_known(settings) {
         return set_up_word(set_up(gateway, settings_in(settings)));
     }
     set_up_word(SetUp::Refused(Refusal::BadSetting))
+}
+
+// Which setting a set-up with these would refuse; 0 where none.
+#[no_mangle]
+pub extern "C" fn isis_gr_raw_fault(version: u32, settings: &[u8; SETTINGS_OCTETS]) -> u32
+    ensures { λ r. ⌜ r ≡ faultOf version (now (settings .entry)) ⌝ }
+{
+    fault_of(version, settings)
 }
 
 // A hello frame from a source MAC.

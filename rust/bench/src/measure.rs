@@ -3,7 +3,7 @@
 use crate::shapes::{lan, listed, settings};
 use isis_gr_differential::proved::{octets, Memory};
 use isis_gr_reference::{Gateway, Mac, Settings};
-use isis_gr_sys::{isis_gr_raw_look_up, isis_gr_raw_receive, isis_gr_raw_set_up, isis_gr_raw_tick, GATEWAY_WORDS};
+use isis_gr_sys::{isis_gr_raw_look_up, isis_gr_raw_receive, isis_gr_raw_set_up, isis_gr_raw_tick, GATEWAY_WORDS, LAYOUT};
 use std::hint::black_box;
 use std::time::Instant;
 
@@ -167,7 +167,7 @@ pub fn set_up(name: &str, settings: Settings) -> Shape {
         turns(
             || {
                 // SAFETY: both pointers are of live buffers of the sizes that the archive reads and writes.
-                black_box(unsafe { isis_gr_raw_set_up(memory.0.as_mut_ptr(), black_box(&given).as_ptr()) });
+                black_box(unsafe { isis_gr_raw_set_up(LAYOUT, memory.0.as_mut_ptr(), black_box(&given).as_ptr()) });
             },
             || {
                 black_box(Gateway::set_up(black_box(&settings))).ok();

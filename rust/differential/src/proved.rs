@@ -84,7 +84,7 @@ impl Memory {
     /// Setup over whatever the memory was.
     pub fn set_up(&mut self, octets: &[u8; SETTINGS_OCTETS]) -> Result<Hellos, Refusal> {
         // SAFETY: both references are valid for the sizes that the archive reads and writes.
-        let word = u64::from(unsafe { isis_gr_raw_set_up(self.0.as_mut_ptr(), octets.as_ptr()) });
+        let word = u64::from(unsafe { isis_gr_raw_set_up(LAYOUT, self.0.as_mut_ptr(), octets.as_ptr()) });
         code(word, bools((word >> 8) as u8))
     }
 

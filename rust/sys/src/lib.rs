@@ -19,8 +19,10 @@ pub struct ReceivedWords {
 extern "C" {
     /// The words of a gateway in this archive.
     pub fn isis_gr_raw_gateway_words() -> u32;
-    /// A new gateway in `GATEWAY_WORDS` words, of `SETTINGS_OCTETS` octets.
-    pub fn isis_gr_raw_set_up(gateway: *mut u64, settings: *const u8) -> u32;
+    /// A new gateway in `GATEWAY_WORDS` words, of `SETTINGS_OCTETS` octets; `layout` is `LAYOUT`.
+    pub fn isis_gr_raw_set_up(layout: u32, gateway: *mut u64, settings: *const u8) -> u32;
+    /// Which setting a set up with these would refuse.
+    pub fn isis_gr_raw_fault(layout: u32, settings: *const u8) -> u32;
     /// Takes one hello frame; the source MAC is six octets.
     pub fn isis_gr_raw_receive(
         gateway: *mut u64,

@@ -5,15 +5,14 @@ pub(crate) use raw::{CIRCUITS, GATEWAY_WORDS, SETTINGS_OCTETS};
 
 pub(crate) type Words = [u64; GATEWAY_WORDS];
 
-/// The words of a gateway in the archive that is linked.
-pub(crate) fn gateway_words() -> u32 {
-    // SAFETY: it takes no pointer.
-    unsafe { raw::isis_gr_raw_gateway_words() }
-}
-
 pub(crate) fn set_up(words: &mut Words, settings: &[u8; SETTINGS_OCTETS]) -> u32 {
     // SAFETY: both references are valid for the sizes that their types say, and do not overlap.
-    unsafe { raw::isis_gr_raw_set_up(words.as_mut_ptr(), settings.as_ptr()) }
+    unsafe { raw::isis_gr_raw_set_up(raw::LAYOUT, words.as_mut_ptr(), settings.as_ptr()) }
+}
+
+pub(crate) fn fault(settings: &[u8; SETTINGS_OCTETS]) -> u32 {
+    // SAFETY: the reference is valid for the size that its type says.
+    unsafe { raw::isis_gr_raw_fault(raw::LAYOUT, settings.as_ptr()) }
 }
 
 pub(crate) fn receive(words: &mut Words, circuit: u8, source: &[u8; 6], frame: &[u8], reply: &mut [u8]) -> raw::ReceivedWords {

@@ -25,7 +25,6 @@ impl Gateway {
     /// assert_eq!(error.to_string(), "circuit 1: hold is out of its range");
     /// ```
     pub fn set_up(settings: &Settings) -> Result<(Gateway, Circuits), SettingError> {
-        assert_eq!(ffi::gateway_words() as usize, ffi::GATEWAY_WORDS, "the archive is of another version");
         let mut gateway = Gateway { words: [0; ffi::GATEWAY_WORDS] };
         let word = ffi::set_up(&mut gateway.words, &settings.octets());
         match word & 0xFF {

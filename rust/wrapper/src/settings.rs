@@ -123,23 +123,24 @@ impl Settings {
         Settings { tries, ..self }
     }
 
-    /// The first setting that is out of its range, of settings that the archive refused.
+    /// The first setting that is out of its range, of settings that the archive refused, as the archive says it.
     pub(crate) fn fault(&self) -> SettingError {
-        let whole = |field| SettingError { field, circuit: None };
-        let circuits = self.circuits.iter().take(self.count).zip(1..).find_map(|(circuit, number)| {
-            let of = |field| SettingError { field, circuit: Some(number) };
-            let CircuitSettings { levels, priority, hold, metric, .. } = *circuit;
-            let faults =
-                [(levels.is_empty(), "levels"), (priority > 127, "priority"), (hold == 0, "hold"), (metric > 16_777_214, "metric")];
-            faults.into_iter().find(|(bad, _)| *bad).map(|(_, field)| of(field))
-        });
-        let faults = [(self.t1 == 0, "t1"), (self.t2 == 0, "t2"), (self.tries == 0, "tries")];
-        let lengths = faults.into_iter().find(|(bad, _)| *bad).map(|(_, field)| whole(field));
-        if (1..=CIRCUITS).contains(&self.count) {
-            circuits.or(lengths).unwrap_or(whole("settings"))
-        } else {
-            whole("circuit")
-        }
+        let word = crate::ffi::fault(&self.octets());
+        let field = match word & 0xFF {
+            1 => "version",
+            2 => "t1",
+            3 => "t2",
+            4 => "tries",
+            5 => "mode",
+            6 => "circuit",
+            7 => "kind",
+            8 => "levels",
+            9 => "priority",
+            10 => "hold",
+            _ => "metric",
+        };
+        let circuit = (word >> 8) as usize;
+        SettingError { field, circuit: (circuit != 0).then_some(circuit) }
     }
 
     /// The octets that the archive takes.
