@@ -36,4 +36,4 @@ use Rattle.model.specs.SampleRuns.{SampleRuns}
 
 pub sample-runs : SampleRuns
 unfolding ones big hasBits octetsOf tlvs tlvsUp cutAt ofType loneFault unless counted without invalid needsNeighbor needsTime leastLength restartBad restartWith timeOf neighborOf restartOctets layoutOf notHello badLength threeWayBad threeWayLength stateOf identifiersOf reverseBad reverseOf faultOn earlier ruleFault tlvsRead pduRead layoutRead helloRead wrongSource wrongId wrongNeighbor linkStep keptUp stepOf planned lineBy lineOf dataBy acceptedBy lineIn reactOf csnpsOf sameKey find has full crowded replace insert put sweep firstState emptyRoom heldTo bitsOf acknowledges heardTlv heardOf startEntry due helloDue tickT1 done satisfied acknowledged heardT1 freedBy startTimer startT2s anyT2 anyAfter cancelT2 cancelBoth expireT2 expireBoth spfDue lowerT3 heardT3 expiresT3 expiredT3 withT1s withT2s withT3 anyRuns noT1 atT1 tickT1s expireT2s waits cancelT2s tickT3 finish closed settled toT3 heardIn overloadOf overloadDue outcomeWith outcomeOf ordered heardFreed startHead startT1 startHellos started every some circuitOk lengthsOk settingsOk enabledLevels circuitOf setupCommon keyOn ifRoom decided kept written csnpsIn numbered renew recordAt newGateway setup refuse accepted reacted decidedIn checked readIn receive linkMetricOf act lift on noneOf tickOf judge carry step taken played playedAll
-sample-runs = (refl, refl, (refl, refl), refl, (refl, refl, refl))
+sample-runs = (refl, refl, (refl, refl), refl, (refl, refl, refl), (refl, refl))

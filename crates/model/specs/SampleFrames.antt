@@ -4,6 +4,7 @@ use Prim.Native.Nat.{ℕ, _+_}
 use mathlib.Core.Bool.{true}
 use mathlib.Core.List.{List, [], _∷_}
 use lib.ListN.{length, replicate}
+use Rattle.basics.specs.Mask.{circuits}
 use Rattle.basics.specs.declared.kind.CircuitKind.the-variants.{P2p}
 use Rattle.basics.specs.declared.levels.Levels.{Levels}
 use Rattle.settings.specs.declared.mode.Mode.{Mode}
@@ -29,7 +30,7 @@ settings mode metric clock =
       clock = clock;
       mode = mode;
       count = 1;
-      circuits = replicate 8 (circuit metric);
+      circuits = replicate circuits (circuit metric);
     }
 
 -- ---- frames

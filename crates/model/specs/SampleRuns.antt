@@ -1,6 +1,6 @@
--- Document 01, "Sample runs", C1 to C10, as runs of `step` from what setup returned: all rows under one statement. On the right of ≡
--- stand the document's numbers; expiries that it leaves out (383 in C8; 32, 37 and 39 in C9) are clock + Remaining Time and
--- clock + Holding Time, by lines 3 and 5 of its "Marks and holding time".
+-- Document 01, "Sample runs", C1 to C10, and the bounds of refusals 2 and 10, as runs of `step` from what setup returned: all rows under
+-- one statement. On the right of ≡ stand the document's numbers; expiries that it leaves out (383 in C8; 32, 37 and 39 in C9) are clock +
+-- Remaining Time and clock + Holding Time, by lines 3 and 5 of its "Marks and holding time".
 use Prim.Native.Nat.{ℕ}
 use mathlib.Core.Bool.{true, false}
 use mathlib.Core.Path.{_≡_}
@@ -29,7 +29,7 @@ use Rattle.timers.specs.declared.outcome.TimerOutcome.the-variants.{Idle, Goes}
 use Rattle.timers.specs.declared.outcome.Overload.the-variants.{Quiet}
 use Rattle.model.specs.Answers.{Answer, Refused, Received, Told, Metric, numberOf}
 use Rattle.model.specs.Gateway.{Gateway, setup, recordAt}
-use Rattle.model.specs.Step.{Outcome, LinkMetric, At, step}
+use Rattle.model.specs.Step.{Outcome, Receive, LinkMetric, Tick, At, Over, step}
 use Rattle.model.specs.SampleFrames.{both, settings, hello, acknowledging, reversing, row, lentOctets, taken, played, playedAll, From}
 
 -- ---- what is seen of a row
@@ -165,7 +165,17 @@ C10 =
     × Measures 16_777_210 0 10 16_777_214
     × Measures 16_777_210 2 10 16_777_215
 
+-- ---- bounds that no row above meets
+
+-- "10: tick: clock lower than the held clock", which is 100 here; "an equal clock is accepted". "2: reply buffer under 11 octets, reply due or not".
+abbrev pub Bounds : Type 0
+Bounds =
+    From (setup (settings Running 10 100))
+    (λ g.
+    (map (λ clock. numberOf (step g (Over (Tick clock)) .answer)) (99 ∷ 100 ∷ []) ≡ 10 ∷ 0 ∷ [])
+    × (map (λ room. numberOf (step g (At 1 (Receive 0x020000000002 (hello 2 (0 ∷ [])) (replicate room 0xFF))) .answer)) (10 ∷ 11 ∷ []) ≡ 2 ∷ 0 ∷ []))
+
 -- ---- all of them
 
 abbrev pub SampleRuns : Type 0
-SampleRuns = C1toC6 × C7 × C8 × C9 × C10
+SampleRuns = C1toC6 × C7 × C8 × C9 × C10 × Bounds
