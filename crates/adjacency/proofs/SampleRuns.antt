@@ -1,5 +1,5 @@
--- Document 01, "Sample runs", C1 to C7, of one frame's effect on one record. C1 to C6 follow one another: each starts from what the last
--- left. P2P, configured time 30.
+-- Document 01, "Sample runs", C1 to C7, of one frame's effect on one record, and a row of line 4, which none of them takes. C1 to C6 follow one
+-- another: each starts from what the last left. P2P, configured time 30.
 use Prim.Native.Nat.{ℕ}
 use mathlib.Core.Path.{_≡_, refl}
 use mathlib.Core.Bool.{true, false}
@@ -27,7 +27,7 @@ use Rattle.adjacency.specs.declared.record.Mark.the-variants.{Clear, Res
 use Rattle.adjacency.specs.declared.record.Adjacency.{Adjacency}
 use Rattle.adjacency.specs.declared.record.Adjacency.the-variants.{Absent, Present}
 use Rattle.adjacency.specs.declared.step.Here.{Here}
-use Rattle.adjacency.specs.declared.marks.Line.the-variants.{One, Two, Three, Five}
+use Rattle.adjacency.specs.declared.marks.Line.the-variants.{One, Two, Three, Four, Five}
 use Rattle.adjacency.specs.declared.marks.Acknowledgement.the-variants.{Nothing, Send}
 use Rattle.adjacency.specs.declared.react.Reaction.the-variants.{Accepted}
 use Rattle.adjacency.specs.declared.duty.Csnps.the-variants.{Nothing as NoCsnps, Ordered}
@@ -69,3 +69,8 @@ pub c1-to-c7 : (reactOf (at 100) (frame RR 0 UpState) (up 110 Clear) ≡ Accepte
     × (csnpsOf Two both (link Down) false ≡ NoCsnps)
 unfolding reactOf lineIn acceptedBy dataBy lineBy lineOf planned stepOf keptUp linkStep wrongNeighbor wrongId csnpsOf hasBits
 c1-to-c7 = (refl, refl, refl, refl, refl, refl, refl, refl, refl)
+
+-- "Planned marked: clear both, expiry = clock + configured time": at 115, after C4, flags 0, Holding 27, three-way Up
+pub line-four : reactOf (at 115) (frame 0 0 UpState) (up 410 Planned) ≡ Accepted (up 145 Clear) Nothing Four
+unfolding reactOf lineIn acceptedBy dataBy lineBy lineOf planned stepOf keptUp linkStep wrongNeighbor wrongId hasBits
+line-four = refl

@@ -1,1 +1,2 @@
 pub mod T1Laws
+pub mod SampleRuns
