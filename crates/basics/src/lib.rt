@@ -1,8 +1,8 @@
-// What every crate stands on: octets as numbers, levels, circuit kinds, masks over circuits, and the refusals by their numbers
+// What every crate stands on: octets as numbers, levels, circuit kinds, masks over circuits, and the refusals
 // (document 01). No state; callers: all crates.
 pub mod octets; // octets.rt: big-endian numbers
 pub mod bits; // bits.rt: a truth value as a digit
 pub mod levels; // levels.rt: a set of levels
 pub mod kind; // kind.rt: a LAN or a point-to-point circuit
 pub mod mask; // mask.rt: a mask over circuits
-pub mod refusal; // refusal.rt: every refusal, and its number
+pub mod refusal; // refusal.rt: every refusal, in the order checked

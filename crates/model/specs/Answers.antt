@@ -11,13 +11,16 @@ use Rattle.adjacency.specs.declared.record.Adjacency.{Adjacency}
 use Rattle.adjacency.specs.declared.record.Adjacency.the-variants.{Absent, Present}
 use Rattle.adjacency.specs.declared.record.Key.{Key}
 use Rattle.adjacency.specs.declared.record.Last.{Last}
+use Rattle.adjacency.specs.declared.record.Mark.the-variants.{Clear}
 use Rattle.adjacency.specs.declared.record.Phase.{Phase}
+use Rattle.adjacency.specs.declared.record.Phase.the-variants.{Gone}
 use Rattle.adjacency.specs.declared.record.State.{State}
 use Rattle.adjacency.specs.declared.record.State.the-variants.{Init, Up}
 use Rattle.timers.specs.Events.{helloBits}
+use Rattle.timers.specs.declared.outcome.Overload.the-variants.{Quiet}
 use Rattle.timers.specs.declared.outcome.TimerOutcome.{TimerOutcome}
 use Rattle.timers.specs.declared.outcome.TimerOutcome.the-variants.{Idle, Goes, Ended}
-use Rattle.model.specs.Numbers.{refusalNo, replyFlags, replyTime, lowestNo, levelsNo, csnpsNo, freedNo, overloadNo, markNo, phaseNo, stateNo}
+use Rattle.model.specs.Numbers.{refusalNo, replyFlags, replyTime, lowestNo, levelsNo, csnpsNo, freedNo, overloadNo, restartNo, markNo, phaseNo, stateNo}
 use Rattle.model.specs.declared.answers.Change.{Change}
 use Rattle.model.specs.declared.answers.Orders.{Orders}
 use Rattle.model.specs.declared.answers.Received.{Received as ReceivedCode}
@@ -38,8 +41,7 @@ use Rattle.model.specs.declared.answers.Waiting.{Waiting}
 
 -- ---- the parts of an answer
 
--- how the timers ended: 0 in the mode Running before the call, 1 the restart goes on, 2 it ended in this call; the levels whose SPF is
--- ordered; and what is ordered of overload
+-- how the timers ended; the levels whose SPF is ordered; and what is ordered of overload
 pub record TimersAnswer : Type 0 where
   pub restart : ℕ
   pub spf : ℕ
@@ -104,9 +106,9 @@ numberOf (Told f) = 0
 -- ---- the parts, of the code's
 
 abbrev pub timersAnswer : TimerOutcome → TimersAnswer
-timersAnswer Idle = record { restart = 0; spf = 0; overload = 0 }
-timersAnswer (Goes spf overload) = record { restart = 1; spf = levelsNo spf; overload = overloadNo overload }
-timersAnswer (Ended spf overload) = record { restart = 2; spf = levelsNo spf; overload = overloadNo overload }
+timersAnswer Idle = record { restart = restartNo Idle; spf = 0; overload = overloadNo Quiet }
+timersAnswer (Goes spf overload) = record { restart = restartNo (Goes spf overload); spf = levelsNo spf; overload = overloadNo overload }
+timersAnswer (Ended spf overload) = record { restart = restartNo (Ended spf overload); spf = levelsNo spf; overload = overloadNo overload }
 
 abbrev pub changeAnswer : Change → ChangeAnswer
 changeAnswer x =
@@ -164,10 +166,10 @@ stateAnswer s shown =
 abbrev pub noRecord : RecordAnswer
 noRecord =
     record {
-      state = 0;
+      state = phaseNo Gone;
       advertised = false;
       expiry = 0;
-      mark = 0;
+      mark = markNo Clear;
       suppressed = false;
       tlv = false;
       priority = 0;

@@ -24,6 +24,8 @@ use Rattle.adjacency.specs.declared.record.Phase.the-variants.{Gone, Init as In
 use Rattle.adjacency.specs.declared.record.State.{State}
 use Rattle.timer_parts.specs.declared.t1.Freed.{Freed}
 use Rattle.timer_parts.specs.declared.t1.Freed.the-variants.{Kept, Stopped, Reinitialise}
+use Rattle.timers.specs.declared.outcome.TimerOutcome.{TimerOutcome}
+use Rattle.timers.specs.declared.outcome.TimerOutcome.the-variants.{Idle, Goes, Ended}
 use Rattle.timers.specs.declared.outcome.Overload.{Overload}
 use Rattle.timers.specs.declared.outcome.Overload.the-variants.{Quiet, Set, Clear, Both}
 
@@ -81,6 +83,12 @@ overloadNo Quiet = 0
 overloadNo Set = 1
 overloadNo Clear = 2
 overloadNo Both = 3
+
+-- how the timers ended: in the mode Running before the call; the restart goes on; it ended in this call
+abbrev pub restartNo : TimerOutcome → ℕ
+restartNo Idle = 0
+restartNo (Goes spf overload) = 1
+restartNo (Ended spf overload) = 2
 
 -- the marks Restart and Planned
 abbrev pub markNo : Mark → ℕ

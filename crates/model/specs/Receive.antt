@@ -44,7 +44,7 @@ pub record Acted : Type 0 where
   pub common : Common
   pub room : Room
 
--- "A refusal changes no record, timer, clock or octet of a lent buffer"
+-- a refusal returns its number only, and leaves the common part, the room and the lent buffer as they were
 unfoldable pub refuse : List ℕ → Refusal → Common → Room → Acted
 refuse b x c r = record { answer = Refused (refusalNo x); reply = b; common = c; room = r }
 

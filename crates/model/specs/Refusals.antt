@@ -1,4 +1,4 @@
--- Demand 1 (document 01, "Refusals by number"): a refusal changes no record, timer, clock or octet of a lent buffer. Of every gateway and
+-- Demand 1: a refusal (document 01, "Refusals by number") changes no record, timer, clock or octet of a lent buffer. Of every gateway and
 -- every call.
 use Prim.Native.Nat.{ℕ}
 use mathlib.Core.Path.{_≡_}

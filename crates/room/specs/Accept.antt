@@ -25,8 +25,6 @@ use Rattle.adjacency.specs.declared.step.Here.{Here}
 use Rattle.adjacency.specs.declared.place.Slot.{Slot}
 use Rattle.room.specs.Table.{find, put, crowded, anyOutranks}
 
--- ---- keys
-
 -- ---- refusals 8 and 9
 
 -- 9, where 8 is not given: "the circuit's room is full and no record has the frame's key"
