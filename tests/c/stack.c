@@ -1,4 +1,5 @@
-/* Paints a stack and lets receive run on it: how deep it went on frames of 1,492 octets, and on short ones. Fails at 512 octets and more. */
+/* Paints a stack and lets the archive's calls run on it: how deep receive went on frames of 1,492 octets and on short ones, and each other call.
+   Fails where receive takes 512 octets and more. */
 #define _XOPEN_SOURCE 700
 #include "two_circuits.h"
 
@@ -22,6 +23,64 @@ static unsigned char *at_call;
 static void run(void) {
     at_call = __builtin_frame_address(0);
     answer = isis_gr_raw_receive(g.words, circuit, source, frame, length, reply, sizeof reply).answer;
+}
+
+static uint8_t settings[ISIS_GR_SETTINGS_OCTETS];
+static uint64_t found[2];
+
+static void run_set_up(void) {
+    at_call = __builtin_frame_address(0);
+    answer = isis_gr_raw_set_up(ISIS_GR_LAYOUT, g.words, settings);
+}
+
+static void run_fault(void) {
+    at_call = __builtin_frame_address(0);
+    answer = isis_gr_raw_fault(ISIS_GR_LAYOUT, settings);
+}
+
+static void run_tick(void) {
+    at_call = __builtin_frame_address(0);
+    answer = isis_gr_raw_tick(g.words, 60);
+}
+
+static void run_release(void) {
+    at_call = __builtin_frame_address(0);
+    answer = isis_gr_raw_release(g.words, 2);
+}
+
+static void run_clear(void) {
+    at_call = __builtin_frame_address(0);
+    answer = isis_gr_raw_clear(g.words, 2);
+}
+
+static void run_csnp(void) {
+    at_call = __builtin_frame_address(0);
+    answer = isis_gr_raw_csnp_complete(g.words, 2, 1);
+}
+
+static void run_database(void) {
+    at_call = __builtin_frame_address(0);
+    answer = isis_gr_raw_database_complete(g.words, 1);
+}
+
+static void run_look_up(void) {
+    at_call = __builtin_frame_address(0);
+    answer = isis_gr_raw_look_up(g.words, 2, 1, frame + 9, source, found);
+}
+
+static void run_metric(void) {
+    at_call = __builtin_frame_address(0);
+    answer = isis_gr_raw_link_metric(g.words, 1);
+}
+
+static void run_flags(void) {
+    at_call = __builtin_frame_address(0);
+    answer = isis_gr_raw_next_hello_flags(g.words, 1);
+}
+
+static void run_waiting(void) {
+    at_call = __builtin_frame_address(0);
+    answer = isis_gr_raw_waiting(g.words);
 }
 
 /* the same without the call */
@@ -120,6 +179,34 @@ int main(void) {
         seal();
         measure("LAN, 1,492 octets of neighbours, RR, reply RA");
     }
-    printf("%4zu octets at most; the limit is %d\n", most, LIMIT);
+    printf("%4zu octets at most for receive; the limit is %d\n", most, LIMIT);
+    {
+        isis_gr_settings s = two_circuits(ISIS_GR_MODE_RESTARTING, 60, 60);
+        const struct {
+            const char *name;
+            void (*run)(void);
+        } others[] = {
+            {"csnp_complete, T1 stops", run_csnp},
+            {"database_complete", run_database},
+            {"look_up", run_look_up},
+            {"link_metric", run_metric},
+            {"next_hello_flags", run_flags},
+            {"waiting", run_waiting},
+            {"tick that ends the restart", run_tick},
+            {"release", run_release},
+            {"clear", run_clear},
+            {"fault", run_fault},
+            {"set_up of eight circuits", run_set_up},
+        };
+        s.count = 8;
+        for (i = 2; i < 8; i++) {
+            s.circuits[i] = s.circuits[1];
+        }
+        isis_gr_put_settings(settings, &s);
+        for (i = 0; i < (int)(sizeof others / sizeof *others); i++) {
+            size_t used = depth(others[i].run), base = depth(idle);
+            printf("%4zu octets of stack: %s\n", used > base ? used : base, others[i].name);
+        }
+    }
     return most < LIMIT ? 0 : 1;
 }

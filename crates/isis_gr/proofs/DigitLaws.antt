@@ -18,14 +18,13 @@ use Rattle.adjacency.specs.declared.duty.Csnps.{Csnps}
 use Rattle.adjacency.specs.declared.duty.Csnps.the-variants.{Nothing, Ordered}
 use Rattle.adjacency.specs.declared.marks.Acknowledgement.{Acknowledgement}
 use Rattle.adjacency.specs.declared.marks.Acknowledgement.the-variants.{Nothing as NoReply, Send}
-use Rattle.adjacency.specs.Record.{markOf}
+use Rattle.adjacency.specs.Record.{phaseOf, markOf}
 use Rattle.adjacency.specs.declared.record.Adjacency.the-variants.{Present}
 use Rattle.adjacency.specs.declared.record.Mark.{Mark}
 use Rattle.adjacency.specs.declared.record.Mark.the-variants.{Clear as Unmarked, Restart, Planned}
 use Rattle.adjacency.specs.declared.record.Phase.{Phase}
 use Rattle.adjacency.specs.declared.record.Phase.the-variants.{Gone, Init as InitPhase, Up as UpPhase}
 use Rattle.adjacency.specs.declared.record.State.{State}
-use Rattle.adjacency.specs.declared.record.State.the-variants.{Init, Up}
 use Rattle.timer_parts.specs.declared.t1.Freed.{Freed}
 use Rattle.timer_parts.specs.declared.t1.Freed.the-variants.{Kept, Stopped, Reinitialise}
 use Rattle.timers.specs.declared.outcome.TimerOutcome.{TimerOutcome}
@@ -89,8 +88,7 @@ phase-le InitPhase = omega arith
 phase-le UpPhase = omega arith
 
 state-le : (s : State) → stateNo s ≤ 2
-state-le (Init d) = omega arith
-state-le (Up d m) = omega arith
+state-le s = phase-le (phaseOf (Present s))
 
 -- ---- the parts
 
