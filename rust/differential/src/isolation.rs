@@ -70,7 +70,13 @@ impl Run {
 
 fn names(call: &Call) -> Option<u8> {
     match *call {
-        Call::Receive(n, ..) | Call::Release(n) | Call::Clear(n) | Call::Csnp(n, _) | Call::LookUp(n, ..) | Call::Metric(n) | Call::Flags(n) => Some(n),
+        Call::Receive(n, ..)
+        | Call::Release(n)
+        | Call::Clear(n)
+        | Call::Csnp(n, _)
+        | Call::LookUp(n, ..)
+        | Call::Metric(n)
+        | Call::Flags(n) => Some(n),
         Call::Tick(_) | Call::Database(_) | Call::Waiting => None,
     }
 }

@@ -109,8 +109,7 @@ impl Memory {
         }
         let up = |at: u32| [None, Some(false), Some(true)][(change >> at & 3) as usize];
         let [_, _, system @ ..] = change.to_be_bytes();
-        let change =
-            Change { level: (change >> 48 & 3) as u8, system, before: up(50), after: up(52), advertised: change >> 54 == 1 };
+        let change = Change { level: (change >> 48 & 3) as u8, system, before: up(50), after: up(52), advertised: change >> 54 == 1 };
         code(word, Received { reply, csnps, timers: timers(word), freed, change })
     }
 

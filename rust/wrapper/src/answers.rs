@@ -62,8 +62,8 @@ impl Refusal {
     }
 }
 
-impl std::fmt::Display for Refusal {
-    fn fmt(&self, f: &mut std::fmt::Formatter<'_>) -> std::fmt::Result {
+impl core::fmt::Display for Refusal {
+    fn fmt(&self, f: &mut core::fmt::Formatter<'_>) -> core::fmt::Result {
         let text = match self {
             Refusal::NoCircuit => "no circuit of that number, or a level not enabled there",
             Refusal::ReplyRoom => "reply buffer under 11 octets",
@@ -82,7 +82,7 @@ impl std::fmt::Display for Refusal {
     }
 }
 
-impl std::error::Error for Refusal {}
+impl core::error::Error for Refusal {}
 
 /// What a reply acknowledges.
 #[derive(Clone, Copy, PartialEq, Eq, Hash, Debug)]
@@ -322,7 +322,15 @@ impl Record {
             _ => Phase::Up(mark),
         };
         let reverse = bit(4).then(|| ReverseMetric { offset: (word >> 32) as u32, whole_lan: bit(5), unreachable: bit(6) });
-        Some(Record { phase, advertised: answer >> 16 & 1 == 1, expiry, suppressed: bit(2), priority: (word >> 8) as u8, tlv: bit(3), reverse })
+        Some(Record {
+            phase,
+            advertised: answer >> 16 & 1 == 1,
+            expiry,
+            suppressed: bit(2),
+            priority: (word >> 8) as u8,
+            tlv: bit(3),
+            reverse,
+        })
     }
 }
 

@@ -7,29 +7,56 @@ use crate::settings::{SettingError, Settings};
 /// The octets of a reply, and the least reply buffer that `receive` takes.
 pub const REPLY_OCTETS: usize = 11;
 
-/// A gateway: 5,120 octets, moved and cloned as such.
+/// A gateway: memory of 5,120 octets that [`Gateway::set_up`] makes a gateway of, in place. It stands wherever its owner puts it: in a
+/// `static`, in a field, in a box. It is moved and cloned as so many octets.
 #[derive(Clone)]
 pub struct Gateway {
-    words: ffi::Words,
+    words: [u64; Gateway::WORDS],
 }
 
 impl Gateway {
-    /// A new gateway, and the circuits on which a hello with RR is ordered (none in the mode Running). Where the archive refuses the settings
-    /// (12), the error names the first that is out of its range.
+    /// The words of a gateway.
+    pub const WORDS: usize = ffi::GATEWAY_WORDS;
+
+    /// Memory that is not set up. It holds no circuit: a call that names one is refused 1, a tick has nothing to do, and nothing waits.
+    ///
+    /// ```
+    /// # use isis_gr::{Circuit, Gateway, Refusal};
+    /// use std::sync::Mutex;
+    ///
+    /// static GATEWAY: Mutex<Gateway> = Mutex::new(Gateway::new());
+    /// let gateway = GATEWAY.lock().expect("nobody panicked");
+    /// assert_eq!(gateway.link_metric(Circuit::new(1).expect("1 to 8")), Err(Refusal::NoCircuit));
+    /// ```
+    pub const fn new() -> Gateway {
+        Gateway::from_words([0; Gateway::WORDS])
+    }
+
+    /// Memory with these words, such as another gateway's. Any words will do: unless a gateway was set up in them, they hold no circuit.
+    pub const fn from_words(words: [u64; Gateway::WORDS]) -> Gateway {
+        Gateway { words }
+    }
+
+    /// Its words: to copy, or to see that a call left them as they were. What each means is not told.
+    pub const fn words(&self) -> &[u64; Gateway::WORDS] {
+        &self.words
+    }
+
+    /// A new gateway, whatever the memory was; the circuits on which a hello with RR is ordered (RFC 8706, 3.3.1; none in the mode Running).
+    /// Where the archive refuses the settings (12), the memory is as it was, and the error names the first that is out of its range.
     ///
     /// ```
     /// # use isis_gr::{CircuitSettings, Gateway, Kind, Levels, Mac, Mode, Settings, SystemId};
     /// let lan = CircuitSettings::new(Kind::Lan, Levels::ONE, Mac([2; 6])).hold(0);
     /// let settings = Settings::new(SystemId([1; 6]), Mode::Running, 0).circuit(lan);
-    /// let error = Gateway::set_up(&settings).unwrap_err();
+    /// let error = Gateway::new().set_up(&settings).unwrap_err();
     /// assert_eq!(error.to_string(), "circuit 1: hold is out of its range");
     /// ```
-    pub fn set_up(settings: &Settings) -> Result<(Gateway, Circuits), SettingError> {
+    pub fn set_up(&mut self, settings: &Settings) -> Result<Circuits, SettingError> {
         assert_eq!(ffi::gateway_words() as usize, ffi::GATEWAY_WORDS, "the archive is of another version");
-        let mut gateway = Gateway { words: [0; ffi::GATEWAY_WORDS] };
-        let word = ffi::set_up(&mut gateway.words, &settings.octets());
+        let word = ffi::set_up(&mut self.words, &settings.octets());
         match word & 0xFF {
-            0 => Ok((gateway, Circuits((word >> 8) as u8))),
+            0 => Ok(Circuits((word >> 8) as u8)),
             _ => Err(settings.fault()),
         }
     }
@@ -95,8 +122,14 @@ impl Gateway {
     }
 }
 
-impl std::fmt::Debug for Gateway {
-    fn fmt(&self, f: &mut std::fmt::Formatter<'_>) -> std::fmt::Result {
+impl Default for Gateway {
+    fn default() -> Gateway {
+        Gateway::new()
+    }
+}
+
+impl core::fmt::Debug for Gateway {
+    fn fmt(&self, f: &mut core::fmt::Formatter<'_>) -> core::fmt::Result {
         f.debug_struct("Gateway").field("waiting", &self.waiting()).finish_non_exhaustive()
     }
 }

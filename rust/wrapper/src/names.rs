@@ -1,6 +1,6 @@
 //! What calls are about: circuits, levels, System IDs and MACs.
 use crate::ffi::CIRCUITS;
-use std::fmt;
+use core::fmt;
 
 /// A circuit's number, 1 to 8.
 #[derive(Clone, Copy, PartialEq, Eq, PartialOrd, Ord, Hash, Debug)]

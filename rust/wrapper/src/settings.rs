@@ -1,6 +1,7 @@
 //! The settings that a gateway is set up with (document 01, "What the gateway holds").
 use crate::ffi::{CIRCUITS, SETTINGS_OCTETS};
 use crate::names::{Levels, Mac, SystemId};
+use core::fmt;
 
 /// The kind of a circuit.
 #[derive(Clone, Copy, PartialEq, Eq, Hash, Debug)]
@@ -81,8 +82,8 @@ pub struct SettingError {
     pub circuit: Option<usize>,
 }
 
-impl std::fmt::Display for SettingError {
-    fn fmt(&self, f: &mut std::fmt::Formatter<'_>) -> std::fmt::Result {
+impl fmt::Display for SettingError {
+    fn fmt(&self, f: &mut fmt::Formatter<'_>) -> fmt::Result {
         match self.circuit {
             Some(number) => write!(f, "circuit {number}: {} is out of its range", self.field),
             None => write!(f, "{} is out of its range", self.field),
@@ -90,7 +91,7 @@ impl std::fmt::Display for SettingError {
     }
 }
 
-impl std::error::Error for SettingError {}
+impl core::error::Error for SettingError {}
 
 impl Settings {
     /// A gateway with no circuit yet: our own System ID, the mode, and the clock in seconds.

@@ -21,7 +21,8 @@ impl End {
         let mac = Mac([2, 0, 0, 0, 0, number]);
         let system = SystemId([0x19, 0x21, 0x68, 0, 0x10, number]);
         let p2p = CircuitSettings::new(Kind::P2p, Levels::ONE, mac).extended_circuit_id(u32::from(number));
-        let (gateway, hellos) = Gateway::set_up(&Settings::new(system, mode, clock).circuit(p2p)).expect("in range");
+        let mut gateway = Gateway::new();
+        let hellos = gateway.set_up(&Settings::new(system, mode, clock).circuit(p2p)).expect("in range");
         assert_eq!(hellos.contains(link()), mode == Mode::Restarting);
         End { gateway, system, mac }
     }
