@@ -1,11 +1,15 @@
 //! The gateway and its calls.
-use crate::answers::{Received, Record, Refusal, Ticked, Timers, Waiting};
+use crate::answers::{Flags, Received, Refusal, Ticked, Timers, Waiting};
 use crate::ffi;
 use crate::names::{Circuit, Circuits, Level, Mac, SystemId};
+use crate::record::Record;
 use crate::settings::{SettingError, Settings};
 
 /// The octets of a reply, and the least reply buffer that `receive` takes.
 pub const REPLY_OCTETS: usize = 11;
+
+/// The level of a P2P look-up: it counts for nothing there, and is enabled on no LAN.
+const NO_LEVEL: u8 = 0;
 
 /// A gateway: memory of 5,120 octets that [`Gateway::set_up`] makes a gateway of, in place. It stands wherever its owner puts it: in a
 /// `static`, in a field, in a box. It is moved and cloned as so many octets.
@@ -96,10 +100,20 @@ impl Gateway {
         Refusal::unless(word, Timers::of_word(word))
     }
 
-    /// The record of a neighbour on a LAN circuit, by level, System ID and source MAC; on P2P only the System ID counts. Refused 1.
-    pub fn look_up(&self, circuit: Circuit, level: Level, system: SystemId, mac: Mac) -> Result<Option<Record>, Refusal> {
+    /// The record of a neighbour on a P2P circuit, known by its System ID alone. Refused 1, on a LAN too.
+    pub fn look_up_p2p(&self, circuit: Circuit, system: SystemId) -> Result<Option<Record>, Refusal> {
+        self.find(circuit, NO_LEVEL, system, Mac([0; 6]))
+    }
+
+    /// The record of a neighbour on a LAN circuit, by level, System ID and source MAC. Refused 1. On P2P the level and the MAC count for
+    /// nothing.
+    pub fn look_up_lan(&self, circuit: Circuit, level: Level, system: SystemId, mac: Mac) -> Result<Option<Record>, Refusal> {
+        self.find(circuit, level.number(), system, mac)
+    }
+
+    fn find(&self, circuit: Circuit, level: u8, system: SystemId, mac: Mac) -> Result<Option<Record>, Refusal> {
         let mut record = [0; 2];
-        let word = ffi::look_up(&self.words, circuit.number(), level.number(), &system.0, &mac.0, &mut record);
+        let word = ffi::look_up(&self.words, circuit.number(), level, &system.0, &mac.0, &mut record);
         Refusal::unless(u64::from(word), Record::of_words(word, record))
     }
 
@@ -109,10 +123,10 @@ impl Gateway {
         Refusal::unless(word, (word >> 32) as u32)
     }
 
-    /// Whether the next hello on a circuit carries RR; it carries no other flag. Refused 1.
-    pub fn next_hello_has_rr(&self, circuit: Circuit) -> Result<bool, Refusal> {
+    /// The flags of the Restart TLV in the next hello on a circuit. Refused 1.
+    pub fn next_hello_flags(&self, circuit: Circuit) -> Result<Flags, Refusal> {
         let word = ffi::next_hello_flags(&self.words, circuit.number());
-        Refusal::unless(u64::from(word), word >> 8 & 1 == 1)
+        Refusal::unless(u64::from(word), Flags((word >> 8) as u8))
     }
 
     /// How many circuits still wait for T1, and the lowest of them.

@@ -35,11 +35,11 @@ mod answers;
 mod ffi;
 mod gateway;
 mod names;
+mod record;
 mod settings;
 
-pub use answers::{
-    Ack, Change, Freed, Mark, Overload, Phase, Received, Record, Refusal, Reply, ReverseMetric, Standing, Ticked, Timers, Waiting,
-};
+pub use answers::{Ack, Flags, Freed, Overload, Received, Refusal, Reply, Ticked, Timers, Waiting};
 pub use gateway::{Gateway, REPLY_OCTETS};
 pub use names::{Circuit, Circuits, Level, Levels, Mac, SystemId};
+pub use record::{Change, Mark, Phase, Record, ReverseMetric, Standing};
 pub use settings::{CircuitSettings, Kind, Mode, SettingError, Settings};

@@ -3,7 +3,7 @@ use crate::ffi::{CIRCUITS, SETTINGS_OCTETS};
 use crate::names::{Levels, Mac, SystemId};
 use core::fmt;
 
-/// The kind of a circuit.
+/// The kind of a circuit (of ISO 10589: there is no other).
 #[derive(Clone, Copy, PartialEq, Eq, Hash, Debug)]
 pub enum Kind {
     /// A LAN, with room for 16 records over both levels.
@@ -14,6 +14,7 @@ pub enum Kind {
 
 /// The mode that a gateway starts in.
 #[derive(Clone, Copy, PartialEq, Eq, Hash, Debug)]
+#[non_exhaustive]
 pub enum Mode {
     /// It helps neighbours that restart.
     Running,

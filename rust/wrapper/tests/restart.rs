@@ -40,11 +40,11 @@ impl End {
 
     /// A Restart TLV with the flags of the next hello.
     fn own_tlv(&self) -> [u8; 3] {
-        [211, 1, u8::from(self.gateway.next_hello_has_rr(link()).expect("one circuit"))]
+        [211, 1, self.gateway.next_hello_flags(link()).expect("one circuit").octet()]
     }
 
     fn phase_of(&self, other: &End) -> Option<Phase> {
-        let found = self.gateway.look_up(link(), Level::One, other.system, other.mac).expect("one circuit");
+        let found = self.gateway.look_up_p2p(link(), other.system).expect("one circuit");
         found.map(|record| record.phase)
     }
 }
