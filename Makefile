@@ -25,6 +25,9 @@ boundary: archive
 	@$(CC) -std=c99 -O1 -Wall -Wextra -Werror -Iinclude tests/fuzz/receive.c tests/fuzz/replay.c -Ltarget/staticlib -lisis_gr -o target/c/replay
 	@tools/fuzz_seeds target/seeds && target/c/replay $$(find target/seeds tests/fuzz/cases -type f 2>/dev/null)
 	@cd rust && cargo test --offline --release --quiet
+	@cd rust && if cargo fmt --version >/dev/null 2>&1; then cargo fmt --all --check; else echo "cargo fmt is not installed: the form of rust/ is not checked"; fi
+	@cd rust && if cargo clippy --version >/dev/null 2>&1; then cargo clippy --offline --quiet --all-targets -- -D warnings; \
+		else echo "cargo clippy is not installed: rust/ is not linted"; fi
 
 archive:
 	@rt staticlib isis_gr

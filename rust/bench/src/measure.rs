@@ -1,9 +1,12 @@
-//! One shape measured: the archive and the reference in turns, and of each the least of many batches. The archive is called as C calls it, and its
-//! answer is the word that it returns.
+//! One shape measured: the archive and the reference in turns, and of each the least of many batches. Both are brought to the same state, and compared,
+//! by the trait that they share; what is measured is the archive as C calls it, whose answer is the word that it returns.
 use crate::shapes::{lan, listed, settings};
-use isis_gr_differential::proved::{octets, Memory};
+use isis_gr_differential::proved::{self, Proved};
+use isis_gr_differential::reference::Reference;
+use isis_gr_differential::side::Side;
+use isis_gr_differential::words::Words;
 use isis_gr_reference::{Gateway, Mac, Settings};
-use isis_gr_sys::{isis_gr_raw_look_up, isis_gr_raw_receive, isis_gr_raw_set_up, isis_gr_raw_tick, GATEWAY_WORDS, LAYOUT};
+use isis_gr_sys::{isis_gr_raw_look_up, isis_gr_raw_receive, isis_gr_raw_tick};
 use std::hint::black_box;
 use std::time::Instant;
 
@@ -25,8 +28,8 @@ pub struct Shape {
 /// A gateway of each, alike.
 #[derive(Clone)]
 pub struct Both {
-    memory: Memory,
-    reference: Gateway,
+    proved: Proved,
+    reference: Reference,
 }
 
 impl Both {
@@ -35,15 +38,15 @@ impl Both {
     }
 
     pub fn of(settings: &Settings) -> Both {
-        let mut memory = Memory([0; GATEWAY_WORDS]);
-        memory.set_up(&octets(settings)).expect("in range");
-        Both { memory, reference: Gateway::set_up(settings).expect("in range").0 }
+        let (proved, _) = Proved::new(settings).expect("in range");
+        let (reference, _) = Reference::new(settings).expect("in range");
+        Both { proved, reference }
     }
 
     /// Takes a frame; both must answer alike.
     pub fn fed(mut self, circuit: u8, source: Mac, frame: &[u8]) -> Both {
         let mut reply = [0; 11];
-        let a = self.memory.receive(circuit, source, frame, &mut reply);
+        let a = self.proved.receive(circuit, source, frame, &mut reply);
         assert_eq!(a, self.reference.receive(circuit, source, frame, &mut reply));
         self
     }
@@ -75,16 +78,17 @@ fn turns(mut ours: impl FnMut(), mut theirs: impl FnMut()) -> Pair {
 
 /// Receive, the same frame again and again.
 pub fn receive(name: &str, both: Both, circuit: u8, source: Mac, frame: &[u8], room: usize) -> Shape {
-    let Both { mut memory, mut reference } = both;
+    let Both { mut proved, mut reference } = both;
     let frame = frame.to_vec();
     let (mut x, mut y) = (vec![0; room], vec![0; room]);
-    let a = memory.receive(circuit, source, &frame, &mut x);
+    let a = proved.receive(circuit, source, &frame, &mut x);
     assert_eq!(a, reference.receive(circuit, source, &frame, &mut y), "{name}");
     assert_eq!(x, y, "{name}");
     let answer = match a {
         Ok(_) => String::new(),
         Err(why) => format!(" (refused {})", why.number()),
     };
+    let (mut words, Reference(mut reference)) = (*proved.words(), reference);
     let round = move || {
         turns(
             || {
@@ -92,15 +96,7 @@ pub fn receive(name: &str, both: Both, circuit: u8, source: Mac, frame: &[u8], r
                 let frame = black_box(&frame[..]);
                 // SAFETY: every pointer is of a live buffer, and goes with its length.
                 black_box(unsafe {
-                    isis_gr_raw_receive(
-                        memory.0.as_mut_ptr(),
-                        circuit,
-                        source.as_ptr(),
-                        frame.as_ptr(),
-                        frame.len(),
-                        x.as_mut_ptr(),
-                        x.len(),
-                    )
+                    isis_gr_raw_receive(words.as_mut_ptr(), circuit, source.as_ptr(), frame.as_ptr(), frame.len(), x.as_mut_ptr(), x.len())
                 });
             },
             || {
@@ -111,19 +107,20 @@ pub fn receive(name: &str, both: Both, circuit: u8, source: Mac, frame: &[u8], r
     Shape { name: format!("{name}{answer}"), round: Box::new(round) }
 }
 
-fn tick_once(memory: &mut Memory, clock: u32) -> u64 {
+fn tick_once(words: &mut Words, clock: u32) -> u64 {
     // SAFETY: the pointer is of a live gateway.
-    unsafe { isis_gr_raw_tick(memory.0.as_mut_ptr(), clock) }
+    unsafe { isis_gr_raw_tick(words.as_mut_ptr(), clock) }
 }
 
 /// A tick at the clock that is held: no record goes, and no timer ends.
 pub fn tick(name: &str, both: Both) -> Shape {
-    let Both { mut memory, mut reference } = both;
-    assert_eq!(memory.tick(100), reference.tick(100), "{name}");
+    let Both { mut proved, mut reference } = both;
+    assert_eq!(proved.tick(100), reference.tick(100), "{name}");
+    let (mut words, Reference(mut reference)) = (*proved.words(), reference);
     let round = move || {
         turns(
             || {
-                black_box(tick_once(&mut memory, black_box(100)));
+                black_box(tick_once(&mut words, black_box(100)));
             },
             || {
                 black_box(reference.tick(black_box(100))).ok();
@@ -136,18 +133,18 @@ pub fn tick(name: &str, both: Both) -> Shape {
 /// A tick that removes every record. The records are put back between batches, outside the time.
 pub fn expiring(name: &str, both: Both) -> Shape {
     const CLOCK: u32 = 200;
-    let Both { mut memory, mut reference } = both.clone();
-    assert_eq!(memory.tick(CLOCK), reference.tick(CLOCK), "{name}");
+    let Both { mut proved, mut reference } = both.clone();
+    assert_eq!(proved.tick(CLOCK), reference.tick(CLOCK), "{name}");
     let round = move || {
         let (mut a, mut b) = (f64::MAX, f64::MAX);
         for _ in 0..BATCH * BATCHES / 10 {
-            let mut ours: [Memory; RING] = std::array::from_fn(|_| both.memory.clone());
+            let mut ours: [Words; RING] = std::array::from_fn(|_| *both.proved.words());
             a = a.min(nanoseconds(RING as u32, || {
                 for one in black_box(&mut ours) {
                     black_box(tick_once(one, black_box(CLOCK)));
                 }
             }));
-            let mut theirs: [Gateway; RING] = std::array::from_fn(|_| both.reference.clone());
+            let mut theirs: [Gateway; RING] = std::array::from_fn(|_| both.reference.0.clone());
             b = b.min(nanoseconds(RING as u32, || {
                 for one in black_box(&mut theirs) {
                     black_box(one.tick(black_box(CLOCK))).ok();
@@ -159,15 +156,16 @@ pub fn expiring(name: &str, both: Both) -> Shape {
     Shape { name: name.to_string(), round: Box::new(round) }
 }
 
-/// Setup, of memory that holds a gateway. The reference's time has the allocation and release of its circuits.
+/// Setup, of memory that holds a gateway. The archive's time has the packing of its settings, by the wrapper as C's header does it; the
+/// reference's has the allocation and release of its circuits.
 pub fn set_up(name: &str, settings: Settings) -> Shape {
-    let Both { mut memory, .. } = Both::of(&settings);
-    let given = octets(&settings);
+    let given = proved::settings(&settings);
+    let mut gateway = isis_gr::Gateway::new();
+    gateway.set_up(&given).expect("in range");
     let round = move || {
         turns(
             || {
-                // SAFETY: both pointers are of live buffers of the sizes that the archive reads and writes.
-                black_box(unsafe { isis_gr_raw_set_up(LAYOUT, memory.0.as_mut_ptr(), black_box(&given).as_ptr()) });
+                black_box(gateway.set_up(black_box(&given))).ok();
             },
             || {
                 black_box(Gateway::set_up(black_box(&settings))).ok();
@@ -179,9 +177,10 @@ pub fn set_up(name: &str, settings: Settings) -> Shape {
 
 /// The look-up of a level 1 record on a LAN circuit.
 pub fn look_up(name: &str, both: Both, circuit: u8, router: u8) -> Shape {
-    let Both { memory, reference } = both;
+    let Both { proved, reference } = both;
     let (system, mac) = ([0x19, 0x21, 0x68, 0, 0x20, router], [2, 0, 0, 0, 0, router]);
-    assert_eq!(memory.look_up(circuit, 1, system, mac), reference.look_up(circuit, 1, system, mac), "{name}");
+    assert_eq!(proved.look_up_lan(circuit, 1, system, mac), reference.look_up_lan(circuit, 1, system, mac), "{name}");
+    let Reference(reference) = reference;
     let mut record = [0; 2];
     let round = move || {
         turns(
@@ -189,7 +188,7 @@ pub fn look_up(name: &str, both: Both, circuit: u8, router: u8) -> Shape {
                 let (system, mac) = (black_box(system), black_box(mac));
                 // SAFETY: every pointer is of a live buffer of the size that the archive reads or writes.
                 black_box(unsafe {
-                    isis_gr_raw_look_up(memory.0.as_ptr(), circuit, 1, system.as_ptr(), mac.as_ptr(), record.as_mut_ptr())
+                    isis_gr_raw_look_up(proved.words().as_ptr(), circuit, 1, system.as_ptr(), mac.as_ptr(), record.as_mut_ptr())
                 });
             },
             || {

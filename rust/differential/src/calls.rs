@@ -18,8 +18,10 @@ pub enum Call {
     Csnp(u8, u8),
     /// Database complete.
     Database(u8),
-    /// Look up.
-    LookUp(u8, u8, SystemId, Mac),
+    /// Look up on a P2P circuit.
+    LookUpP2p(u8, SystemId),
+    /// Look up on a LAN circuit.
+    LookUpLan(u8, u8, SystemId, Mac),
     /// Link metric.
     Metric(u8),
     /// Flags of the next hello.
@@ -98,6 +100,15 @@ pub fn receive(r: &mut Random, s: &Settings, number: u8) -> Call {
     Call::Receive(number, from, frame, room, meant)
 }
 
+/// The circuit that a call names, if it names one.
+pub fn named(call: &Call) -> Option<u8> {
+    match *call {
+        Call::Receive(n, ..) | Call::Release(n) | Call::Clear(n) | Call::Csnp(n, _) | Call::Metric(n) | Call::Flags(n) => Some(n),
+        Call::LookUpP2p(n, _) | Call::LookUpLan(n, ..) => Some(n),
+        Call::Tick(_) | Call::Database(_) | Call::Waiting => None,
+    }
+}
+
 /// Any call. The clock moves by small steps, sometimes back.
 pub fn call(r: &mut Random, s: &Settings, now: &mut Now) -> Call {
     let n = number(r, s);
@@ -115,7 +126,8 @@ pub fn call(r: &mut Random, s: &Settings, now: &mut Now) -> Call {
         83 => Call::Clear(n),
         84..=88 => Call::Csnp(n, level(r)),
         89..=91 => Call::Database(level(r)),
-        92..=95 => Call::LookUp(n, level(r), system(r.below(u64::from(SYSTEMS)) as u8), mac(r.below(u64::from(MACS)) as u8)),
+        92 => Call::LookUpP2p(n, system(r.below(u64::from(SYSTEMS)) as u8)),
+        93..=95 => Call::LookUpLan(n, level(r), system(r.below(u64::from(SYSTEMS)) as u8), mac(r.below(u64::from(MACS)) as u8)),
         96..=97 => Call::Metric(n),
         98 => Call::Flags(n),
         _ => Call::Waiting,

@@ -17,10 +17,13 @@ fn branches() -> Vec<String> {
         "csnp refused 11",
         "database refused 1",
         "database refused 11",
-        "look up refused 1",
+        "P2P look up refused 1",
+        "LAN look up refused 1",
         "metric refused 1",
         "flags refused 1",
         "setup refused 12",
+        "circuit 0, or above 8",
+        "level that is neither 1 nor 2",
         "ordinary, from no record",
         "ordinary, from INIT",
         "ordinary, from UP",
@@ -77,8 +80,10 @@ fn branches() -> Vec<String> {
         "metric raised",
         "metric at 16,777,214",
         "metric at 16,777,215",
-        "look up finds",
-        "look up finds none",
+        "P2P look up finds",
+        "P2P look up finds none",
+        "LAN look up finds",
+        "LAN look up finds none",
     ] {
         all.push(text.to_owned());
     }

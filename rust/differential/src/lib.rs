@@ -1,5 +1,5 @@
-//! The proved archive against the reference, on random calls through the C boundary: every answer, every record by look-up, every reply octet,
-//! and memory unchanged by a refusal; and demand 3 tried on the running code.
+//! The proved archive against the reference, on random calls through the Rust wrapper: every answer, every record by look-up, every reply octet,
+//! and memory unchanged by a refusal; demand 3 tried on the running code; and the archive's words checked as they are.
 #![deny(missing_docs)]
 
 pub mod calls;
@@ -9,3 +9,6 @@ pub mod frames;
 pub mod isolation;
 pub mod proved;
 pub mod random;
+pub mod reference;
+pub mod side;
+pub mod words;

@@ -1,5 +1,5 @@
 //! A smaller run, for every check.
-use isis_gr_differential::{compare, coverage::Coverage, isolation};
+use isis_gr_differential::{compare, coverage::Coverage, isolation, proved::Proved, reference::Reference, side::Side, words};
 
 #[test]
 fn the_archive_answers_as_the_reference_and_every_branch_is_reached() {
@@ -10,13 +10,29 @@ fn the_archive_answers_as_the_reference_and_every_branch_is_reached() {
     assert!(all.missing().is_empty(), "never reached: {:?}", all.missing());
 }
 
-#[test]
-fn a_bad_neighbour_harms_itself() {
+fn bad_neighbour_harms_itself_on<S: Side + Clone>() {
     let (mut frames, mut stood) = (0, 0);
     for seed in 1..=500 {
-        let (its, stands) = isolation::run(seed, 200);
+        let (its, stands) = isolation::run::<S>(seed, 200);
         frames += its;
         stood += u64::from(stands);
     }
     assert!(frames > 10_000 && stood > 20, "{frames} frames, {stood} runs whose LAN's promise stood");
+}
+
+#[test]
+fn a_bad_neighbour_harms_itself() {
+    bad_neighbour_harms_itself_on::<Proved>();
+}
+
+#[test]
+fn a_bad_neighbour_of_the_reference_harms_itself() {
+    bad_neighbour_harms_itself_on::<Reference>();
+}
+
+#[test]
+fn every_word_holds_what_the_header_says_of_it() {
+    for seed in 1..=500 {
+        words::run(seed, 400);
+    }
 }

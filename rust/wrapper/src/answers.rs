@@ -1,91 +1,112 @@
 //! What the calls answer. An order is an action that the caller must take.
-use crate::names::{Circuit, Circuits, Level, Levels, SystemId};
+use crate::names::{Circuit, Circuits, Levels};
+use crate::record::Change;
+use crate::settings::SettingError;
 
-/// Why a call was refused; the number is that of document 01. A refusal leaves the gateway and the reply buffer as they were.
-#[derive(Clone, Copy, PartialEq, Eq, Hash, Debug)]
-#[non_exhaustive]
-#[repr(u32)]
-pub enum Refusal {
-    /// No circuit of that number, or a level not enabled there.
+/// The one table of refusals: text, name, number.
+macro_rules! refusals {
+    ($($text:literal $name:ident = $number:literal,)*) => {
+        /// Why a call was refused; the number is that of document 01. A refusal leaves the gateway and the reply buffer as they were.
+        #[derive(Clone, Copy, PartialEq, Eq, PartialOrd, Ord, Hash, Debug)]
+        #[non_exhaustive]
+        #[repr(u32)]
+        pub enum Refusal {
+            $(#[doc = concat!("No. ", $number, ": ", $text, ".")] $name = $number,)*
+        }
+
+        impl Refusal {
+            /// All of them, by number, from 1.
+            pub const ALL: &'static [Refusal] = &[$(Refusal::$name),*];
+
+            /// Its name, as in code.
+            pub const fn name(self) -> &'static str {
+                match self {
+                    $(Refusal::$name => stringify!($name),)*
+                }
+            }
+
+            /// Its text, that of `isis_gr_text` in `include/isis_gr.h`.
+            pub const fn text(self) -> &'static str {
+                match self {
+                    $(Refusal::$name => $text,)*
+                }
+            }
+        }
+    };
+}
+
+refusals! {
+    "no circuit of that number, or a level not enabled there"
     NoCircuit = 1,
-    /// Reply buffer under 11 octets.
+    "reply buffer under 11 octets"
     ReplyRoom = 2,
-    /// Not a hello that fits the circuit.
+    "not a hello that fits the circuit"
     NotHello = 3,
-    /// Header length or PDU Length.
+    "header length or PDU Length wrong"
     BadLength = 4,
-    /// A TLV passes the PDU Length.
+    "a TLV passes the PDU Length"
     TlvPastEnd = 5,
-    /// A rule of a TLV broken, or the circuit type is 0.
+    "a TLV breaks its rule, or the circuit type is 0"
     BadTlv = 6,
-    /// Level not enabled, or our own System ID.
+    "level not enabled, or our own System ID"
     WrongSource = 7,
-    /// P2P: the three-way TLV names another.
+    "the three-way TLV names another system or circuit"
     WrongNeighbor = 8,
-    /// The circuit's room is full.
+    "the circuit's room is full"
     NoRoom = 9,
-    /// Clock lower than the held clock.
+    "clock lower than before"
     ClockBack = 10,
-    /// A notice outside the mode Restarting.
+    "a notice outside the mode Restarting"
     NotRestarting = 11,
-    /// A setting out of range.
+    "a setting out of range"
     BadSetting = 12,
 }
 
-const REFUSALS: [Refusal; 12] = [
-    Refusal::NoCircuit,
-    Refusal::ReplyRoom,
-    Refusal::NotHello,
-    Refusal::BadLength,
-    Refusal::TlvPastEnd,
-    Refusal::BadTlv,
-    Refusal::WrongSource,
-    Refusal::WrongNeighbor,
-    Refusal::NoRoom,
-    Refusal::ClockBack,
-    Refusal::NotRestarting,
-    Refusal::BadSetting,
-];
-
 impl Refusal {
     /// Its number in document 01.
-    pub fn number(self) -> u32 {
+    pub const fn number(self) -> u32 {
         self as u32
     }
 
-    /// The value where the code is 0. The archive gives no code but 0 to 12.
-    pub(crate) fn unless<T>(code: u64, value: T) -> Result<T, Refusal> {
-        match code & 0xFF {
+    /// The refusal of a number; none of 0 and of those above the last.
+    ///
+    /// ```
+    /// # use isis_gr::Refusal;
+    /// assert_eq!(Refusal::of_number(9), Some(Refusal::NoRoom));
+    /// assert_eq!(Refusal::of_number(0), None);
+    /// ```
+    pub fn of_number(number: u32) -> Option<Refusal> {
+        Refusal::ALL.iter().copied().find(|refusal| refusal.number() == number)
+    }
+
+    /// The value where the word's code is 0. The archive gives no code but 0 and the table's.
+    pub(crate) fn unless<T>(word: u64, value: T) -> Result<T, Refusal> {
+        match (word & 0xFF) as u32 {
             0 => Ok(value),
-            n => Err(REFUSALS[n as usize - 1]),
+            code => Err(Refusal::of_number(code).expect("a code of the table")),
         }
     }
 }
 
-impl std::fmt::Display for Refusal {
-    fn fmt(&self, f: &mut std::fmt::Formatter<'_>) -> std::fmt::Result {
-        let text = match self {
-            Refusal::NoCircuit => "no circuit of that number, or a level not enabled there",
-            Refusal::ReplyRoom => "reply buffer under 11 octets",
-            Refusal::NotHello => "not a hello that fits the circuit",
-            Refusal::BadLength => "header length or PDU Length",
-            Refusal::TlvPastEnd => "a TLV passes the PDU Length",
-            Refusal::BadTlv => "a rule of a TLV broken, or the circuit type is 0",
-            Refusal::WrongSource => "level not enabled, or our own System ID",
-            Refusal::WrongNeighbor => "the three-way TLV names another",
-            Refusal::NoRoom => "the circuit's room is full",
-            Refusal::ClockBack => "clock lower than the held clock",
-            Refusal::NotRestarting => "a notice outside the mode Restarting",
-            Refusal::BadSetting => "a setting out of range",
-        };
-        write!(f, "{} ({text})", self.number())
+impl core::fmt::Display for Refusal {
+    /// As `9 (the circuit's room is full)`.
+    fn fmt(&self, f: &mut core::fmt::Formatter<'_>) -> core::fmt::Result {
+        write!(f, "{} ({})", self.number(), self.text())
     }
 }
 
-impl std::error::Error for Refusal {}
+impl core::error::Error for Refusal {}
+
+impl From<SettingError> for Refusal {
+    /// A set-up is refused with this number alone.
+    fn from(_: SettingError) -> Refusal {
+        Refusal::BadSetting
+    }
+}
 
 /// What a reply acknowledges.
 #[derive(Clone, Copy, PartialEq, Eq, Hash, Debug)]
+#[non_exhaustive]
 pub enum Ack {
     /// RA: a restart.
     Restart,
@@ -93,7 +114,8 @@ pub enum Ack {
     Planned,
 }
 
-/// The Restart TLV that was written to the reply buffer. Order: send it in a hello on the circuit now (RFC 8706, 3.2.1).
+/// The Restart TLV that was written to the reply buffer. Order: send it in a hello on the circuit now (RFC 8706,
+/// 3.2.1; PA: 3.2.3).
 #[derive(Clone, Copy, PartialEq, Eq, Hash, Debug)]
 pub struct Reply {
     /// RA or PA.
@@ -104,20 +126,23 @@ pub struct Reply {
 
 /// Whether a frame with no Restart TLV stopped the circuit's running T1 (RFC 8706, 3.3.1).
 #[derive(Clone, Copy, PartialEq, Eq, Hash, Debug)]
+#[non_exhaustive]
 pub enum Freed {
     /// No.
     Kept,
     /// Yes.
     Stopped,
-    /// Yes, and the neighbour shows us Up with our own extended circuit ID. Order: make it reinitialise.
+    /// Yes, and the neighbour shows us Up with our own extended circuit ID. Order: make the adjacency reinitialise, by a hello with three-way
+    /// state Down.
     Reinitialise,
 }
 
-/// The overload bit of our LSPs (RFC 8706, 3.3.1).
+/// The overload bit of our LSPs (RFC 8706, 3.4.1.1).
 #[derive(Clone, Copy, PartialEq, Eq, Hash, Debug)]
+#[non_exhaustive]
 pub enum Overload {
-    /// No order.
-    Quiet,
+    /// No order: it stays as it is.
+    Keep,
     /// Order: set it.
     Set,
     /// Order: clear it.
@@ -126,21 +151,22 @@ pub enum Overload {
     Both,
 }
 
-/// How the timers of a router that restarts ended, and what they order. SPF: the levels whose SPF is to run.
+/// How the timers of a router that restarts ended, and what they order.
 #[derive(Clone, Copy, PartialEq, Eq, Hash, Debug)]
+#[non_exhaustive]
 pub enum Timers {
     /// The mode was Running.
     Idle,
     /// The mode is Restarting still.
     GoOn {
-        /// Order: run the SPF of these levels.
+        /// Order: run the SPF of these levels (RFC 8706, 3.4.1.1).
         spf: Levels,
         /// The overload order.
         overload: Overload,
     },
     /// The mode is Running from this call on.
     Ended {
-        /// Order: run the SPF of these levels.
+        /// Order: run the SPF of these levels (RFC 8706, 3.4.1.1).
         spf: Levels,
         /// The overload order.
         overload: Overload,
@@ -148,11 +174,27 @@ pub enum Timers {
 }
 
 impl Timers {
+    /// The order of either: run the SPF of these levels (RFC 8706, 3.4.1.1).
+    pub fn spf(self) -> Levels {
+        match self {
+            Timers::Idle => Levels::default(),
+            Timers::GoOn { spf, .. } | Timers::Ended { spf, .. } => spf,
+        }
+    }
+
+    /// The overload order of either.
+    pub fn overload(self) -> Overload {
+        match self {
+            Timers::Idle => Overload::Keep,
+            Timers::GoOn { overload, .. } | Timers::Ended { overload, .. } => overload,
+        }
+    }
+
     pub(crate) fn of_word(word: u64) -> Timers {
         let octet = (word >> 32) as u8;
         let spf = Levels::of_mask(octet >> 2 & 3);
         let overload = match octet >> 4 & 3 {
-            0 => Overload::Quiet,
+            0 => Overload::Keep,
             1 => Overload::Set,
             2 => Overload::Clear,
             _ => Overload::Both,
@@ -178,49 +220,6 @@ pub struct Received {
     pub timers: Timers,
     /// What became of the frame's record.
     pub change: Change,
-}
-
-/// Whether a record stands, and its state.
-#[derive(Clone, Copy, PartialEq, Eq, Hash, Debug)]
-pub enum Standing {
-    /// There is none.
-    None,
-    /// INIT.
-    Init,
-    /// UP.
-    Up,
-}
-
-/// What became of the record of a frame.
-#[derive(Clone, Copy, PartialEq, Eq, Hash, Debug)]
-pub struct Change {
-    /// The level of its key; none on P2P.
-    pub level: Option<Level>,
-    /// The System ID of its key.
-    pub system: SystemId,
-    /// How it stood before the frame.
-    pub before: Standing,
-    /// How it stands after it.
-    pub after: Standing,
-    /// Whether it goes into our LSPs after it: it is UP and not suppressed.
-    pub advertised: bool,
-}
-
-impl Change {
-    fn of_word(word: u64) -> Change {
-        let standing = |at: u32| match word >> at & 3 {
-            0 => Standing::None,
-            1 => Standing::Init,
-            _ => Standing::Up,
-        };
-        let level = match word >> 48 & 3 {
-            1 => Some(Level::One),
-            2 => Some(Level::Two),
-            _ => None,
-        };
-        let [_, _, system @ ..] = word.to_be_bytes();
-        Change { level, system: SystemId(system), before: standing(50), after: standing(52), advertised: word >> 54 & 1 == 1 }
-    }
 }
 
 impl Received {
@@ -258,71 +257,41 @@ impl Ticked {
     }
 }
 
-/// A mark of an UP record.
-#[derive(Clone, Copy, PartialEq, Eq, Hash, Debug)]
-pub enum Mark {
-    /// None.
-    Clear,
-    /// The neighbour restarts.
-    Restart,
-    /// The neighbour plans to restart.
-    Planned,
+/// The flags of the Restart TLV that a hello carries (RFC 8706, 3.1).
+#[derive(Clone, Copy, PartialEq, Eq, Hash, Default)]
+pub struct Flags(pub(crate) u8);
+
+impl Flags {
+    /// RR: a restart is requested.
+    pub const RR: Flags = Flags(1);
+
+    /// Whether all of these are set.
+    ///
+    /// ```
+    /// # use isis_gr::Flags;
+    /// assert!(Flags::RR.has(Flags::RR));
+    /// assert!(!Flags::default().has(Flags::RR));
+    /// ```
+    pub const fn has(self, flags: Flags) -> bool {
+        self.0 & flags.0 == flags.0
+    }
+
+    /// Whether there is none.
+    pub const fn is_empty(self) -> bool {
+        self.0 == 0
+    }
+
+    /// The first octet of the TLV's value.
+    pub const fn octet(self) -> u8 {
+        self.0
+    }
 }
 
-/// A record's state.
-#[derive(Clone, Copy, PartialEq, Eq, Hash, Debug)]
-pub enum Phase {
-    /// INIT.
-    Init,
-    /// UP, with its mark.
-    Up(Mark),
-}
-
-/// The reverse metric of a neighbour's last frame (RFC 8500).
-#[derive(Clone, Copy, PartialEq, Eq, Hash, Debug)]
-pub struct ReverseMetric {
-    /// The offset.
-    pub offset: u32,
-    /// The W flag.
-    pub whole_lan: bool,
-    /// The U flag.
-    pub unreachable: bool,
-}
-
-/// The record of a neighbour (the adjacency entry of ISO 10589).
-#[derive(Clone, Copy, PartialEq, Eq, Hash, Debug)]
-pub struct Record {
-    /// INIT or UP.
-    pub phase: Phase,
-    /// Whether it goes into our LSPs: it is UP and not suppressed.
-    pub advertised: bool,
-    /// The clock at which a tick removes it.
-    pub expiry: u64,
-    /// Mark Suppressed.
-    pub suppressed: bool,
-    /// Of its last accepted frame the priority.
-    pub priority: u8,
-    /// Whether that frame had a Restart TLV.
-    pub tlv: bool,
-    /// The reverse metric, if exactly one came.
-    pub reverse: Option<ReverseMetric>,
-}
-
-impl Record {
-    pub(crate) fn of_words(answer: u32, [expiry, word]: [u64; 2]) -> Option<Record> {
-        let bit = |at: u32| word >> at & 1 == 1;
-        let mark = match word & 3 {
-            0 => Mark::Clear,
-            1 => Mark::Restart,
-            _ => Mark::Planned,
-        };
-        let phase = match (answer >> 8) as u8 {
-            0 => return None,
-            1 => Phase::Init,
-            _ => Phase::Up(mark),
-        };
-        let reverse = bit(4).then(|| ReverseMetric { offset: (word >> 32) as u32, whole_lan: bit(5), unreachable: bit(6) });
-        Some(Record { phase, advertised: answer >> 16 & 1 == 1, expiry, suppressed: bit(2), priority: (word >> 8) as u8, tlv: bit(3), reverse })
+impl core::fmt::Debug for Flags {
+    /// As the set of their names.
+    fn fmt(&self, f: &mut core::fmt::Formatter<'_>) -> core::fmt::Result {
+        let names = [(Flags::RR, "RR")];
+        f.debug_set().entries(names.iter().filter(|(flag, _)| self.has(*flag)).map(|(_, name)| name)).finish()
     }
 }
 
@@ -333,14 +302,4 @@ pub struct Waiting {
     pub count: u32,
     /// The lowest of them.
     pub lowest: Option<Circuit>,
-}
-
-#[cfg(test)]
-mod tests {
-    #[test]
-    fn each_refusal_stands_at_its_number() {
-        for (number, refusal) in (1..).zip(super::REFUSALS) {
-            assert_eq!(refusal.number(), number);
-        }
-    }
 }

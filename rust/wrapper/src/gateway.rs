@@ -1,34 +1,65 @@
 //! The gateway and its calls.
-use crate::answers::{Received, Record, Refusal, Ticked, Timers, Waiting};
+use crate::answers::{Flags, Received, Refusal, Ticked, Timers, Waiting};
 use crate::ffi;
 use crate::names::{Circuit, Circuits, Level, Mac, SystemId};
+use crate::record::Record;
 use crate::settings::{SettingError, Settings};
 
 /// The octets of a reply, and the least reply buffer that `receive` takes.
 pub const REPLY_OCTETS: usize = 11;
 
-/// A gateway: 5,120 octets, moved and cloned as such.
+/// The level of a P2P look-up: it counts for nothing there, and is enabled on no LAN.
+const NO_LEVEL: u8 = 0;
+
+/// A gateway: memory of 5,120 octets that [`Gateway::set_up`] makes a gateway of, in place. It stands wherever its owner puts it: in a
+/// `static`, in a field, in a box. It is moved and cloned as so many octets.
 #[derive(Clone)]
 pub struct Gateway {
-    words: ffi::Words,
+    words: [u64; Gateway::WORDS],
 }
 
 impl Gateway {
-    /// A new gateway, and the circuits on which a hello with RR is ordered (none in the mode Running). Where the archive refuses the settings
-    /// (12), the error names the first that is out of its range.
+    /// The words of a gateway.
+    pub const WORDS: usize = ffi::GATEWAY_WORDS;
+
+    /// Memory that is not set up. It holds no circuit: a call that names one is refused 1, a tick has nothing to do, and nothing waits.
+    ///
+    /// ```
+    /// # use isis_gr::{Circuit, Gateway, Refusal};
+    /// use std::sync::Mutex;
+    ///
+    /// static GATEWAY: Mutex<Gateway> = Mutex::new(Gateway::new());
+    /// let gateway = GATEWAY.lock().expect("nobody panicked");
+    /// assert_eq!(gateway.link_metric(Circuit::new(1).expect("1 to 8")), Err(Refusal::NoCircuit));
+    /// ```
+    pub const fn new() -> Gateway {
+        Gateway::from_words([0; Gateway::WORDS])
+    }
+
+    /// Memory with these words, such as another gateway's. Any words will do: unless a gateway was set up in them, they hold no circuit.
+    pub const fn from_words(words: [u64; Gateway::WORDS]) -> Gateway {
+        Gateway { words }
+    }
+
+    /// Its words: to copy, or to see that a call left them as they were. What each means is not told.
+    pub const fn words(&self) -> &[u64; Gateway::WORDS] {
+        &self.words
+    }
+
+    /// A new gateway, whatever the memory was; the circuits on which a hello with RR is ordered (RFC 8706, 3.3.1; none in the mode Running).
+    /// Where the archive refuses the settings (12), the memory is as it was, and the error names the first that is out of its range.
     ///
     /// ```
     /// # use isis_gr::{CircuitSettings, Gateway, Kind, Levels, Mac, Mode, Settings, SystemId};
     /// let lan = CircuitSettings::new(Kind::Lan, Levels::ONE, Mac([2; 6])).hold(0);
     /// let settings = Settings::new(SystemId([1; 6]), Mode::Running, 0).circuit(lan);
-    /// let error = Gateway::set_up(&settings).unwrap_err();
+    /// let error = Gateway::new().set_up(&settings).unwrap_err();
     /// assert_eq!(error.to_string(), "circuit 1: hold is out of its range");
     /// ```
-    pub fn set_up(settings: &Settings) -> Result<(Gateway, Circuits), SettingError> {
-        let mut gateway = Gateway { words: [0; ffi::GATEWAY_WORDS] };
-        let word = ffi::set_up(&mut gateway.words, &settings.octets());
+    pub fn set_up(&mut self, settings: &Settings) -> Result<Circuits, SettingError> {
+        let word = ffi::set_up(&mut self.words, &settings.octets());
         match word & 0xFF {
-            0 => Ok((gateway, Circuits((word >> 8) as u8))),
+            0 => Ok(Circuits((word >> 8) as u8)),
             _ => Err(settings.fault()),
         }
     }
@@ -68,10 +99,20 @@ impl Gateway {
         Refusal::unless(word, Timers::of_word(word))
     }
 
-    /// The record of a neighbour on a LAN circuit, by level, System ID and source MAC; on P2P only the System ID counts. Refused 1.
-    pub fn look_up(&self, circuit: Circuit, level: Level, system: SystemId, mac: Mac) -> Result<Option<Record>, Refusal> {
+    /// The record of a neighbour on a P2P circuit, known by its System ID alone. Refused 1, on a LAN too.
+    pub fn look_up_p2p(&self, circuit: Circuit, system: SystemId) -> Result<Option<Record>, Refusal> {
+        self.find(circuit, NO_LEVEL, system, Mac([0; 6]))
+    }
+
+    /// The record of a neighbour on a LAN circuit, by level, System ID and source MAC. Refused 1. On P2P the level and the MAC count for
+    /// nothing.
+    pub fn look_up_lan(&self, circuit: Circuit, level: Level, system: SystemId, mac: Mac) -> Result<Option<Record>, Refusal> {
+        self.find(circuit, level.number(), system, mac)
+    }
+
+    fn find(&self, circuit: Circuit, level: u8, system: SystemId, mac: Mac) -> Result<Option<Record>, Refusal> {
         let mut record = [0; 2];
-        let word = ffi::look_up(&self.words, circuit.number(), level.number(), &system.0, &mac.0, &mut record);
+        let word = ffi::look_up(&self.words, circuit.number(), level, &system.0, &mac.0, &mut record);
         Refusal::unless(u64::from(word), Record::of_words(word, record))
     }
 
@@ -81,10 +122,10 @@ impl Gateway {
         Refusal::unless(word, (word >> 32) as u32)
     }
 
-    /// Whether the next hello on a circuit carries RR; it carries no other flag. Refused 1.
-    pub fn next_hello_has_rr(&self, circuit: Circuit) -> Result<bool, Refusal> {
+    /// The flags of the Restart TLV in the next hello on a circuit. Refused 1.
+    pub fn next_hello_flags(&self, circuit: Circuit) -> Result<Flags, Refusal> {
         let word = ffi::next_hello_flags(&self.words, circuit.number());
-        Refusal::unless(u64::from(word), word >> 8 & 1 == 1)
+        Refusal::unless(u64::from(word), Flags((word >> 8) as u8))
     }
 
     /// How many circuits still wait for T1, and the lowest of them.
@@ -94,8 +135,14 @@ impl Gateway {
     }
 }
 
-impl std::fmt::Debug for Gateway {
-    fn fmt(&self, f: &mut std::fmt::Formatter<'_>) -> std::fmt::Result {
+impl Default for Gateway {
+    fn default() -> Gateway {
+        Gateway::new()
+    }
+}
+
+impl core::fmt::Debug for Gateway {
+    fn fmt(&self, f: &mut core::fmt::Formatter<'_>) -> core::fmt::Result {
         f.debug_struct("Gateway").field("waiting", &self.waiting()).finish_non_exhaustive()
     }
 }

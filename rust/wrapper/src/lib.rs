@@ -4,17 +4,30 @@
 //! and names what comes back. There is no I/O, no allocation and no clock inside: hello frames and clock ticks go in; records, Restart TLVs,
 //! orders (actions that the caller must take) and link metrics come out.
 //!
-//! ```
-//! use isis_gr::{Circuit, CircuitSettings, Gateway, Kind, Levels, Mac, Mode, Refusal, Settings, SystemId};
+//! A gateway is memory of its owner's. [`Gateway::new`] is a constant, so that a `static` holds it and no stack has to:
 //!
+//! ```
+//! use isis_gr::{Circuit, CircuitSettings, Gateway, Kind, Levels, Mac, Mode, Refusal, Settings, SystemId, REPLY_OCTETS};
+//! use std::sync::Mutex;
+//!
+//! static GATEWAY: Mutex<Gateway> = Mutex::new(Gateway::new());
+//!
+//! let mut gateway = GATEWAY.lock().expect("nobody panicked");
 //! let p2p = CircuitSettings::new(Kind::P2p, Levels::BOTH, Mac([2, 0, 0, 0, 0, 1])).extended_circuit_id(7);
 //! let settings = Settings::new(SystemId([0x19, 0x21, 0x68, 0, 0x10, 1]), Mode::Running, 100).circuit(p2p);
-//! let (mut gateway, _hellos) = Gateway::set_up(&settings).expect("every setting is in range");
-//! let mut reply = [0; 11];
+//! let hellos = gateway.set_up(&settings)?;
+//! assert!(hellos.is_empty(), "a router in the mode Running asks for nothing");
+//!
+//! let mut reply = [0; REPLY_OCTETS];
 //! let first = Circuit::new(1).expect("1 to 8");
 //! let answer = gateway.receive(first, Mac([2, 0, 0, 0, 0, 2]), b"no hello", &mut reply);
 //! assert_eq!(answer, Err(Refusal::NotHello));
+//! # Ok::<(), isis_gr::SettingError>(())
 //! ```
+//!
+//! The crate needs no `std`: where there is none, a `static` of another kind of lock holds the gateway as well, or a field of the program's
+//! one state.
+#![no_std]
 #![deny(missing_docs)]
 #![deny(unsafe_op_in_unsafe_fn)]
 
@@ -22,11 +35,11 @@ mod answers;
 mod ffi;
 mod gateway;
 mod names;
+mod record;
 mod settings;
 
-pub use answers::{
-    Ack, Change, Freed, Mark, Overload, Phase, Received, Record, Refusal, Reply, ReverseMetric, Standing, Ticked, Timers, Waiting,
-};
+pub use answers::{Ack, Flags, Freed, Overload, Received, Refusal, Reply, Ticked, Timers, Waiting};
 pub use gateway::{Gateway, REPLY_OCTETS};
 pub use names::{Circuit, Circuits, Level, Levels, Mac, SystemId};
+pub use record::{Change, Mark, Phase, Record, ReverseMetric, Standing};
 pub use settings::{CircuitSettings, Kind, Mode, SettingError, Settings};

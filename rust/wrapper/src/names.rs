@@ -1,6 +1,6 @@
 //! What calls are about: circuits, levels, System IDs and MACs.
 use crate::ffi::CIRCUITS;
-use std::fmt;
+use core::{array, fmt, iter};
 
 /// A circuit's number, 1 to 8.
 #[derive(Clone, Copy, PartialEq, Eq, PartialOrd, Ord, Hash, Debug)]
@@ -14,12 +14,16 @@ impl Circuit {
     /// assert!(Circuit::new(8).is_some());
     /// assert!(Circuit::new(0).is_none());
     /// ```
-    pub fn new(number: u8) -> Option<Circuit> {
-        (1..=CIRCUITS).contains(&usize::from(number)).then_some(Circuit(number))
+    pub const fn new(number: u8) -> Option<Circuit> {
+        if number >= 1 && number as usize <= CIRCUITS {
+            Some(Circuit(number))
+        } else {
+            None
+        }
     }
 
     /// Its number.
-    pub fn number(self) -> u8 {
+    pub const fn number(self) -> u8 {
         self.0
     }
 }
@@ -42,11 +46,28 @@ impl Circuits {
     /// The circuits of the set, lowest first.
     ///
     /// ```
-    /// # use isis_gr::Circuits;
-    /// assert_eq!(Circuits::default().iter().count(), 0);
+    /// # use isis_gr::{Circuit, Circuits};
+    /// let (two, five) = (Circuit::new(2).unwrap(), Circuit::new(5).unwrap());
+    /// let set: Circuits = [five, two].into_iter().collect();
+    /// assert!(set.iter().eq([two, five]));
     /// ```
-    pub fn iter(self) -> impl Iterator<Item = Circuit> {
-        (1..=CIRCUITS as u8).map(Circuit).filter(move |circuit| self.contains(*circuit))
+    pub fn iter(self) -> iter::Flatten<array::IntoIter<Option<Circuit>, CIRCUITS>> {
+        array::from_fn(|at| Some(Circuit(at as u8 + 1)).filter(|circuit| self.contains(*circuit))).into_iter().flatten()
+    }
+}
+
+impl IntoIterator for Circuits {
+    type Item = Circuit;
+    type IntoIter = iter::Flatten<array::IntoIter<Option<Circuit>, CIRCUITS>>;
+
+    fn into_iter(self) -> Self::IntoIter {
+        self.iter()
+    }
+}
+
+impl FromIterator<Circuit> for Circuits {
+    fn from_iter<I: IntoIterator<Item = Circuit>>(circuits: I) -> Circuits {
+        Circuits(circuits.into_iter().fold(0, |mask, circuit| mask | 1 << (circuit.0 - 1)))
     }
 }
 
@@ -56,8 +77,8 @@ impl fmt::Debug for Circuits {
     }
 }
 
-/// An IS-IS level.
-#[derive(Clone, Copy, PartialEq, Eq, Hash, Debug)]
+/// An IS-IS level (of ISO 10589: there is no other).
+#[derive(Clone, Copy, PartialEq, Eq, PartialOrd, Ord, Hash, Debug)]
 pub enum Level {
     /// Level 1.
     One,
@@ -66,7 +87,8 @@ pub enum Level {
 }
 
 impl Level {
-    pub(crate) fn number(self) -> u8 {
+    /// Its number, 1 or 2.
+    pub const fn number(self) -> u8 {
         match self {
             Level::One => 1,
             Level::Two => 2,
@@ -104,12 +126,41 @@ impl Levels {
         }
     }
 
+    /// The levels of the set, level 1 first.
+    ///
+    /// ```
+    /// # use isis_gr::{Level, Levels};
+    /// assert!(Levels::BOTH.iter().eq([Level::One, Level::Two]));
+    /// assert!(Levels::TWO.iter().eq([Level::Two]));
+    /// ```
+    pub fn iter(self) -> iter::Flatten<array::IntoIter<Option<Level>, 2>> {
+        [Level::One, Level::Two].map(|level| Some(level).filter(|level| self.contains(*level))).into_iter().flatten()
+    }
+
     pub(crate) fn mask(self) -> u8 {
         u8::from(self.one) + 2 * u8::from(self.two)
     }
 
     pub(crate) fn of_mask(mask: u8) -> Levels {
         Levels { one: mask & 1 == 1, two: mask & 2 == 2 }
+    }
+}
+
+impl IntoIterator for Levels {
+    type Item = Level;
+    type IntoIter = iter::Flatten<array::IntoIter<Option<Level>, 2>>;
+
+    fn into_iter(self) -> Self::IntoIter {
+        self.iter()
+    }
+}
+
+impl FromIterator<Level> for Levels {
+    fn from_iter<I: IntoIterator<Item = Level>>(levels: I) -> Levels {
+        levels.into_iter().fold(Levels::default(), |set, level| match level {
+            Level::One => Levels { one: true, ..set },
+            Level::Two => Levels { two: true, ..set },
+        })
     }
 }
 

@@ -1,8 +1,9 @@
 //! The settings that a gateway is set up with (document 01, "What the gateway holds").
 use crate::ffi::{CIRCUITS, SETTINGS_OCTETS};
 use crate::names::{Levels, Mac, SystemId};
+use core::fmt;
 
-/// The kind of a circuit.
+/// The kind of a circuit (of ISO 10589: there is no other).
 #[derive(Clone, Copy, PartialEq, Eq, Hash, Debug)]
 pub enum Kind {
     /// A LAN, with room for 16 records over both levels.
@@ -13,6 +14,7 @@ pub enum Kind {
 
 /// The mode that a gateway starts in.
 #[derive(Clone, Copy, PartialEq, Eq, Hash, Debug)]
+#[non_exhaustive]
 pub enum Mode {
     /// It helps neighbours that restart.
     Running,
@@ -81,8 +83,8 @@ pub struct SettingError {
     pub circuit: Option<usize>,
 }
 
-impl std::fmt::Display for SettingError {
-    fn fmt(&self, f: &mut std::fmt::Formatter<'_>) -> std::fmt::Result {
+impl fmt::Display for SettingError {
+    fn fmt(&self, f: &mut fmt::Formatter<'_>) -> fmt::Result {
         match self.circuit {
             Some(number) => write!(f, "circuit {number}: {} is out of its range", self.field),
             None => write!(f, "{} is out of its range", self.field),
@@ -90,7 +92,7 @@ impl std::fmt::Display for SettingError {
     }
 }
 
-impl std::error::Error for SettingError {}
+impl core::error::Error for SettingError {}
 
 impl Settings {
     /// A gateway with no circuit yet: our own System ID, the mode, and the clock in seconds.

@@ -21,7 +21,8 @@ impl End {
         let mac = Mac([2, 0, 0, 0, 0, number]);
         let system = SystemId([0x19, 0x21, 0x68, 0, 0x10, number]);
         let p2p = CircuitSettings::new(Kind::P2p, Levels::ONE, mac).extended_circuit_id(u32::from(number));
-        let (gateway, hellos) = Gateway::set_up(&Settings::new(system, mode, clock).circuit(p2p)).expect("in range");
+        let mut gateway = Gateway::new();
+        let hellos = gateway.set_up(&Settings::new(system, mode, clock).circuit(p2p)).expect("in range");
         assert_eq!(hellos.contains(link()), mode == Mode::Restarting);
         End { gateway, system, mac }
     }
@@ -39,11 +40,11 @@ impl End {
 
     /// A Restart TLV with the flags of the next hello.
     fn own_tlv(&self) -> [u8; 3] {
-        [211, 1, u8::from(self.gateway.next_hello_has_rr(link()).expect("one circuit"))]
+        [211, 1, self.gateway.next_hello_flags(link()).expect("one circuit").octet()]
     }
 
     fn phase_of(&self, other: &End) -> Option<Phase> {
-        let found = self.gateway.look_up(link(), Level::One, other.system, other.mac).expect("one circuit");
+        let found = self.gateway.look_up_p2p(link(), other.system).expect("one circuit");
         found.map(|record| record.phase)
     }
 }

@@ -10,15 +10,15 @@ fn settings(circuits: &[CircuitSettings]) -> Settings {
 }
 
 fn fault(s: Settings) -> String {
-    Gateway::set_up(&s).map(|_| ()).expect_err("out of range").to_string()
+    Gateway::new().set_up(&s).expect_err("out of range").to_string()
 }
 
 #[test]
 fn the_bounds_themselves_are_accepted() {
     let low = circuit().priority(0).hold(1).metric(0);
     let high = circuit().priority(127).hold(65535).metric(16_777_214);
-    assert!(Gateway::set_up(&settings(&[low, high]).t1(1).t2(1).tries(1)).is_ok());
-    assert!(Gateway::set_up(&settings(&[high; 8]).t1(65535).t2(65535).tries(255)).is_ok());
+    assert!(Gateway::new().set_up(&settings(&[low, high]).t1(1).t2(1).tries(1)).is_ok());
+    assert!(Gateway::new().set_up(&settings(&[high; 8]).t1(65535).t2(65535).tries(255)).is_ok());
 }
 
 #[test]

@@ -1,0 +1,160 @@
+//! The reference's side: its answers as the wrapper's types. The reference itself knows nothing of them.
+use crate::side::Side;
+use isis_gr::{
+    Ack, Change, Circuit, Circuits, Flags, Freed, Level, Levels, Mark, Overload, Phase, Received, Record, Refusal, Reply, ReverseMetric,
+    Standing, Ticked, Timers, Waiting,
+};
+use isis_gr_reference as theirs;
+use isis_gr_reference::{Mac, Settings, SystemId, MAX_CIRCUITS};
+
+/// A gateway of the reference.
+#[derive(Clone, Debug, PartialEq, Eq)]
+pub struct Reference(pub theirs::Gateway);
+
+/// The level that a P2P look-up is made with: it counts for nothing there, and is enabled on no LAN.
+const NO_LEVEL: u8 = 0;
+
+fn refusal(why: theirs::Refusal) -> Refusal {
+    Refusal::of_number(u32::from(why.number())).expect("a number of the table")
+}
+
+fn circuits(set: [bool; MAX_CIRCUITS]) -> Circuits {
+    (1..).zip(set).filter(|(_, is_in)| *is_in).map(|(number, _)| Circuit::new(number).expect("1 to 8")).collect()
+}
+
+fn levels(set: theirs::Levels) -> Levels {
+    Levels { one: set.one, two: set.two }
+}
+
+fn overload(order: theirs::Overload) -> Overload {
+    match order {
+        theirs::Overload::Quiet => Overload::Keep,
+        theirs::Overload::Set => Overload::Set,
+        theirs::Overload::Clear => Overload::Clear,
+        theirs::Overload::Both => Overload::Both,
+    }
+}
+
+fn timers(outcome: theirs::TimerOutcome) -> Timers {
+    match outcome {
+        theirs::TimerOutcome::Idle => Timers::Idle,
+        theirs::TimerOutcome::Goes { spf, overload: order } => Timers::GoOn { spf: levels(spf), overload: overload(order) },
+        theirs::TimerOutcome::Ended { spf, overload: order } => Timers::Ended { spf: levels(spf), overload: overload(order) },
+    }
+}
+
+fn reply(theirs::Reply { kind, remaining }: theirs::Reply) -> Reply {
+    let ack = match kind {
+        theirs::ReplyKind::Ra => Ack::Restart,
+        theirs::ReplyKind::Pa => Ack::Planned,
+    };
+    Reply { ack, remaining }
+}
+
+fn freed(freed: theirs::Freed) -> Freed {
+    match freed {
+        theirs::Freed::Kept => Freed::Kept,
+        theirs::Freed::Stopped => Freed::Stopped,
+        theirs::Freed::Reinitialise => Freed::Reinitialise,
+    }
+}
+
+fn standing(up: Option<bool>) -> Standing {
+    match up {
+        None => Standing::None,
+        Some(false) => Standing::Init,
+        Some(true) => Standing::Up,
+    }
+}
+
+fn change(theirs::Change { level, system, before, after, advertised }: theirs::Change) -> Change {
+    let level = match level {
+        0 => None,
+        1 => Some(Level::One),
+        2 => Some(Level::Two),
+        n => panic!("level {n}"),
+    };
+    Change { level, system: isis_gr::SystemId(system), before: standing(before), after: standing(after), advertised }
+}
+
+fn received(got: theirs::Received) -> Received {
+    let theirs::Received { reply: written, csnps, timers: outcome, freed: t1, change: of } = got;
+    let csnps = csnps.map(levels).unwrap_or_default();
+    Received { reply: written.map(reply), csnps, freed: freed(t1), timers: timers(outcome), change: change(of) }
+}
+
+fn record(found: theirs::Record) -> Record {
+    let theirs::Record { up, expiry, mark, suppressed, priority, tlv, reverse } = found;
+    let mark = match mark {
+        theirs::Mark::Clear => Mark::Clear,
+        theirs::Mark::Restart => Mark::Restart,
+        theirs::Mark::Planned => Mark::Planned,
+    };
+    assert!(up || mark == Mark::Clear, "a mark on a record that is not UP");
+    let phase = if up { Phase::Up(mark) } else { Phase::Init };
+    let reverse = reverse.map(|theirs::Reverse { offset, whole, unreachable }| ReverseMetric { offset, whole_lan: whole, unreachable });
+    Record { phase, advertised: found.advertised(), expiry, suppressed, priority, tlv, reverse }
+}
+
+impl Side for Reference {
+    fn new(settings: &Settings) -> Result<(Reference, Circuits), Refusal> {
+        let (gateway, hellos) = theirs::Gateway::set_up(settings).map_err(refusal)?;
+        Ok((Reference(gateway), circuits(hellos)))
+    }
+
+    fn set_up(&mut self, settings: &Settings) -> Result<Circuits, Refusal> {
+        let (new, hellos) = Reference::new(settings)?;
+        *self = new;
+        Ok(hellos)
+    }
+
+    fn receive(&mut self, circuit: u8, source: Mac, frame: &[u8], reply: &mut [u8]) -> Result<Received, Refusal> {
+        self.0.receive(circuit, source, frame, reply).map(received).map_err(refusal)
+    }
+
+    fn tick(&mut self, clock: u32) -> Result<Ticked, Refusal> {
+        let theirs::Ticked { marks, hellos, timers: outcome } = self.0.tick(clock).map_err(refusal)?;
+        Ok(Ticked { lost: circuits(marks), hellos: circuits(hellos), timers: timers(outcome) })
+    }
+
+    fn release(&mut self, circuit: u8) -> Result<(), Refusal> {
+        self.0.release(circuit).map_err(refusal)
+    }
+
+    fn clear(&mut self, circuit: u8) -> Result<(), Refusal> {
+        self.0.clear(circuit).map_err(refusal)
+    }
+
+    fn csnp_complete(&mut self, circuit: u8, level: u8) -> Result<Timers, Refusal> {
+        self.0.csnp_complete(circuit, level).map(timers).map_err(refusal)
+    }
+
+    fn database_complete(&mut self, level: u8) -> Result<Timers, Refusal> {
+        self.0.database_complete(level).map(timers).map_err(refusal)
+    }
+
+    fn look_up_p2p(&self, circuit: u8, system: SystemId) -> Result<Option<Record>, Refusal> {
+        self.look_up_lan(circuit, NO_LEVEL, system, [0; 6])
+    }
+
+    fn look_up_lan(&self, circuit: u8, level: u8, system: SystemId, mac: Mac) -> Result<Option<Record>, Refusal> {
+        self.0.look_up(circuit, level, system, mac).map(|found| found.map(record)).map_err(refusal)
+    }
+
+    fn link_metric(&self, circuit: u8) -> Result<u32, Refusal> {
+        self.0.link_metric(circuit).map_err(refusal)
+    }
+
+    fn next_hello_flags(&self, circuit: u8) -> Result<Flags, Refusal> {
+        match self.0.next_hello_flags(circuit).map_err(refusal)? {
+            0 => Ok(Flags::default()),
+            1 => Ok(Flags::RR),
+            octet => panic!("flags {octet}"),
+        }
+    }
+
+    fn waiting(&self) -> Waiting {
+        let (count, lowest) = self.0.waiting();
+        Waiting { count, lowest: lowest.map(|number| Circuit::new(number).expect("1 to 8")) }
+    }
+}

@@ -1,0 +1,94 @@
+//! One trait for both sides, the wrapper of the archive and the reference, and a call made on either.
+//!
+//! Arguments are plain numbers, so that circuits and levels that do not exist can be named. Answers are the wrapper's types: what is compared is what
+//! the wrapper read from the archive's words. Settings are the reference's, whose fields a test can read and spoil.
+use crate::calls::Call;
+use isis_gr::{Circuits, Flags, Received, Record, Refusal, Ticked, Timers, Waiting};
+use isis_gr_reference::{Mac, Settings, SystemId};
+
+/// What a reply buffer holds before a call.
+pub const UNTOUCHED: u8 = 0xEE;
+
+/// A gateway of one of the two sides.
+pub trait Side: Sized {
+    /// A gateway that is set up, and the circuits on which a hello is ordered.
+    fn new(settings: &Settings) -> Result<(Self, Circuits), Refusal>;
+    /// Setup over whatever stood there.
+    fn set_up(&mut self, settings: &Settings) -> Result<Circuits, Refusal>;
+    /// Receive.
+    fn receive(&mut self, circuit: u8, source: Mac, frame: &[u8], reply: &mut [u8]) -> Result<Received, Refusal>;
+    /// Tick.
+    fn tick(&mut self, clock: u32) -> Result<Ticked, Refusal>;
+    /// Release.
+    fn release(&mut self, circuit: u8) -> Result<(), Refusal>;
+    /// Clear.
+    fn clear(&mut self, circuit: u8) -> Result<(), Refusal>;
+    /// CSNP set complete.
+    fn csnp_complete(&mut self, circuit: u8, level: u8) -> Result<Timers, Refusal>;
+    /// Database complete.
+    fn database_complete(&mut self, level: u8) -> Result<Timers, Refusal>;
+    /// Look up on a P2P circuit.
+    fn look_up_p2p(&self, circuit: u8, system: SystemId) -> Result<Option<Record>, Refusal>;
+    /// Look up on a LAN circuit.
+    fn look_up_lan(&self, circuit: u8, level: u8, system: SystemId, mac: Mac) -> Result<Option<Record>, Refusal>;
+    /// Link metric.
+    fn link_metric(&self, circuit: u8) -> Result<u32, Refusal>;
+    /// Flags of the next hello.
+    fn next_hello_flags(&self, circuit: u8) -> Result<Flags, Refusal>;
+    /// Circuits that wait for T1.
+    fn waiting(&self) -> Waiting;
+}
+
+/// What a call that was not refused answers.
+#[derive(Clone, Copy, Debug, PartialEq, Eq)]
+pub enum Answer {
+    /// To receive.
+    Received(Received),
+    /// To tick.
+    Ticked(Ticked),
+    /// To release and clear.
+    Done,
+    /// To the two notices.
+    Timers(Timers),
+    /// To the two look-ups.
+    Record(Option<Record>),
+    /// To link metric.
+    Metric(u32),
+    /// To flags of the next hello.
+    Flags(Flags),
+    /// To circuits that wait for T1.
+    Waiting(Waiting),
+}
+
+/// What a call came to.
+#[derive(Clone, Debug, PartialEq, Eq)]
+pub struct Outcome {
+    /// Its answer, or why it was refused.
+    pub answer: Result<Answer, Refusal>,
+    /// The reply buffer after it; empty where the call has none.
+    pub reply: Vec<u8>,
+}
+
+impl Call {
+    /// The call on a side.
+    pub fn on(&self, side: &mut impl Side) -> Outcome {
+        let mut reply = Vec::new();
+        let answer = match *self {
+            Call::Receive(n, source, ref frame, room, _) => {
+                reply = vec![UNTOUCHED; room];
+                side.receive(n, source, frame, &mut reply).map(Answer::Received)
+            }
+            Call::Tick(clock) => side.tick(clock).map(Answer::Ticked),
+            Call::Release(n) => side.release(n).map(|()| Answer::Done),
+            Call::Clear(n) => side.clear(n).map(|()| Answer::Done),
+            Call::Csnp(n, level) => side.csnp_complete(n, level).map(Answer::Timers),
+            Call::Database(level) => side.database_complete(level).map(Answer::Timers),
+            Call::LookUpP2p(n, system) => side.look_up_p2p(n, system).map(Answer::Record),
+            Call::LookUpLan(n, level, system, mac) => side.look_up_lan(n, level, system, mac).map(Answer::Record),
+            Call::Metric(n) => side.link_metric(n).map(Answer::Metric),
+            Call::Flags(n) => side.next_hello_flags(n).map(Answer::Flags),
+            Call::Waiting => Ok(Answer::Waiting(side.waiting())),
+        };
+        Outcome { answer, reply }
+    }
+}

@@ -1,0 +1,172 @@
+//! The archive's words as they are, apart from the wrapper's reading of them: what include/isis_gr.h says of every word is checked on random calls. A refusal
+//! tells nothing but its number and changes no word; a call that asks changes none either; a number is one that the header knows; bits without
+//! a meaning are 0; what is not told is not written.
+use crate::calls::{call, settings, Call, Now};
+use crate::proved::Proved;
+use crate::random::Random;
+use crate::side::{Side, UNTOUCHED};
+use isis_gr_reference::Mode;
+use isis_gr_sys::*;
+
+/// A gateway's words.
+pub type Words = [u64; GATEWAY_WORDS];
+
+/// What a record's words hold before a look-up.
+const BLANK: u64 = 0xEEEE_EEEE_EEEE_EEEE;
+
+/// What a call told.
+#[derive(Clone, Debug, PartialEq, Eq)]
+pub struct Told {
+    /// The word of its answer.
+    pub answer: u64,
+    /// The second word of a frame's answer.
+    pub change: u64,
+    /// The words of a look-up's record.
+    pub record: [u64; 2],
+    /// The reply buffer.
+    pub reply: Vec<u8>,
+}
+
+impl Told {
+    /// 0, or the number of a refusal.
+    pub fn code(&self) -> u32 {
+        (self.answer & 0xFF) as u32
+    }
+
+    /// So many bits of the answer, from a place on.
+    fn bits(&self, at: u32, count: u32) -> u64 {
+        bits(self.answer, at, count)
+    }
+}
+
+fn bits(word: u64, at: u32, count: u32) -> u64 {
+    word >> at & (u64::MAX >> (64 - count))
+}
+
+/// The archive's function of a call, with its words checked.
+pub fn tell(words: &mut Words, call: &Call) -> Told {
+    let before = *words;
+    let told = ask(words, call);
+    let asks = matches!(call, Call::LookUpP2p(..) | Call::LookUpLan(..) | Call::Metric(_) | Call::Flags(_) | Call::Waiting);
+    assert!(*words == before || !(asks || told.code() != 0), "a refusal or a question changed the memory");
+    if told.code() == 0 {
+        check(call, &told);
+    } else {
+        assert!((1..=11).contains(&told.code()), "an unknown code");
+        assert_eq!((told.answer >> 8, told.change, told.record), (0, 0, [BLANK; 2]), "a refusal tells nothing else");
+        assert!(is_untouched(&told.reply), "a refusal wrote the reply");
+    }
+    told
+}
+
+fn ask(words: &mut Words, call: &Call) -> Told {
+    let gateway = words.as_mut_ptr();
+    let mut told = Told { answer: 0, change: 0, record: [BLANK; 2], reply: Vec::new() };
+    let record = told.record.as_mut_ptr();
+    // SAFETY: the gateway's pointer is valid for its words, and each other one for the length beside it or the size that the archive reads or
+    // writes; no two of one call overlap.
+    told.answer = unsafe {
+        match *call {
+            Call::Receive(n, source, ref frame, room, _) => {
+                told.reply = vec![UNTOUCHED; room];
+                let reply = told.reply.as_mut_ptr();
+                let got = isis_gr_raw_receive(gateway, n, source.as_ptr(), frame.as_ptr(), frame.len(), reply, room);
+                told.change = got.change;
+                got.answer
+            }
+            Call::Tick(clock) => isis_gr_raw_tick(gateway, clock),
+            Call::Release(n) => u64::from(isis_gr_raw_release(gateway, n)),
+            Call::Clear(n) => u64::from(isis_gr_raw_clear(gateway, n)),
+            Call::Csnp(n, level) => isis_gr_raw_csnp_complete(gateway, n, level),
+            Call::Database(level) => isis_gr_raw_database_complete(gateway, level),
+            Call::LookUpP2p(n, system) => u64::from(isis_gr_raw_look_up(gateway, n, 0, system.as_ptr(), [0; 6].as_ptr(), record)),
+            Call::LookUpLan(n, level, system, mac) => {
+                u64::from(isis_gr_raw_look_up(gateway, n, level, system.as_ptr(), mac.as_ptr(), record))
+            }
+            Call::Metric(n) => isis_gr_raw_link_metric(gateway, n),
+            Call::Flags(n) => u64::from(isis_gr_raw_next_hello_flags(gateway, n)),
+            Call::Waiting => u64::from(isis_gr_raw_waiting(gateway)),
+        }
+    };
+    told
+}
+
+fn is_untouched(octets: &[u8]) -> bool {
+    octets.iter().all(|octet| *octet == UNTOUCHED)
+}
+
+/// What the header says of the words of a call that was done.
+fn check(call: &Call, told: &Told) {
+    let unused: &[(u32, u32)] = match call {
+        Call::Receive(..) => {
+            check_received(told);
+            &[(18, 6), (38, 2), (56, 8)]
+        }
+        Call::Tick(_) => &[(24, 8), (38, 26)],
+        Call::Release(_) | Call::Clear(_) => &[(8, 56)],
+        Call::Csnp(..) | Call::Database(_) => &[(8, 24), (38, 26)],
+        Call::LookUpP2p(..) | Call::LookUpLan(..) => {
+            check_record(told);
+            &[(17, 47)]
+        }
+        Call::Metric(_) => &[(8, 24)],
+        Call::Flags(_) => &[(9, 55)],
+        Call::Waiting => {
+            let (count, lowest) = (told.bits(8, 8), told.bits(16, 8));
+            assert!(count <= CIRCUITS as u64 && lowest <= CIRCUITS as u64 && (count == 0) == (lowest == 0));
+            &[(24, 40)]
+        }
+    };
+    if matches!(call, Call::Receive(..) | Call::Tick(_) | Call::Csnp(..) | Call::Database(_)) {
+        assert!(told.bits(32, 2) < 3, "the restart");
+        assert!(told.bits(32, 2) != 0 || told.bits(34, 4) == 0, "orders of timers that do not run");
+    }
+    for (at, count) in unused {
+        assert_eq!(told.bits(*at, *count), 0, "bits from {at} of {call:02x?}: {:016x}", told.answer);
+    }
+}
+
+fn check_received(Told { answer, change, reply, .. }: &Told) {
+    let (flags, remaining) = (bits(*answer, 8, 8) as u8, bits(*answer, 40, 16) as u16);
+    assert!([0, 2, 16].contains(&flags), "the reply's flags");
+    assert!(bits(*answer, 24, 8) < 3, "the end of T1");
+    let (written, rest) = reply.split_at(if flags == 0 { 0 } else { 11 });
+    assert!(is_untouched(rest), "octets that are no reply were written");
+    if flags == 0 {
+        assert_eq!(remaining, 0, "a Remaining Time of no reply");
+    } else {
+        let [_, _, system @ ..] = change.to_be_bytes();
+        assert_eq!(written, [&[211, 9, flags][..], &remaining.to_be_bytes(), &system].concat(), "the reply is what the answer says of it");
+    }
+    let (level, before, after, advertised) = (bits(*change, 48, 2), bits(*change, 50, 2), bits(*change, 52, 2), bits(*change, 54, 1));
+    assert!(level < 3 && before < 3 && after < 3 && bits(*change, 55, 9) == 0, "{change:016x}");
+    assert!(before == 0 || after != 0, "a frame removes no record");
+    assert!(advertised == 0 || after == 2, "advertised: UP");
+}
+
+fn check_record(told: &Told) {
+    let [_, small] = told.record;
+    let (state, advertised) = (told.bits(8, 8), told.bits(16, 1));
+    if state == 0 {
+        assert_eq!((told.record, advertised), ([BLANK; 2], 0), "nothing found, and the record was written");
+        return;
+    }
+    let (mark, suppressed) = (bits(small, 0, 2), bits(small, 2, 1));
+    assert!(state < 3 && mark < 3, "the state and its mark");
+    assert!(state == 2 || mark == 0, "a mark on a record that is not UP");
+    assert_eq!(advertised, u64::from(state == 2 && suppressed == 0), "advertised: UP and not Suppressed");
+    assert_eq!((bits(small, 7, 1), bits(small, 16, 16)), (0, 0), "bits of the record without a meaning");
+}
+
+/// A run of `calls` random calls from a seed, by their words alone.
+pub fn run(seed: u64, calls: u64) {
+    let mut r = Random::new(seed ^ 0xB175);
+    let mode = if r.chance(50) { Mode::Running } else { Mode::Restarting };
+    let s = settings(&mut r, mode);
+    let (proved, _) = Proved::new(&s).expect("in range");
+    let mut words = *proved.words();
+    let mut now = Now(s.clock);
+    for _ in 0..calls {
+        tell(&mut words, &call(&mut r, &s, &mut now));
+    }
+}

@@ -1,0 +1,60 @@
+//! A gateway is memory of its owner's: before set-up, in a `static`, and after a refused set-up.
+use isis_gr::{Circuit, CircuitSettings, Gateway, Kind, Level, Levels, Mac, Mode, Refusal, Settings, SystemId, Timers, REPLY_OCTETS};
+use std::sync::Mutex;
+
+static GATEWAY: Mutex<Gateway> = Mutex::new(Gateway::new());
+
+fn first() -> Circuit {
+    Circuit::new(1).expect("1 to 8")
+}
+
+fn settings(mode: Mode) -> Settings {
+    Settings::new(SystemId([1; 6]), mode, 100).circuit(CircuitSettings::new(Kind::Lan, Levels::BOTH, Mac([2; 6])))
+}
+
+#[test]
+fn memory_that_is_not_set_up_holds_no_circuit() {
+    for mut gateway in [Gateway::new(), Gateway::default(), Gateway::from_words([u64::MAX; Gateway::WORDS])] {
+        let before = gateway.clone();
+        let mut reply = [0; REPLY_OCTETS];
+        assert_eq!(gateway.receive(first(), Mac([2; 6]), &[], &mut reply), Err(Refusal::NoCircuit));
+        assert_eq!(gateway.release(first()), Err(Refusal::NoCircuit));
+        assert_eq!(gateway.clear(first()), Err(Refusal::NoCircuit));
+        assert_eq!(gateway.csnp_complete(first(), Level::One), Err(Refusal::NoCircuit));
+        assert_eq!(gateway.database_complete(Level::One), Err(Refusal::NoCircuit));
+        assert_eq!(gateway.link_metric(first()), Err(Refusal::NoCircuit));
+        assert_eq!(gateway.waiting().count, 0);
+        let tick = gateway.tick(7).expect("a tick is done");
+        assert!(tick.lost.is_empty() && tick.hellos.is_empty() && tick.timers == Timers::Idle);
+        assert_eq!(gateway.words(), before.words());
+    }
+}
+
+#[test]
+fn a_static_gateway_is_set_up_in_place() {
+    let mut gateway = GATEWAY.lock().expect("one test");
+    assert!(gateway.set_up(&settings(Mode::Restarting)).expect("in range").contains(first()));
+    assert_eq!(gateway.waiting().lowest, Some(first()));
+    // and again: what it was does not count
+    assert!(gateway.set_up(&settings(Mode::Running)).expect("in range").is_empty());
+    assert_eq!(gateway.waiting().count, 0);
+}
+
+#[test]
+fn setup_does_not_depend_on_what_the_memory_was() {
+    let mut fresh = Gateway::new();
+    fresh.set_up(&settings(Mode::Restarting)).expect("in range");
+    let mut used = Gateway::from_words([0x0101_0101_0101_0101; Gateway::WORDS]);
+    used.set_up(&settings(Mode::Restarting)).expect("in range");
+    assert_eq!(fresh.waiting(), used.waiting());
+    assert_eq!(fresh.tick(103), used.tick(103));
+}
+
+#[test]
+fn a_refused_setup_leaves_the_memory_as_it_was() {
+    let mut gateway = Gateway::new();
+    gateway.set_up(&settings(Mode::Restarting)).expect("in range");
+    let before = gateway.clone();
+    assert!(gateway.set_up(&settings(Mode::Running).t1(0)).is_err());
+    assert_eq!(gateway.words(), before.words());
+}

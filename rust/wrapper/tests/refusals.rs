@@ -1,0 +1,132 @@
+//! The refusals: the one table against the C header's, and each number from the call that gives it.
+mod common;
+use common::*;
+use isis_gr::{Gateway, Level, Mac, Mode, Refusal, REPLY_OCTETS};
+
+const HEADER: &str = include_str!("../../../include/isis_gr.h");
+
+/// The texts of `isis_gr_text`, by number from 0.
+fn header_texts() -> Vec<&'static str> {
+    let (_, rest) = HEADER.split_once("texts[13] = {").expect("the header has the texts");
+    let (inside, _) = rest.split_once("};").expect("they end");
+    inside.lines().filter_map(|line| line.trim().strip_prefix('"')?.strip_suffix("\",")).collect()
+}
+
+/// A name as C has it: NO_CIRCUIT of NoCircuit.
+fn in_c(name: &str) -> String {
+    let words = name.char_indices().map(|(at, c)| if at > 0 && c.is_uppercase() { format!("_{c}") } else { c.to_string() });
+    words.collect::<String>().to_uppercase()
+}
+
+#[test]
+fn the_table_is_the_headers() {
+    let texts = header_texts();
+    assert_eq!((texts.len(), texts[0]), (Refusal::ALL.len() + 1, "done"));
+    for (number, refusal) in (1..).zip(Refusal::ALL) {
+        assert_eq!(refusal.number(), number);
+        assert_eq!(refusal.text(), texts[number as usize]);
+        let line = format!("#define ISIS_GR_REFUSED_{} {number}u", in_c(refusal.name()));
+        assert!(HEADER.lines().any(|found| found.starts_with(&line)), "{line}");
+        assert_eq!(format!("{refusal:?}"), refusal.name());
+        assert_eq!(refusal.to_string(), format!("{number} ({})", refusal.text()));
+    }
+}
+
+#[test]
+fn a_number_finds_its_refusal_and_no_other_number_does() {
+    for refusal in Refusal::ALL {
+        assert_eq!(Refusal::of_number(refusal.number()), Some(*refusal));
+    }
+    for number in [0, 13, 255, 256, u32::MAX] {
+        assert_eq!(Refusal::of_number(number), None);
+    }
+}
+
+/// The number and the text of what a call was refused with; the gateway is as it was.
+fn refused<T: std::fmt::Debug>(gateway: &mut Gateway, call: impl FnOnce(&mut Gateway) -> Result<T, Refusal>) -> (u32, &'static str) {
+    let before = gateway.clone();
+    let why = call(gateway).expect_err("refused");
+    assert_eq!(gateway.words(), before.words(), "{why}");
+    (why.number(), why.text())
+}
+
+#[test]
+fn no_1_of_every_call_that_names_a_circuit_or_a_level() {
+    let told = (1, "no circuit of that number, or a level not enabled there");
+    let mut g = gateway(Mode::Restarting);
+    for absent in [circuit(3), circuit(8)] {
+        assert_eq!(refused(&mut g, |g| receive(g, absent, &[])), told);
+        assert_eq!(refused(&mut g, |g| g.release(absent)), told);
+        assert_eq!(refused(&mut g, |g| g.clear(absent)), told);
+        assert_eq!(refused(&mut g, |g| g.csnp_complete(absent, Level::One)), told);
+        assert_eq!(refused(&mut g, |g| g.look_up_p2p(absent, router(2))), told);
+        assert_eq!(refused(&mut g, |g| g.look_up_lan(absent, Level::Two, router(2), PEER_MAC)), told);
+        assert_eq!(refused(&mut g, |g| g.link_metric(absent)), told);
+        assert_eq!(refused(&mut g, |g| g.next_hello_flags(absent)), told);
+    }
+    assert_eq!(refused(&mut g, |g| g.csnp_complete(LAN, Level::One)), told);
+    assert_eq!(refused(&mut Gateway::new(), |g| g.database_complete(Level::One)), told);
+}
+
+#[test]
+fn no_2_for_want_of_eleven_octets() {
+    let mut g = gateway(Mode::Running);
+    let short = |g: &mut Gateway| g.receive(P2P, PEER_MAC, &p2p_hello(DOWN, 0), &mut [0; REPLY_OCTETS - 1]);
+    assert_eq!(refused(&mut g, short), (2, "reply buffer under 11 octets"));
+}
+
+#[test]
+fn no_3_to_8_by_the_frame() {
+    let mut g = gateway(Mode::Running);
+    let plain = p2p_hello(DOWN, 0);
+    let edited = |at: usize, octet: u8| {
+        let mut frame = plain.clone();
+        frame[at] = octet;
+        frame
+    };
+    let whole = [&[UP, 0, 0, 0, 9][..], &router(1).0, &99u32.to_be_bytes()].concat();
+    for (frame, number, text) in [
+        (b"no hello".to_vec(), 3, "not a hello that fits the circuit"),
+        (lan_hello(2, true), 3, "not a hello that fits the circuit"),
+        (edited(18, plain[18] + 1), 4, "header length or PDU Length wrong"),
+        (edited(21, 200), 5, "a TLV passes the PDU Length"),
+        (edited(8, 0), 6, "a TLV breaks its rule, or the circuit type is 0"),
+        (p2p_hello(3, 0), 6, "a TLV breaks its rule, or the circuit type is 0"),
+        (frame(17, router(1), &[tlv(240, &[DOWN])]), 7, "level not enabled, or our own System ID"),
+        (frame(17, router(2), &[tlv(240, &whole)]), 8, "the three-way TLV names another system or circuit"),
+    ] {
+        assert_eq!(refused(&mut g, |g| receive(g, P2P, &frame)), (number, text));
+    }
+    let level_1 = frame(15, router(2), &[]);
+    assert_eq!(refused(&mut g, |g| receive(g, LAN, &level_1)), (7, "level not enabled, or our own System ID"));
+}
+
+#[test]
+fn no_9_where_the_room_is_full() {
+    let mut g = gateway(Mode::Running);
+    receive(&mut g, P2P, &p2p_hello(DOWN, 0)).expect("one record");
+    let other = frame(17, router(3), &[tlv(240, &[DOWN])]);
+    assert_eq!(refused(&mut g, |g| receive(g, P2P, &other)), (9, "the circuit's room is full"));
+    for number in 2..18 {
+        receive(&mut g, LAN, &lan_hello(number, true)).expect("16 records");
+    }
+    let one_more = |g: &mut Gateway| g.receive(LAN, Mac([2, 0, 0, 0, 0, 3]), &lan_hello(2, true), &mut [0; REPLY_OCTETS]);
+    assert_eq!(refused(&mut g, one_more), (9, "the circuit's room is full"));
+}
+
+#[test]
+fn no_10_and_11_by_clock_and_mode() {
+    let mut g = gateway(Mode::Running);
+    assert_eq!(refused(&mut g, |g| g.tick(99)), (10, "clock lower than before"));
+    assert!(g.tick(100).is_ok(), "an equal clock is a tick");
+    let told = (11, "a notice outside the mode Restarting");
+    assert_eq!(refused(&mut g, |g| g.csnp_complete(P2P, Level::One)), told);
+    assert_eq!(refused(&mut g, |g| g.database_complete(Level::Two)), told);
+}
+
+#[test]
+fn no_12_is_the_number_of_a_setting_out_of_range() {
+    let mut g = gateway(Mode::Running);
+    let bad = settings(Mode::Running).t2(0);
+    assert_eq!(refused(&mut g, |g| g.set_up(&bad).map_err(Refusal::from)), (12, "a setting out of range"));
+}
