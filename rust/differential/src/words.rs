@@ -158,6 +158,17 @@ fn check_record(told: &Told) {
     assert_eq!((bits(small, 7, 1), bits(small, 16, 16)), (0, 0), "bits of the record without a meaning");
 }
 
+/// A set-up with octets of no meaning, over whatever the memory is.
+fn set_up(words: &mut Words, octets: &[u8; SETTINGS_OCTETS]) {
+    let before = *words;
+    // SAFETY: both pointers are valid for the sizes that the archive reads and writes, and do not overlap.
+    let word = unsafe { isis_gr_raw_set_up(words.as_mut_ptr(), octets.as_ptr()) };
+    match word & 0xFF {
+        0 => assert_eq!(word >> 16, 0, "bits without a meaning"),
+        _ => assert!(word == 12 && *words == before, "a refused set-up tells nothing else, and changes nothing"),
+    }
+}
+
 /// A run of `calls` random calls from a seed, by their words alone.
 pub fn run(seed: u64, calls: u64) {
     let mut r = Random::new(seed ^ 0xB175);
@@ -165,6 +176,9 @@ pub fn run(seed: u64, calls: u64) {
     let s = settings(&mut r, mode);
     let (proved, _) = Proved::new(&s).expect("in range");
     let mut words = *proved.words();
+    for _ in 0..8 {
+        set_up(&mut words.clone(), &std::array::from_fn(|_| r.octet()));
+    }
     let mut now = Now(s.clock);
     for _ in 0..calls {
         tell(&mut words, &call(&mut r, &s, &mut now));

@@ -36,7 +36,8 @@ impl Gateway {
         Gateway::from_words([0; Gateway::WORDS])
     }
 
-    /// Memory with these words, such as another gateway's. Any words will do: unless a gateway was set up in them, they hold no circuit.
+    /// Memory with these words, such as another gateway's. Any words are a gateway to the archive, and safe; those that no set-up wrote are
+    /// one that nobody meant.
     pub const fn from_words(words: [u64; Gateway::WORDS]) -> Gateway {
         Gateway { words }
     }
@@ -64,8 +65,8 @@ impl Gateway {
         }
     }
 
-    /// Takes one hello frame from a source MAC. A reply, where one is due, is the first 11 octets of `reply`; else the buffer is untouched.
-    /// Refused 1 to 9.
+    /// Takes one hello frame from a source MAC, from the frame's first octet, 0x83, on (after the LLC's FE FE 03; padding behind the PDU may be
+    /// lent too). A reply, where one is due, is the first 11 octets of `reply`; else the buffer is untouched. Refused 1 to 9.
     pub fn receive(&mut self, circuit: Circuit, from: Mac, frame: &[u8], reply: &mut [u8]) -> Result<Received, Refusal> {
         let words = ffi::receive(&mut self.words, circuit.number(), &from.0, frame, reply);
         Refusal::unless(words.answer, Received::of_words(words.answer, words.change))
