@@ -209,7 +209,7 @@ uint32_t isis_gr_raw_look_up(const uint64_t *gateway, uint8_t circuit, uint8_t l
                              uint64_t *record);
 uint64_t isis_gr_raw_link_metric(const uint64_t *gateway, uint8_t circuit);
 uint32_t isis_gr_raw_next_hello_flags(const uint64_t *gateway, uint8_t circuit);
-uint32_t isis_gr_raw_waiting(const uint64_t *gateway);
+uint32_t isis_gr_raw_waiting_circuits(const uint64_t *gateway);
 
 /* ---- packing */
 
@@ -407,7 +407,7 @@ static inline isis_gr_flags isis_gr_next_hello_flags(const isis_gr_gateway *gate
 
 /* How many circuits still wait for T1, and the lowest of them. Changes nothing. */
 static inline isis_gr_waiting isis_gr_waiting_circuits(const isis_gr_gateway *gateway) {
-    uint32_t word = isis_gr_raw_waiting(gateway->words);
+    uint32_t word = isis_gr_raw_waiting_circuits(gateway->words);
     isis_gr_waiting w;
     w.count = word >> 8 & 255u;
     w.lowest = (uint8_t)(word >> 16);

@@ -80,7 +80,7 @@ static void run_flags(void) {
 
 static void run_waiting(void) {
     at_call = __builtin_frame_address(0);
-    answer = isis_gr_raw_waiting(g.words);
+    answer = isis_gr_raw_waiting_circuits(g.words);
 }
 
 /* the same without the call */

@@ -169,7 +169,7 @@ pub extern "C" fn isis_gr_raw_next_hello_flags(gateway: &[u64; GATEWAY_WORDS], c
 
 // How many circuits wait for T1, and the lowest.
 #[no_mangle]
-pub extern "C" fn isis_gr_raw_waiting(gateway: &[u64; GATEWAY_WORDS]) -> u32
+pub extern "C" fn isis_gr_raw_waiting_circuits(gateway: &[u64; GATEWAY_WORDS]) -> u32
     ensures { λ r. ⌜ Encodes r (step (gatewayOf (now (gateway .entry))) (Over Waiting)) (now (gateway .entry)) (now (gateway .entry)) [] ⌝ }
 {
     waiting_word(waiting_circuits(gateway))

@@ -85,7 +85,7 @@ fn ask(words: &mut Words, call: &Call) -> Told {
             }
             Call::Metric(n) => isis_gr_raw_link_metric(gateway, n),
             Call::Flags(n) => u64::from(isis_gr_raw_next_hello_flags(gateway, n)),
-            Call::Waiting => u64::from(isis_gr_raw_waiting(gateway)),
+            Call::Waiting => u64::from(isis_gr_raw_waiting_circuits(gateway)),
         }
     };
     told
@@ -162,7 +162,7 @@ fn check_record(told: &Told) {
 fn set_up(words: &mut Words, octets: &[u8; SETTINGS_OCTETS]) {
     let before = *words;
     // SAFETY: both pointers are valid for the sizes that the archive reads and writes, and do not overlap.
-    let word = unsafe { isis_gr_raw_set_up(words.as_mut_ptr(), octets.as_ptr()) };
+    let word = unsafe { isis_gr_raw_set_up(LAYOUT, words.as_mut_ptr(), octets.as_ptr()) };
     match word & 0xFF {
         0 => assert_eq!(word >> 16, 0, "bits without a meaning"),
         _ => assert!(word == 12 && *words == before, "a refused set-up tells nothing else, and changes nothing"),

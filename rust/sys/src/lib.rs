@@ -50,5 +50,5 @@ extern "C" {
     /// The flags of the next hello on a circuit.
     pub fn isis_gr_raw_next_hello_flags(gateway: *const u64, circuit: u8) -> u32;
     /// The circuits that still wait for T1.
-    pub fn isis_gr_raw_waiting(gateway: *const u64) -> u32;
+    pub fn isis_gr_raw_waiting_circuits(gateway: *const u64) -> u32;
 }

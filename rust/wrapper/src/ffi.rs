@@ -64,5 +64,5 @@ pub(crate) fn next_hello_flags(words: &Words, circuit: u8) -> u32 {
 
 pub(crate) fn waiting(words: &Words) -> u32 {
     // SAFETY: the reference is valid for the words of a gateway.
-    unsafe { raw::isis_gr_raw_waiting(words.as_ptr()) }
+    unsafe { raw::isis_gr_raw_waiting_circuits(words.as_ptr()) }
 }
