@@ -1,3 +1,25 @@
+// C8: the Restart TLV's lengths. C13: the PDU Length and the lent octets.
+use crate::frames::SOURCE;
+use crate::frames::filled;
+use crate::frames::restart;
+use crate::frames::start;
+use crate::show::cell;
+use crate::show::text;
+use crate::show::verdict;
+use basics::kind::CircuitKind;
+use gateway::calls::GATEWAY_WORDS;
+use gateway::calls::receive;
+use settings::mode::Mode;
+
+fn row(gateway: &mut [u64; GATEWAY_WORDS], name: &[u8], what: &[u8], frame: &[u8]) {
+    let mut reply = [0u8; 11];
+    cell(name, 5);
+    cell(what, 43);
+    let r = receive(gateway, 1, &SOURCE, frame, &mut reply);
+    verdict(r);
+    text(b"\n");
+}
+
 // A Restart TLV of a length, with flags.
 fn restart_row(gateway: &mut [u64; GATEWAY_WORDS], what: &[u8], length: u8, flags: u8) {
     row(gateway, b"C8", what, &restart(0, length, flags, 0));
