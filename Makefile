@@ -23,7 +23,8 @@ boundary: archive
 	@$(MAKE) -s c
 	@cd rust && cargo test --offline --release --quiet
 
-# the C side, on the archive as it stands: the tests (every_field as C99, C11 and C++17), the examples, and the seeds of the fuzzing
+# the C side, on the archive as it stands: the tests (every_field as C99, C11 and C++17), the examples (the daemon is not run), and the seeds of the
+# fuzzing
 WARN = -O1 -Wall -Wextra -Werror -Iinclude -Iexamples
 LINK = -Ltarget/staticlib -lisis_gr
 c:
@@ -39,6 +40,7 @@ c:
 		$(CC) -std=c99 -pedantic $(WARN) examples/$$name.c $(LINK) -o target/c/$$name && target/c/$$name | diff - examples/$$name.out \
 			&& echo "examples/$$name.c: printed examples/$$name.out" || exit 1; \
 	done
+	@$(CC) -std=c99 -pedantic $(WARN) examples/daemon.c $(LINK) -o target/c/daemon
 	@$(CC) -std=c99 -pedantic $(WARN) tests/fuzz/receive.c tests/fuzz/replay.c $(LINK) -o target/c/replay
 	@tools/fuzz_seeds target/seeds && target/c/replay $$(find target/seeds tests/fuzz/cases -type f 2>/dev/null)
 
@@ -60,6 +62,10 @@ fuzz: archive
 	@mkdir -p target/c && tools/fuzz_seeds target/corpus
 	@clang -g -O1 -fsanitize=fuzzer,address -Wall -Wextra -Werror -Iinclude tests/fuzz/receive.c -Ltarget/staticlib -lisis_gr -o target/c/fuzz_receive
 	@target/c/fuzz_receive -max_total_time=$(FUZZ_SECONDS) -max_len=4096 target/corpus
+
+# examples/daemon.c against FRR and against itself, in network namespaces of its own; as root, with Debian's frr and tshark
+live: archive
+	@$(MAKE) -s c && tools/live
 
 # the Rattle kit that the proofs were made with
 kit:

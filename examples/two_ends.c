@@ -74,16 +74,12 @@ static uint8_t shown_state(const end *e, uint8_t flags) {
     return flags & HELLO_RR ? HELLO_INITIALIZING : shown[isis_gr_look_up(&e->g, CIRCUIT, 0, e->peer, NULL).state];
 }
 
-/* A hello with the Restart TLV of a reply, or without one (reply is NULL) with the flags that the library gives, or PR while we plan. */
-static void send_hello(end *e, const uint8_t *reply) {
+/* A hello with the Restart TLV of a reply, or (reply is NULL) with these flags. */
+static void send_hello(end *e, uint8_t flags, const uint8_t *reply) {
     static const char *const states[3] = {"Up", "Initializing", "Down"};
-    uint8_t flags = reply ? reply[2] : isis_gr_next_hello_flags(&e->g, CIRCUIT).flags;
     uint8_t state = shown_state(e, flags);
     message *m = message_to(e->other);
     hello h;
-    if (flags == 0 && e->planning) {
-        flags = HELLO_PR;
-    }
     hello_p2p(&h, m->octets, sizeof m->octets, ISIS_GR_LEVEL_BOTH, e->id, HOLD);
     hello_three_way(&h, state, e->circuit, e->heard ? e->peer : NULL, e->theirs);
     if (reply) {
@@ -94,6 +90,13 @@ static void send_hello(end *e, const uint8_t *reply) {
     m->length = hello_end(&h);
     say(e, "sends a hello: %s%s%s%s%s", states[state], flags & HELLO_RR ? ", RR" : "", flags & HELLO_RA ? ", RA" : "",
         flags & HELLO_PR ? ", PR" : "", flags & HELLO_PA ? ", PA" : "");
+}
+
+/* An ordinary hello, which has PR while we plan a restart (RFC 8706, 3.2.3); there is none while T1 runs (RFC 8706, 3.3.1). */
+static void send_ordinary(end *e) {
+    if (isis_gr_next_hello_flags(&e->g, CIRCUIT).flags == 0) {
+        send_hello(e, e->planning ? HELLO_PR : 0, NULL);
+    }
 }
 
 static void send_csnps(end *e, uint8_t levels) {
@@ -133,7 +136,7 @@ static void carry_out(end *e, isis_gr_timers timers) {
     if (timers.restart == ISIS_GR_RESTART_ENDED) {
         say(e, "has restarted: updates its forwarding tables, sends its LSPs");
         e->restarting = 0;
-        send_hello(e, NULL);
+        send_ordinary(e);
     }
 }
 
@@ -152,9 +155,9 @@ static void hello_came(end *e, const uint8_t *source, const uint8_t *frame, size
     }
     if (r.reply != ISIS_GR_REPLY_NONE) {
         say(e, "replies %s, Remaining Time %u", r.reply == ISIS_GR_REPLY_RA ? "RA" : "PA", r.remaining);
-        send_hello(e, reply);
-    } else if (r.before != r.after && isis_gr_next_hello_flags(&e->g, CIRCUIT).flags == 0) {
-        send_hello(e, NULL);
+        send_hello(e, r.reply, reply);
+    } else if (r.before != r.after) {
+        send_ordinary(e);
     }
     if (r.csnps) {
         send_csnps(e, r.csnps); /* and sets the SRM flags */
@@ -200,14 +203,14 @@ static void second(end *e) {
         say(e, "lost its neighbour");
     }
     if (t.hellos) {
-        send_hello(e, NULL);
+        send_hello(e, HELLO_RR, NULL); /* with RR, whatever next_hello_flags says by now */
     }
     carry_out(e, t.timers);
     if (e->wanted && now > e->asked && isis_gr_waiting_circuits(&e->g).count == 0) {
         databases_complete(e);
     }
-    if (now % EACH == 0 && isis_gr_next_hello_flags(&e->g, CIRCUIT).flags == 0) {
-        send_hello(e, NULL); /* no ordinary hello while T1 runs */
+    if (now % EACH == 0) {
+        send_ordinary(e);
     }
 }
 
@@ -240,7 +243,7 @@ static void start(end *e, end *other, uint8_t mode) {
     memset(e->peer, 0, 6);
     say(e, e->restarting ? "restarts" : "starts");
     if (started.hellos) {
-        send_hello(e, NULL);
+        send_hello(e, HELLO_RR, NULL);
     }
 }
 
