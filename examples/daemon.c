@@ -157,7 +157,9 @@ static void carry_out(isis_gr_timers timers) {
     if (timers.restart == ISIS_GR_RESTART_ENDED) {
         say("restart ended");
         restarting = 0;
-        send_ordinary();
+    }
+    if (timers.restart == ISIS_GR_RESTART_ENDED || timers.overload & ISIS_GR_OVERLOAD_SET) {
+        send_ordinary(); /* at once, so that neighbours refresh their holding times (RFC 8706, 3.4.1.1) */
     }
 }
 

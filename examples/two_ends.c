@@ -68,16 +68,15 @@ static message *message_to(end *to) {
     return m;
 }
 
-/* The three-way state that our hellos show: that of the record, but Initializing with RR (RFC 8706, 3.3.1). */
-static uint8_t shown_state(const end *e, uint8_t flags) {
+/* The three-way state that our hellos show: that of the record. */
+static uint8_t shown_state(const end *e) {
     static const uint8_t shown[3] = {HELLO_DOWN, HELLO_INITIALIZING, HELLO_UP};
-    return flags & HELLO_RR ? HELLO_INITIALIZING : shown[isis_gr_look_up(&e->g, CIRCUIT, 0, e->peer, NULL).state];
+    return shown[isis_gr_look_up(&e->g, CIRCUIT, 0, e->peer, NULL).state];
 }
 
-/* A hello with the Restart TLV of a reply, or (reply is NULL) with these flags. */
-static void send_hello(end *e, uint8_t flags, const uint8_t *reply) {
+/* A hello with a three-way state, and with the Restart TLV of a reply, or (reply is NULL) with these flags. */
+static void send_hello(end *e, uint8_t state, uint8_t flags, const uint8_t *reply) {
     static const char *const states[3] = {"Up", "Initializing", "Down"};
-    uint8_t state = shown_state(e, flags);
     message *m = message_to(e->other);
     hello h;
     hello_p2p(&h, m->octets, sizeof m->octets, ISIS_GR_LEVEL_BOTH, e->id, HOLD);
@@ -95,7 +94,7 @@ static void send_hello(end *e, uint8_t flags, const uint8_t *reply) {
 /* An ordinary hello, which has PR while we plan a restart (RFC 8706, 3.2.3); there is none while T1 runs (RFC 8706, 3.3.1). */
 static void send_ordinary(end *e) {
     if (isis_gr_next_hello_flags(&e->g, CIRCUIT).flags == 0) {
-        send_hello(e, e->planning ? HELLO_PR : 0, NULL);
+        send_hello(e, shown_state(e), e->planning ? HELLO_PR : 0, NULL);
     }
 }
 
@@ -136,7 +135,9 @@ static void carry_out(end *e, isis_gr_timers timers) {
     if (timers.restart == ISIS_GR_RESTART_ENDED) {
         say(e, "has restarted: updates its forwarding tables, sends its LSPs");
         e->restarting = 0;
-        send_ordinary(e);
+    }
+    if (timers.restart == ISIS_GR_RESTART_ENDED || timers.overload & ISIS_GR_OVERLOAD_SET) {
+        send_ordinary(e); /* at once, so that neighbours refresh their holding times (RFC 8706, 3.4.1.1) */
     }
 }
 
@@ -155,7 +156,7 @@ static void hello_came(end *e, const uint8_t *source, const uint8_t *frame, size
     }
     if (r.reply != ISIS_GR_REPLY_NONE) {
         say(e, "replies %s, Remaining Time %u", r.reply == ISIS_GR_REPLY_RA ? "RA" : "PA", r.remaining);
-        send_hello(e, r.reply, reply);
+        send_hello(e, shown_state(e), r.reply, reply);
     } else if (r.before != r.after) {
         send_ordinary(e);
     }
@@ -163,7 +164,7 @@ static void hello_came(end *e, const uint8_t *source, const uint8_t *frame, size
         send_csnps(e, r.csnps); /* and sets the SRM flags */
     }
     if (r.t1_end == ISIS_GR_T1_REINITIALISE) {
-        say(e, "must send a hello with three-way Down"); /* not in this run: both ends send TLV 211 */
+        send_hello(e, HELLO_DOWN, 0, NULL); /* not in this run: both ends send TLV 211 */
     }
     carry_out(e, r.timers);
 }
@@ -182,10 +183,10 @@ static void csnps_came(end *e, uint8_t levels) {
     }
 }
 
-/* No LSP that the CSNPs named is wanted any more, and no circuit waits for T1: only now, since a notice cannot be taken back. */
+/* No LSP that the CSNPs named is wanted any more, and no circuit waits for T1: only now, since a notice cannot be taken back. Each level, with a
+   neighbour or without. */
 static void databases_complete(end *e) {
     uint8_t level;
-    e->wanted = 0;
     for (level = 1; level <= 2 && e->restarting; level++) {
         isis_gr_noticed n = isis_gr_database_complete(&e->g, level);
         say(e, "has the database of level %u", level);
@@ -203,10 +204,13 @@ static void second(end *e) {
         say(e, "lost its neighbour");
     }
     if (t.hellos) {
-        send_hello(e, HELLO_RR, NULL); /* with RR, whatever next_hello_flags says by now */
+        send_hello(e, HELLO_INITIALIZING, HELLO_RR, NULL); /* with RR, whatever next_hello_flags says by now */
     }
     carry_out(e, t.timers);
-    if (e->wanted && now > e->asked && isis_gr_waiting_circuits(&e->g).count == 0) {
+    if (now > e->asked) {
+        e->wanted = 0; /* in this example the LSPs come within a second */
+    }
+    if (e->restarting && !e->wanted && isis_gr_waiting_circuits(&e->g).count == 0) {
         databases_complete(e);
     }
     if (now % EACH == 0) {
@@ -240,10 +244,11 @@ static void start(end *e, end *other, uint8_t mode) {
     e->running = 1;
     e->restarting = mode == ISIS_GR_MODE_RESTARTING;
     e->heard = e->planning = 0;
+    e->wanted = 0;
     memset(e->peer, 0, 6);
     say(e, e->restarting ? "restarts" : "starts");
     if (started.hellos) {
-        send_hello(e, HELLO_RR, NULL);
+        send_hello(e, HELLO_INITIALIZING, HELLO_RR, NULL);
     }
 }
 

@@ -263,6 +263,15 @@ static void restart_without_neighbours(void) {
     EXPECT(isis_gr_database_complete(&g, 2).code == ISIS_GR_REFUSED_NOT_RESTARTING);
 }
 
+/* a tick takes T1 before T2: the hello stays ordered though the mode ends in that tick, and from then on the flags are 0 */
+static void hello_of_the_last_tick(void) {
+    isis_gr_ticked t;
+    start(ISIS_GR_MODE_RESTARTING, 0, 3, 60);
+    t = isis_gr_tick(&g, 60);
+    EXPECT(t.hellos == 3 && t.timers.restart == ISIS_GR_RESTART_ENDED && t.timers.spf == ISIS_GR_LEVEL_BOTH);
+    EXPECT(isis_gr_next_hello_flags(&g, P2P).flags == 0 && isis_gr_tick(&g, 63).hellos == 0);
+}
+
 /* RA 20 at clock 0, showing us Up: T3 at 20; T1 (100 s) and T2 (60 s) are later */
 static void acknowledged(void) {
     isis_gr_received r;
@@ -310,6 +319,30 @@ static void t1_ends(void) {
     EXPECT(r.timers.restart == ISIS_GR_RESTART_ENDED && r.timers.spf == ISIS_GR_LEVEL_BOTH && r.timers.overload == ISIS_GR_OVERLOAD_KEEP);
 }
 
+/* what docs/INTEGRATION.md says under "Limits" */
+static void limits(void) {
+    uint8_t id[6], mac[6], n;
+    start(ISIS_GR_MODE_RUNNING, 0, 3, 60);
+    hello_p2p(&h, frame, sizeof frame, ISIS_GR_LEVEL_BOTH, peer, 1); /* Holding Time 1: gone at the next second */
+    hello_three_way(&h, HELLO_INITIALIZING, 9, us, OWN_ID);
+    EXPECT(receive(P2P, peer_mac).after == ISIS_GR_RECORD_UP && isis_gr_tick(&g, 1).lost == 1);
+    p2p(HELLO_INITIALIZING, 0, 0); /* a swapped neighbour: 9 until the old record goes */
+    EXPECT(receive(P2P, peer_mac).after == ISIS_GR_RECORD_UP);
+    hello_p2p(&h, frame, sizeof frame, ISIS_GR_LEVEL_BOTH, third, HOLD);
+    hello_three_way(&h, HELLO_DOWN, 9, NULL, 0);
+    EXPECT(receive(P2P, third_mac).code == ISIS_GR_REFUSED_NO_ROOM && isis_gr_clear(&g, P2P) == ISIS_GR_OK);
+    EXPECT(isis_gr_tick(&g, 2).lost == 0 && receive(P2P, third_mac).after == ISIS_GR_RECORD_INIT);
+    hello_p2p(&h, frame, sizeof frame, ISIS_GR_LEVEL_BOTH, third, HOLD); /* no three-way TLV */
+    EXPECT(receive(P2P, third_mac).code == ISIS_GR_REFUSED_BAD_TLV);
+    memcpy(id, peer, 6);
+    memcpy(mac, peer_mac, 6);
+    for (n = 0; n < 18; n++) { /* eight neighbours of both levels, and the ninth */
+        id[5] = mac[5] = (uint8_t)(2 + n / 2);
+        lan((uint8_t)(1 + n % 2), id, 64, 0, 1);
+        EXPECT(receive(LAN, mac).code == (n < 16 ? ISIS_GR_OK : ISIS_GR_REFUSED_NO_ROOM));
+    }
+}
+
 /* as many circuits as a gateway has, and one more; the octets of the settings are 17 and 19 a circuit */
 static void eight_circuits(void) {
     isis_gr_settings s = settings(ISIS_GR_MODE_RESTARTING, 0, 3, 60);
@@ -330,8 +363,10 @@ int main(void) {
     p2p_record();
     lan_records();
     restart_without_neighbours();
+    hello_of_the_last_tick();
     overload();
     t1_ends();
+    limits();
     eight_circuits();
     puts("every constant and every field of isis_gr.h: as docs/RULES.md has it");
     return 0;
