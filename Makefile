@@ -1,11 +1,12 @@
-# Two commands: `make samples` proves and runs the programs over the sample frames and prints what they wrote; `make test`
-# passes everything, and its last line is rt's 'N passed, 0 failed'. Neither fetches anything.
+# Two commands: `make samples` proves and runs the programs over the sample frames and prints what they wrote, the frames as a table; `make
+# test` passes everything, and its last line is rt's 'N passed, 0 failed'. Neither fetches anything.
 SHELL := /bin/bash
-.PHONY: samples test boundary archive differential bench fuzz kit
+.PHONY: samples test boundary c archive differential bench fuzz live kit
 
 samples: kit
 	@rt check samples vectors
-	@cat target/log/samples.stdout target/log/vectors.stdout
+	@cat target/log/samples.stdout
+	@tools/frames_table crates/vectors/data target/log/vectors.stdout
 
 test: kit
 	@tools/check_citations
@@ -13,21 +14,38 @@ test: kit
 	@tools/check_codes
 	@tools/check_crates
 	@tools/check_rules
+	@tools/check_quotes
 	@rt fmt --check
 	@set -o pipefail; log=$$(mktemp); rt ci | tee $$log && $(MAKE) -s boundary && tail -n 1 $$log; status=$$?; rm -f $$log; exit $$status
 
 # the archive, used from C and from Rust
 boundary: archive
-	@mkdir -p target/c
-	@for name in every_call stack; do \
-		$(CC) -std=c99 -O1 -Wall -Wextra -Werror -Iinclude tests/c/$$name.c -Ltarget/staticlib -lisis_gr -o target/c/$$name && target/c/$$name || exit 1; \
-	done
-	@$(CC) -std=c99 -O1 -Wall -Wextra -Werror -Iinclude tests/fuzz/receive.c tests/fuzz/replay.c -Ltarget/staticlib -lisis_gr -o target/c/replay
-	@tools/fuzz_seeds target/seeds && target/c/replay $$(find target/seeds tests/fuzz/cases -type f 2>/dev/null)
+	@$(MAKE) -s c
 	@cd rust && cargo test --offline --release --quiet
 	@cd rust && if cargo fmt --version >/dev/null 2>&1; then cargo fmt --all --check; else echo "cargo fmt is not installed: the form of rust/ is not checked"; fi
 	@cd rust && if cargo clippy --version >/dev/null 2>&1; then cargo clippy --offline --quiet --all-targets -- -D warnings; \
 		else echo "cargo clippy is not installed: rust/ is not linted"; fi
+
+# the C side, on the archive as it stands: the tests (every_field as C99, C11 and C++17), the examples (the daemon is not run), and the seeds of the
+# fuzzing
+WARN = -O1 -Wall -Wextra -Werror -Iinclude -Iexamples
+LINK = -Ltarget/staticlib -lisis_gr
+c:
+	@mkdir -p target/c
+	@for name in every_call stack; do \
+		$(CC) -std=c99 -pedantic $(WARN) tests/c/$$name.c $(LINK) -o target/c/$$name && target/c/$$name || exit 1; \
+	done
+	@for std in c99 c11; do \
+		$(CC) -std=$$std -pedantic $(WARN) tests/c/every_field.c $(LINK) -o target/c/every_field && target/c/every_field || exit 1; \
+	done
+	@$(CXX) -x c++ -std=c++17 $(WARN) tests/c/every_field.c $(LINK) -o target/c/every_field && target/c/every_field
+	@set -o pipefail; for name in first two_ends; do \
+		$(CC) -std=c99 -pedantic $(WARN) examples/$$name.c $(LINK) -o target/c/$$name && target/c/$$name | diff - examples/$$name.out \
+			&& echo "examples/$$name.c: printed examples/$$name.out" || exit 1; \
+	done
+	@$(CC) -std=c99 -pedantic $(WARN) examples/daemon.c $(LINK) -o target/c/daemon
+	@$(CC) -std=c99 -pedantic $(WARN) tests/fuzz/receive.c tests/fuzz/replay.c $(LINK) -o target/c/replay
+	@tools/fuzz_seeds target/seeds && target/c/replay $$(find target/seeds tests/fuzz/cases -type f 2>/dev/null)
 
 archive:
 	@rt staticlib isis_gr
@@ -47,6 +65,10 @@ fuzz: archive
 	@mkdir -p target/c && tools/fuzz_seeds target/corpus
 	@clang -g -O1 -fsanitize=fuzzer,address -Wall -Wextra -Werror -Iinclude tests/fuzz/receive.c -Ltarget/staticlib -lisis_gr -o target/c/fuzz_receive
 	@target/c/fuzz_receive -max_total_time=$(FUZZ_SECONDS) -max_len=4096 target/corpus
+
+# examples/daemon.c against FRR and against itself, in network namespaces of its own; as root, with Debian's frr and tshark
+live: archive
+	@$(MAKE) -s c && tools/live
 
 # the Rattle kit that the proofs were made with
 kit:

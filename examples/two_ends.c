@@ -1,0 +1,297 @@
+/* Both ends of a P2P link in one process, with a clock of their own: the adjacency comes up, A restarts (its first hello is lost), B plans a
+ * restart, is away for longer than the holding time, and restarts. Prints what happens, line by line. docs/INTEGRATION.md quotes the loop.
+ *
+ * two_ends.out was derived from docs/RULES.md before the program was run; T1 3 s, T2 60 s, holding time 30 s, hellos each 10 s:
+ *   0  "The state step", Running: none and Down give INIT, none and Initializing UP, INIT and Up UP; each change is answered by a hello
+ *  25  "Timers while Restarting": set up orders RR and starts T1; 28 is T1's first expiry, so the hello is ordered again
+ *  28  line 1: expiry 28 + 30, so RA with Remaining Time 30, and on P2P CSNPs of all levels. At A none and Up give UP in the mode Restarting;
+ *      T1 stops with the second of the CSNP sets, and no earlier, since the circuit has both levels
+ *  29  no T1 runs: each database notice cancels its level's T2 at once and orders the SPF; with the last the mode ends. T3 stood at 28 + 30
+ *  40  line 3: expiry 40 + 120, so PA with 120; at 50 the record is marked Planned, the expiry stays, and PA has 160 - 50
+ * 100  line 1 at a Planned record: expiry 100 + the configured 30, so RA with 30; then B does what A did at 28 and 29
+ * 102  line 5: A heard B last at 101, B heard A last at 100; each expiry is 30 later */
+#include "isis_gr.h"
+
+#include "hello.h"
+
+#include <stdarg.h>
+#include <stdio.h>
+#include <stdlib.h>
+
+enum { CIRCUIT = 1, T1 = 3, T2 = 60, TRIES = 3, HOLD = 30, EACH = 10, PLANNED = 120 };
+
+typedef struct end {
+    const char *name;
+    isis_gr_gateway g;
+    uint8_t id[6], mac[6];
+    uint32_t circuit; /* our extended circuit ID */
+    struct end *other;
+    uint8_t peer[6]; /* the neighbour, as heard */
+    uint32_t theirs;
+    int heard, running, restarting, planning;
+    uint8_t wanted; /* levels whose LSPs are still to come */
+    uint32_t asked; /* since when */
+} end;
+
+/* what the link carries: a hello, or the CSNPs of some levels */
+typedef struct {
+    end *to;
+    uint8_t octets[128], csnps;
+    size_t length;
+} message;
+
+static end a = {.name = "A", .id = {0x19, 0x21, 0x68, 0, 0x10, 1}, .mac = {2, 0, 0, 0, 0, 1}, .circuit = 11};
+static end b = {.name = "B", .id = {0x19, 0x21, 0x68, 0, 0x10, 2}, .mac = {2, 0, 0, 0, 0, 2}, .circuit = 22};
+static message link_queue[16];
+static size_t first, last;
+static uint32_t now;
+static int lossy; /* the link loses the next message */
+
+static void say(const end *e, const char *text, ...) {
+    va_list rest;
+    va_start(rest, text);
+    printf("%3u %s ", (unsigned)now, e->name);
+    vprintf(text, rest);
+    putchar('\n');
+    va_end(rest);
+}
+
+static message *message_to(end *to) {
+    message *m = &link_queue[last++ % 16];
+    memset(m, 0, sizeof *m);
+    m->to = to;
+    if (lossy) {
+        say(to, "does not hear the next: the link loses it");
+        m->to = NULL;
+        lossy = 0;
+    }
+    return m;
+}
+
+/* The three-way state that our hellos show: that of the record. */
+static uint8_t shown_state(const end *e) {
+    static const uint8_t shown[3] = {HELLO_DOWN, HELLO_INITIALIZING, HELLO_UP};
+    return shown[isis_gr_look_up(&e->g, CIRCUIT, 0, e->peer, NULL).state];
+}
+
+/* A hello with a three-way state, and with the Restart TLV of a reply, or (reply is NULL) with these flags. */
+static void send_hello(end *e, uint8_t state, uint8_t flags, const uint8_t *reply) {
+    static const char *const states[3] = {"Up", "Initializing", "Down"};
+    message *m = message_to(e->other);
+    hello h;
+    hello_p2p(&h, m->octets, sizeof m->octets, ISIS_GR_LEVEL_BOTH, e->id, HOLD);
+    hello_three_way(&h, state, e->circuit, e->heard ? e->peer : NULL, e->theirs);
+    if (reply) {
+        hello_put(&h, reply, ISIS_GR_REPLY_OCTETS);
+    } else {
+        hello_restart(&h, flags, PLANNED, NULL);
+    }
+    m->length = hello_end(&h);
+    say(e, "sends a hello: %s%s%s%s%s", states[state], flags & HELLO_RR ? ", RR" : "", flags & HELLO_RA ? ", RA" : "",
+        flags & HELLO_PR ? ", PR" : "", flags & HELLO_PA ? ", PA" : "");
+}
+
+/* An ordinary hello, which has PR while we plan a restart (RFC 8706, 3.2.3); there is none while T1 runs (RFC 8706, 3.3.1). */
+static void send_ordinary(end *e) {
+    if (isis_gr_next_hello_flags(&e->g, CIRCUIT).flags == 0) {
+        send_hello(e, shown_state(e), e->planning ? HELLO_PR : 0, NULL);
+    }
+}
+
+static void send_csnps(end *e, uint8_t levels) {
+    say(e, "sends CSNPs of%s%s", levels & ISIS_GR_LEVEL_1 ? " level 1" : "", levels & ISIS_GR_LEVEL_2 ? " level 2" : "");
+    message_to(e->other)->csnps = levels;
+}
+
+/* What the daemon reads of an accepted hello itself: the neighbour's circuit ID, for TLV 240, and PA. */
+static void learn(end *e, const uint8_t *frame, const uint8_t system_id[6]) {
+    uint8_t n = 0;
+    const uint8_t *value = hello_find(frame, 240, &n);
+    if (value && n >= 5) {
+        memcpy(e->peer, system_id, 6);
+        e->theirs = (uint32_t)value[1] << 24 | (uint32_t)value[2] << 16 | (uint32_t)value[3] << 8 | value[4];
+        e->heard = 1;
+    }
+    value = hello_find(frame, 211, &n);
+    if (value && n == 9 && value[0] == HELLO_PA && memcmp(value + 3, e->id, 6) == 0) {
+        say(e, "may restart: PA, Remaining Time %u", (unsigned)value[1] << 8 | value[2]);
+    }
+}
+
+/* The orders that the timers of a restart give; they are none while we do not restart. */
+static void carry_out(end *e, isis_gr_timers timers) {
+    uint8_t level;
+    for (level = 1; level <= 2; level++) {
+        if (timers.spf & 1u << (level - 1)) {
+            say(e, "runs the SPF of level %u", level);
+        }
+    }
+    if (timers.overload & ISIS_GR_OVERLOAD_SET) {
+        say(e, "sets the overload bit");
+    }
+    if (timers.overload & ISIS_GR_OVERLOAD_CLEAR) {
+        say(e, "clears the overload bit");
+    }
+    if (timers.restart == ISIS_GR_RESTART_ENDED) {
+        say(e, "has restarted: updates its forwarding tables, sends its LSPs");
+        e->restarting = 0;
+    }
+    if (timers.restart == ISIS_GR_RESTART_ENDED || timers.overload & ISIS_GR_OVERLOAD_SET) {
+        send_ordinary(e); /* at once, so that neighbours refresh their holding times (RFC 8706, 3.4.1.1) */
+    }
+}
+
+/* A hello came. What it tells goes into TLV 240 before the reply is sent, and the reply goes before the CSNPs (RFC 8706, 3.2.1). */
+static void hello_came(end *e, const uint8_t *source, const uint8_t *frame, size_t length) {
+    static const char *const records[3] = {"none", "INIT", "UP"};
+    uint8_t reply[ISIS_GR_REPLY_OCTETS];
+    isis_gr_received r = isis_gr_receive(&e->g, CIRCUIT, source, frame, length, reply, sizeof reply);
+    if (r.code != ISIS_GR_OK) {
+        say(e, "refuses a hello: %u, %s", (unsigned)r.code, isis_gr_text(r.code));
+        return;
+    }
+    learn(e, frame, r.system_id);
+    if (r.before != r.after) {
+        say(e, "has a record: %s, was %s%s", records[r.after], records[r.before], r.advertised ? "; advertises it" : "");
+    }
+    if (r.reply != ISIS_GR_REPLY_NONE) {
+        say(e, "replies %s, Remaining Time %u", r.reply == ISIS_GR_REPLY_RA ? "RA" : "PA", r.remaining);
+        send_hello(e, shown_state(e), r.reply, reply);
+    } else if (r.before != r.after) {
+        send_ordinary(e);
+    }
+    if (r.csnps) {
+        send_csnps(e, r.csnps); /* and sets the SRM flags */
+    }
+    if (r.t1_end == ISIS_GR_T1_REINITIALISE) {
+        send_hello(e, HELLO_DOWN, 0, NULL); /* not in this run: both ends send TLV 211 */
+    }
+    carry_out(e, r.timers);
+}
+
+/* The CSNPs of some levels came, each a complete set. */
+static void csnps_came(end *e, uint8_t levels) {
+    uint8_t level;
+    for (level = 1; level <= 2 && e->restarting; level++) {
+        if (levels & 1u << (level - 1)) {
+            isis_gr_noticed n = isis_gr_csnp_complete(&e->g, CIRCUIT, level);
+            say(e, "has the CSNPs of level %u; circuits that wait for T1: %u", level, (unsigned)isis_gr_waiting_circuits(&e->g).count);
+            e->wanted |= (uint8_t)(1u << (level - 1));
+            e->asked = now;
+            carry_out(e, n.timers);
+        }
+    }
+}
+
+/* No LSP that the CSNPs named is wanted any more, and no circuit waits for T1: only now, since a notice cannot be taken back. Each level, with a
+   neighbour or without. */
+static void databases_complete(end *e) {
+    uint8_t level;
+    for (level = 1; level <= 2 && e->restarting; level++) {
+        isis_gr_noticed n = isis_gr_database_complete(&e->g, level);
+        say(e, "has the database of level %u", level);
+        carry_out(e, n.timers);
+    }
+}
+
+/* Once a second: first the tick, and what it orders. */
+static void second(end *e) {
+    isis_gr_ticked t = isis_gr_tick(&e->g, now);
+    if (t.code != ISIS_GR_OK) {
+        say(e, "has a clock that goes back");
+    }
+    if (t.lost) {
+        say(e, "lost its neighbour");
+    }
+    if (t.hellos) {
+        send_hello(e, HELLO_INITIALIZING, HELLO_RR, NULL); /* with RR, whatever next_hello_flags says by now */
+    }
+    carry_out(e, t.timers);
+    if (now > e->asked) {
+        e->wanted = 0; /* in this example the LSPs come within a second */
+    }
+    if (e->restarting && !e->wanted && isis_gr_waiting_circuits(&e->g).count == 0) {
+        databases_complete(e);
+    }
+    if (now % EACH == 0) {
+        send_ordinary(e);
+    }
+}
+
+static void start(end *e, end *other, uint8_t mode) {
+    isis_gr_settings s;
+    isis_gr_started started;
+    memset(&s, 0, sizeof s);
+    memcpy(s.system_id, e->id, 6);
+    s.t1 = T1;
+    s.t2 = T2;
+    s.tries = TRIES;
+    s.clock = now;
+    s.mode = mode;
+    s.count = 1;
+    s.circuits[0].kind = ISIS_GR_KIND_P2P;
+    s.circuits[0].levels = ISIS_GR_LEVEL_BOTH;
+    memcpy(s.circuits[0].mac, e->mac, 6);
+    s.circuits[0].hold = HOLD;
+    s.circuits[0].metric = 10;
+    s.circuits[0].id = e->circuit;
+    started = isis_gr_set_up(&e->g, &s);
+    if (started.code != ISIS_GR_OK) {
+        fprintf(stderr, "%s\n", isis_gr_text(started.code));
+        exit(1);
+    }
+    e->other = other;
+    e->running = 1;
+    e->restarting = mode == ISIS_GR_MODE_RESTARTING;
+    e->heard = e->planning = 0;
+    e->wanted = 0;
+    memset(e->peer, 0, 6);
+    say(e, e->restarting ? "restarts" : "starts");
+    if (started.hellos) {
+        send_hello(e, HELLO_INITIALIZING, HELLO_RR, NULL);
+    }
+}
+
+static void deliver(void) {
+    while (first != last) {
+        message m = link_queue[first++ % 16];
+        if (m.to && m.to->running) {
+            if (m.csnps) {
+                csnps_came(m.to, m.csnps);
+            } else {
+                hello_came(m.to, m.to->other->mac, m.octets, m.length);
+            }
+        }
+    }
+}
+
+int main(void) {
+    start(&a, &b, ISIS_GR_MODE_RUNNING);
+    start(&b, &a, ISIS_GR_MODE_RUNNING);
+    for (now = 0; now <= 101; now++) {
+        if (now == 25) {
+            lossy = 1;
+            start(&a, &b, ISIS_GR_MODE_RESTARTING);
+        } else if (now == 40) {
+            b.planning = 1;
+            say(&b, "plans a restart");
+        } else if (now == 55) {
+            b.running = 0;
+            say(&b, "is away");
+        } else if (now == 100) {
+            start(&b, &a, ISIS_GR_MODE_RESTARTING);
+        }
+        deliver();
+        if (a.running) {
+            second(&a);
+        }
+        deliver();
+        if (b.running) {
+            second(&b);
+        }
+        deliver();
+    }
+    say(&a, "keeps its neighbour until %u", (unsigned)isis_gr_look_up(&a.g, CIRCUIT, 0, a.peer, NULL).expiry);
+    say(&b, "keeps its neighbour until %u", (unsigned)isis_gr_look_up(&b.g, CIRCUIT, 0, b.peer, NULL).expiry);
+    return 0;
+}

@@ -1,0 +1,373 @@
+/* Drives every constant of isis_gr.h and every field of every answer to more than one value. The numbers expected are derived from
+ * docs/RULES.md, whose heading stands at each function; none was taken from a run. tools/check_codes fails on a constant or a field that no test
+ * of this folder names. */
+#include "isis_gr.h"
+
+#include "hello.h"
+
+#include <stdio.h>
+#include <stdlib.h>
+
+#define EXPECT(what)                                                           \
+    do {                                                                       \
+        if (!(what)) {                                                         \
+            fprintf(stderr, "%s:%d: not so: %s\n", __FILE__, __LINE__, #what); \
+            exit(1);                                                           \
+        }                                                                      \
+    } while (0)
+
+static const uint8_t us[6] = {0x19, 0x21, 0x68, 0x00, 0x10, 0x01};
+static const uint8_t peer[6] = {0x19, 0x21, 0x68, 0x00, 0x10, 0x02};
+static const uint8_t third[6] = {0x19, 0x21, 0x68, 0x00, 0x10, 0x03};
+static const uint8_t our_mac[6] = {2, 0, 0, 0, 0, 1};
+static const uint8_t peer_mac[6] = {2, 0, 0, 0, 0, 2};
+static const uint8_t third_mac[6] = {2, 0, 0, 0, 0, 3};
+enum { P2P = 1, LAN = 2, OWN_ID = 7, HOLD = 27, CONFIGURED = 30 };
+
+static isis_gr_gateway g;
+static uint8_t frame[256], reply[ISIS_GR_REPLY_OCTETS];
+static hello h;
+
+/* circuit 1 is P2P and has both levels, circuit 2 a LAN with both */
+static isis_gr_settings settings(uint8_t mode, uint32_t clock, uint16_t t1, uint16_t t2) {
+    isis_gr_settings s;
+    memset(&s, 0, sizeof s);
+    memcpy(s.system_id, us, 6);
+    s.t1 = t1;
+    s.t2 = t2;
+    s.tries = 3;
+    s.clock = clock;
+    s.mode = mode;
+    s.count = 2;
+    s.circuits[0].kind = ISIS_GR_KIND_P2P;
+    s.circuits[0].levels = ISIS_GR_LEVEL_BOTH;
+    memcpy(s.circuits[0].mac, our_mac, 6);
+    s.circuits[0].hold = CONFIGURED;
+    s.circuits[0].metric = 16777210;
+    s.circuits[0].id = OWN_ID;
+    s.circuits[1] = s.circuits[0];
+    s.circuits[1].kind = ISIS_GR_KIND_LAN;
+    s.circuits[1].priority = 64;
+    return s;
+}
+
+static isis_gr_started start(uint8_t mode, uint32_t clock, uint16_t t1, uint16_t t2) {
+    isis_gr_settings s = settings(mode, clock, t1, t2);
+    isis_gr_started started = isis_gr_set_up(&g, &s);
+    EXPECT(started.code == ISIS_GR_OK);
+    return started;
+}
+
+/* a P2P hello of the peer that names us: without a Restart TLV where flags is negative */
+static void p2p(uint8_t state, int flags, uint16_t remaining) {
+    hello_p2p(&h, frame, sizeof frame, ISIS_GR_LEVEL_BOTH, peer, HOLD);
+    hello_three_way(&h, state, 9, us, OWN_ID);
+    if (flags >= 0) {
+        hello_restart(&h, (uint8_t)flags, remaining, us);
+    }
+}
+
+/* a LAN hello that lists us or not */
+static void lan(uint8_t level, const uint8_t id[6], uint8_t priority, int flags, size_t listed) {
+    static const uint8_t lan_id[7] = {0};
+    uint8_t macs[1][6];
+    memcpy(macs[0], our_mac, 6);
+    hello_lan(&h, frame, sizeof frame, level, ISIS_GR_LEVEL_BOTH, id, HOLD, priority, lan_id);
+    hello_neighbours(&h, macs, listed);
+    if (flags >= 0) {
+        hello_restart(&h, (uint8_t)flags, 20, us);
+    }
+}
+
+static isis_gr_received receive(uint8_t circuit, const uint8_t mac[6]) {
+    size_t n = hello_end(&h);
+    EXPECT(n > 0);
+    return isis_gr_receive(&g, circuit, mac, frame, n, reply, sizeof reply);
+}
+
+/* docs/RULES.md, "Refusals by number": the number, the other fields 0, the gateway and the reply as they were; and its text */
+static void refused(uint32_t code, isis_gr_received r) {
+    static const uint8_t none[6] = {0};
+    EXPECT(r.code == code);
+    EXPECT(r.reply == ISIS_GR_REPLY_NONE && r.remaining == 0 && r.csnps == 0 && r.t1_end == ISIS_GR_T1_KEPT);
+    EXPECT(r.timers.restart == ISIS_GR_RESTART_NONE && r.timers.spf == 0 && r.timers.overload == ISIS_GR_OVERLOAD_KEEP);
+    EXPECT(r.level == 0 && memcmp(r.system_id, none, 6) == 0 && r.before == ISIS_GR_RECORD_NONE && r.after == ISIS_GR_RECORD_NONE && r.advertised == 0);
+}
+
+static void twelve_refusals(void) {
+    isis_gr_gateway before;
+    isis_gr_settings s = settings(ISIS_GR_MODE_RUNNING, 100, 3, 60);
+    isis_gr_ticked t;
+    isis_gr_noticed n;
+    isis_gr_looked l;
+    uint32_t a, b;
+    start(ISIS_GR_MODE_RUNNING, 100, 3, 60);
+    p2p(HELLO_INITIALIZING, 0, 0);
+    EXPECT(receive(P2P, peer_mac).code == ISIS_GR_OK);
+    before = g;
+    memset(reply, 0xEE, sizeof reply);
+
+    p2p(HELLO_UP, HELLO_RR, 0);
+    refused(ISIS_GR_REFUSED_NO_CIRCUIT, receive(3, peer_mac));
+    refused(ISIS_GR_REFUSED_REPLY_ROOM, isis_gr_receive(&g, P2P, peer_mac, frame, hello_end(&h), reply, ISIS_GR_REPLY_OCTETS - 1));
+    refused(ISIS_GR_REFUSED_NOT_HELLO, isis_gr_receive(&g, P2P, peer_mac, frame, 7, reply, sizeof reply));
+    refused(ISIS_GR_REFUSED_NOT_HELLO, receive(LAN, peer_mac));
+    refused(ISIS_GR_REFUSED_BAD_LENGTH, isis_gr_receive(&g, P2P, peer_mac, frame, hello_end(&h) - 1, reply, sizeof reply));
+    hello_put(&h, us, 1);
+    refused(ISIS_GR_REFUSED_TLV_PAST_END, receive(P2P, peer_mac));
+    p2p(HELLO_UP, -1, 0);
+    hello_tlv(&h, 211, NULL, 0);
+    refused(ISIS_GR_REFUSED_BAD_TLV, receive(P2P, peer_mac));
+    lan(1, us, 64, 0, 1);
+    refused(ISIS_GR_REFUSED_WRONG_SOURCE, receive(LAN, peer_mac));
+    hello_p2p(&h, frame, sizeof frame, ISIS_GR_LEVEL_BOTH, peer, HOLD);
+    hello_three_way(&h, HELLO_UP, 9, third, OWN_ID);
+    refused(ISIS_GR_REFUSED_WRONG_NEIGHBOR, receive(P2P, peer_mac));
+    hello_p2p(&h, frame, sizeof frame, ISIS_GR_LEVEL_BOTH, third, HOLD);
+    hello_three_way(&h, HELLO_DOWN, 9, NULL, 0);
+    refused(ISIS_GR_REFUSED_NO_ROOM, receive(P2P, third_mac));
+    t = isis_gr_tick(&g, 99);
+    EXPECT(t.code == ISIS_GR_REFUSED_CLOCK_BACK && t.lost == 0 && t.hellos == 0 && t.timers.restart == ISIS_GR_RESTART_NONE);
+    n = isis_gr_csnp_complete(&g, P2P, 1);
+    EXPECT(n.code == ISIS_GR_REFUSED_NOT_RESTARTING && n.timers.restart == ISIS_GR_RESTART_NONE && n.timers.spf == 0);
+    EXPECT(isis_gr_database_complete(&g, 2).code == ISIS_GR_REFUSED_NOT_RESTARTING);
+    EXPECT(isis_gr_database_complete(&g, ISIS_GR_LEVEL_BOTH).code == ISIS_GR_REFUSED_NO_CIRCUIT); /* a mask is no level */
+    l = isis_gr_look_up(&g, LAN, 3, peer, peer_mac);
+    EXPECT(l.code == ISIS_GR_REFUSED_NO_CIRCUIT && l.state == 0 && l.expiry == 0 && l.priority == 0 && l.offset == 0);
+    EXPECT(isis_gr_link_metric(&g, 0).code == ISIS_GR_REFUSED_NO_CIRCUIT && isis_gr_link_metric(&g, 0).metric == 0);
+    EXPECT(isis_gr_next_hello_flags(&g, 3).code == ISIS_GR_REFUSED_NO_CIRCUIT && isis_gr_next_hello_flags(&g, 3).flags == 0);
+    s.circuits[1].priority = 128;
+    EXPECT(isis_gr_set_up(&g, &s).code == ISIS_GR_REFUSED_BAD_SETTING && isis_gr_set_up(&g, &s).hellos == 0);
+    EXPECT(memcmp(&g, &before, sizeof g) == 0 && reply[0] == 0xEE);
+
+    EXPECT(strcmp(isis_gr_text(ISIS_GR_OK), "done") == 0 && strcmp(isis_gr_text(13), "no such code") == 0);
+    for (a = 0; a < 14; a++) {
+        for (b = 0; b < a; b++) {
+            EXPECT(strcmp(isis_gr_text(a), isis_gr_text(b)) != 0);
+        }
+    }
+}
+
+/* docs/RULES.md, "The state step" and "Marks and holding time of an accepted frame", on P2P */
+static void p2p_record(void) {
+    isis_gr_received r;
+    isis_gr_looked l;
+    isis_gr_ticked t;
+    EXPECT(start(ISIS_GR_MODE_RUNNING, 100, 3, 60).hellos == 0);
+
+    p2p(HELLO_UP, 0, 0); /* none, Running, Up: nothing is kept */
+    r = receive(P2P, peer_mac);
+    EXPECT(r.code == ISIS_GR_OK && r.level == 0 && memcmp(r.system_id, peer, 6) == 0);
+    EXPECT(r.before == ISIS_GR_RECORD_NONE && r.after == ISIS_GR_RECORD_NONE && r.advertised == 0);
+    p2p(HELLO_DOWN, -1, 0);
+    r = receive(P2P, peer_mac);
+    EXPECT(r.before == ISIS_GR_RECORD_NONE && r.after == ISIS_GR_RECORD_INIT && r.advertised == 0);
+    l = isis_gr_look_up(&g, P2P, 1, peer, NULL);
+    EXPECT(l.code == ISIS_GR_OK && l.state == ISIS_GR_RECORD_INIT && l.advertised == 0 && l.mark == ISIS_GR_MARK_CLEAR && l.suppressed == 0);
+    EXPECT(l.tlv == 0 && l.reverse == 0 && l.whole_lan == 0 && l.unreachable == 0 && l.offset == 0 && l.priority == 0 && l.expiry == 127);
+    EXPECT(isis_gr_link_metric(&g, P2P).metric == 16777210);
+
+    p2p(HELLO_INITIALIZING, 0, 0); /* with a reverse metric: 16,777,210 + 10, held to 16,777,214, with U to 16,777,215 */
+    hello_reverse(&h, HELLO_W, 10);
+    r = receive(P2P, peer_mac);
+    EXPECT(r.before == ISIS_GR_RECORD_INIT && r.after == ISIS_GR_RECORD_UP && r.advertised == 1 && r.csnps == 0 && r.remaining == 0);
+    l = isis_gr_look_up(&g, P2P, 1, peer, NULL);
+    EXPECT(l.state == ISIS_GR_RECORD_UP && l.advertised == 1 && l.tlv == 1 && l.reverse == 1 && l.whole_lan == 1 && l.unreachable == 0 && l.offset == 10);
+    EXPECT(isis_gr_link_metric(&g, P2P).code == ISIS_GR_OK && isis_gr_link_metric(&g, P2P).metric == 16777214);
+    p2p(HELLO_UP, 0, 0);
+    hello_reverse(&h, HELLO_U, 0xABCDEF);
+    EXPECT(receive(P2P, peer_mac).before == ISIS_GR_RECORD_UP);
+    l = isis_gr_look_up(&g, P2P, 1, peer, NULL);
+    EXPECT(l.reverse == 1 && l.whole_lan == 0 && l.unreachable == 1 && l.offset == 0xABCDEF);
+    EXPECT(isis_gr_link_metric(&g, P2P).metric == 16777215);
+
+    EXPECT(isis_gr_tick(&g, 110).code == ISIS_GR_OK); /* line 1: expiry 110 + 27, all levels of the circuit */
+    p2p(HELLO_UP, HELLO_RR | HELLO_SA, 0);
+    r = receive(P2P, peer_mac);
+    EXPECT(r.reply == ISIS_GR_REPLY_RA && r.remaining == 27 && r.csnps == ISIS_GR_LEVEL_BOTH && r.after == ISIS_GR_RECORD_UP && r.advertised == 0);
+    EXPECT(r.timers.restart == ISIS_GR_RESTART_NONE && r.t1_end == ISIS_GR_T1_KEPT);
+    EXPECT(reply[0] == 211 && reply[1] == 9 && reply[2] == ISIS_GR_REPLY_RA && reply[3] == 0 && reply[4] == 27 && memcmp(reply + 5, peer, 6) == 0);
+    l = isis_gr_look_up(&g, P2P, 1, peer, NULL);
+    EXPECT(l.mark == ISIS_GR_MARK_RESTART && l.suppressed == 1 && l.advertised == 0 && l.state == ISIS_GR_RECORD_UP && l.expiry == 137 && l.reverse == 0);
+
+    p2p(HELLO_UP, HELLO_PR, 300); /* line 3: expiry 110 + 300 */
+    r = receive(P2P, peer_mac);
+    EXPECT(r.reply == ISIS_GR_REPLY_PA && r.remaining == 300 && r.csnps == 0 && r.advertised == 1 && reply[2] == ISIS_GR_REPLY_PA);
+    l = isis_gr_look_up(&g, P2P, 1, peer, NULL);
+    EXPECT(l.mark == ISIS_GR_MARK_PLANNED && l.suppressed == 0 && l.expiry == 410);
+    p2p(HELLO_UP, 0, 0); /* line 4: configured */
+    EXPECT(receive(P2P, peer_mac).reply == ISIS_GR_REPLY_NONE);
+    EXPECT(isis_gr_look_up(&g, P2P, 1, peer, NULL).mark == ISIS_GR_MARK_CLEAR && isis_gr_look_up(&g, P2P, 1, peer, NULL).expiry == 140);
+
+    p2p(HELLO_DOWN, 0, 0);
+    r = receive(P2P, peer_mac);
+    EXPECT(r.before == ISIS_GR_RECORD_UP && r.after == ISIS_GR_RECORD_INIT && r.advertised == 0);
+    t = isis_gr_tick(&g, 136); /* expiry is 137 */
+    EXPECT(t.code == ISIS_GR_OK && t.lost == 0 && t.hellos == 0 && t.timers.restart == ISIS_GR_RESTART_NONE);
+    t = isis_gr_tick(&g, 137);
+    EXPECT(t.lost == 1 && isis_gr_look_up(&g, P2P, 1, peer, NULL).state == ISIS_GR_RECORD_NONE);
+}
+
+/* the same on a LAN, where the frame has a level, a priority and the duty of CSNPs */
+static void lan_records(void) {
+    isis_gr_received r;
+    isis_gr_looked l;
+    start(ISIS_GR_MODE_RUNNING, 0, 3, 60);
+    lan(1, peer, 5, 0, 0);
+    r = receive(LAN, peer_mac);
+    EXPECT(r.level == 1 && memcmp(r.system_id, peer, 6) == 0 && r.before == ISIS_GR_RECORD_NONE && r.after == ISIS_GR_RECORD_INIT && r.advertised == 0);
+    lan(2, peer, 127, 0, 1);
+    hello_reverse(&h, HELLO_W | HELLO_U, 77);
+    r = receive(LAN, peer_mac);
+    EXPECT(r.level == 2 && r.before == ISIS_GR_RECORD_NONE && r.after == ISIS_GR_RECORD_UP && r.advertised == 1);
+    lan(2, third, 3, 0, 1);
+    EXPECT(memcmp(receive(LAN, third_mac).system_id, third, 6) == 0);
+    l = isis_gr_look_up(&g, LAN, 2, peer, peer_mac);
+    EXPECT(l.state == ISIS_GR_RECORD_UP && l.priority == 127 && l.whole_lan == 1 && l.unreachable == 1 && l.offset == 77);
+    l = isis_gr_look_up(&g, LAN, 1, peer, peer_mac);
+    EXPECT(l.state == ISIS_GR_RECORD_INIT && l.priority == 5);
+    EXPECT(isis_gr_look_up(&g, LAN, 2, peer, third_mac).state == ISIS_GR_RECORD_NONE);
+    EXPECT(isis_gr_link_metric(&g, LAN).metric == 16777210); /* kept, not used */
+
+    lan(2, third, 3, HELLO_RR, 1); /* the peer's priority 127 is above our 64: it has the duty */
+    r = receive(LAN, third_mac);
+    EXPECT(r.reply == ISIS_GR_REPLY_RA && r.csnps == 0 && r.level == 2);
+    lan(2, peer, 127, HELLO_RR, 0); /* third is marked Restart: the duty is ours, of the frame's level; UP stays, though we are not listed */
+    r = receive(LAN, peer_mac);
+    EXPECT(r.csnps == ISIS_GR_LEVEL_2 && r.after == ISIS_GR_RECORD_UP);
+    lan(1, peer, 5, 0, 1);
+    EXPECT(receive(LAN, peer_mac).after == ISIS_GR_RECORD_UP);
+    lan(1, peer, 5, HELLO_RR, 1);
+    EXPECT(receive(LAN, peer_mac).csnps == ISIS_GR_LEVEL_1);
+    EXPECT(isis_gr_tick(&g, HOLD).lost == 2); /* bit 1: circuit 2 */
+}
+
+/* docs/RULES.md, "Timers while Restarting": both databases complete and T1 stopped at its third expiry, then T2 */
+static void restart_without_neighbours(void) {
+    isis_gr_ticked t;
+    isis_gr_noticed n;
+    EXPECT(start(ISIS_GR_MODE_RESTARTING, 0, 3, 60).hellos == 3);
+    EXPECT(isis_gr_next_hello_flags(&g, LAN).code == ISIS_GR_OK && isis_gr_next_hello_flags(&g, LAN).flags == ISIS_GR_FLAG_RR);
+    EXPECT(isis_gr_waiting_circuits(&g).count == 2 && isis_gr_waiting_circuits(&g).lowest == P2P);
+    t = isis_gr_tick(&g, 3);
+    EXPECT(t.hellos == 3 && t.timers.restart == ISIS_GR_RESTART_GOES_ON && t.timers.spf == 0 && t.timers.overload == ISIS_GR_OVERLOAD_KEEP);
+    n = isis_gr_database_complete(&g, 1);
+    EXPECT(n.code == ISIS_GR_OK && n.timers.restart == ISIS_GR_RESTART_GOES_ON && n.timers.spf == 0);
+    t = isis_gr_tick(&g, 6);
+    EXPECT(t.hellos == 3);
+    t = isis_gr_tick(&g, 9);
+    EXPECT(t.hellos == 0 && t.timers.restart == ISIS_GR_RESTART_GOES_ON && t.timers.spf == ISIS_GR_LEVEL_1);
+    EXPECT(isis_gr_next_hello_flags(&g, LAN).flags == 0);
+    n = isis_gr_database_complete(&g, 2); /* no T1 runs: at once */
+    EXPECT(n.timers.restart == ISIS_GR_RESTART_ENDED && n.timers.spf == ISIS_GR_LEVEL_2 && n.timers.overload == ISIS_GR_OVERLOAD_KEEP);
+    EXPECT(isis_gr_database_complete(&g, 2).code == ISIS_GR_REFUSED_NOT_RESTARTING);
+}
+
+/* a tick takes T1 before T2: the hello stays ordered though the mode ends in that tick, and from then on the flags are 0 */
+static void hello_of_the_last_tick(void) {
+    isis_gr_ticked t;
+    start(ISIS_GR_MODE_RESTARTING, 0, 3, 60);
+    t = isis_gr_tick(&g, 60);
+    EXPECT(t.hellos == 3 && t.timers.restart == ISIS_GR_RESTART_ENDED && t.timers.spf == ISIS_GR_LEVEL_BOTH);
+    EXPECT(isis_gr_next_hello_flags(&g, P2P).flags == 0 && isis_gr_tick(&g, 63).hellos == 0);
+}
+
+/* RA 20 at clock 0, showing us Up: T3 at 20; T1 (100 s) and T2 (60 s) are later */
+static void acknowledged(void) {
+    isis_gr_received r;
+    start(ISIS_GR_MODE_RESTARTING, 0, 100, 60);
+    p2p(HELLO_UP, HELLO_RA, 20);
+    r = receive(P2P, peer_mac);
+    EXPECT(r.code == ISIS_GR_OK && r.after == ISIS_GR_RECORD_UP && r.t1_end == ISIS_GR_T1_KEPT && r.timers.restart == ISIS_GR_RESTART_GOES_ON);
+    EXPECT(isis_gr_tick(&g, 19).timers.overload == ISIS_GR_OVERLOAD_KEEP);
+}
+
+static void overload(void) {
+    isis_gr_ticked t;
+    acknowledged(); /* T3 sets it, T2's expiry clears it */
+    t = isis_gr_tick(&g, 20);
+    EXPECT(t.timers.overload == ISIS_GR_OVERLOAD_SET && t.timers.restart == ISIS_GR_RESTART_GOES_ON && t.timers.spf == 0);
+    EXPECT(isis_gr_waiting_circuits(&g).count == 0 && isis_gr_waiting_circuits(&g).lowest == 0);
+    t = isis_gr_tick(&g, 60);
+    EXPECT(t.timers.overload == ISIS_GR_OVERLOAD_CLEAR && t.timers.restart == ISIS_GR_RESTART_ENDED && t.timers.spf == ISIS_GR_LEVEL_BOTH);
+    EXPECT(t.lost == 1); /* the peer's record, of expiry 27 */
+
+    acknowledged(); /* the notices came while T1 ran: T3 stops T1, so that the last T2 goes in the same tick */
+    EXPECT(isis_gr_database_complete(&g, 1).timers.restart == ISIS_GR_RESTART_GOES_ON);
+    EXPECT(isis_gr_database_complete(&g, 2).timers.restart == ISIS_GR_RESTART_GOES_ON);
+    t = isis_gr_tick(&g, 20);
+    EXPECT(t.timers.overload == ISIS_GR_OVERLOAD_BOTH && t.timers.restart == ISIS_GR_RESTART_ENDED && t.timers.spf == ISIS_GR_LEVEL_BOTH);
+}
+
+/* a P2P hello without a Restart TLV stops T1; one that shows us Up with our own circuit ID must be made to reinitialise */
+static void t1_ends(void) {
+    isis_gr_received r;
+    start(ISIS_GR_MODE_RESTARTING, 0, 100, 60);
+    p2p(HELLO_INITIALIZING, -1, 0);
+    EXPECT(receive(P2P, peer_mac).t1_end == ISIS_GR_T1_STOPPED);
+    EXPECT(isis_gr_waiting_circuits(&g).count == 1 && isis_gr_waiting_circuits(&g).lowest == LAN);
+    EXPECT(receive(P2P, peer_mac).t1_end == ISIS_GR_T1_KEPT); /* no T1 ran */
+    start(ISIS_GR_MODE_RESTARTING, 0, 100, 60);
+    p2p(HELLO_UP, -1, 0);
+    EXPECT(receive(P2P, peer_mac).t1_end == ISIS_GR_T1_REINITIALISE);
+
+    /* T1 of the LAN is the last: RA that names us, after the sets of both levels; then the whole restart ends in a receive */
+    EXPECT(isis_gr_csnp_complete(&g, LAN, 1).timers.restart == ISIS_GR_RESTART_GOES_ON && isis_gr_csnp_complete(&g, LAN, 2).code == ISIS_GR_OK);
+    EXPECT(isis_gr_database_complete(&g, 1).timers.spf == 0 && isis_gr_database_complete(&g, 2).timers.spf == 0);
+    lan(2, third, 64, HELLO_RA, 1);
+    r = receive(LAN, third_mac);
+    EXPECT(r.timers.restart == ISIS_GR_RESTART_ENDED && r.timers.spf == ISIS_GR_LEVEL_BOTH && r.timers.overload == ISIS_GR_OVERLOAD_KEEP);
+}
+
+/* what docs/INTEGRATION.md says under "Limits" */
+static void limits(void) {
+    uint8_t id[6], mac[6], n;
+    start(ISIS_GR_MODE_RUNNING, 0, 3, 60);
+    hello_p2p(&h, frame, sizeof frame, ISIS_GR_LEVEL_BOTH, peer, 1); /* Holding Time 1: gone at the next second */
+    hello_three_way(&h, HELLO_INITIALIZING, 9, us, OWN_ID);
+    EXPECT(receive(P2P, peer_mac).after == ISIS_GR_RECORD_UP && isis_gr_tick(&g, 1).lost == 1);
+    p2p(HELLO_INITIALIZING, 0, 0); /* a swapped neighbour: 9 until the old record goes */
+    EXPECT(receive(P2P, peer_mac).after == ISIS_GR_RECORD_UP);
+    hello_p2p(&h, frame, sizeof frame, ISIS_GR_LEVEL_BOTH, third, HOLD);
+    hello_three_way(&h, HELLO_DOWN, 9, NULL, 0);
+    EXPECT(receive(P2P, third_mac).code == ISIS_GR_REFUSED_NO_ROOM && isis_gr_clear(&g, P2P) == ISIS_GR_OK);
+    EXPECT(isis_gr_tick(&g, 2).lost == 0 && receive(P2P, third_mac).after == ISIS_GR_RECORD_INIT);
+    hello_p2p(&h, frame, sizeof frame, ISIS_GR_LEVEL_BOTH, third, HOLD); /* no three-way TLV */
+    EXPECT(receive(P2P, third_mac).code == ISIS_GR_REFUSED_BAD_TLV);
+    memcpy(id, peer, 6);
+    memcpy(mac, peer_mac, 6);
+    for (n = 0; n < 18; n++) { /* eight neighbours of both levels, and the ninth */
+        id[5] = mac[5] = (uint8_t)(2 + n / 2);
+        lan((uint8_t)(1 + n % 2), id, 64, 0, 1);
+        EXPECT(receive(LAN, mac).code == (n < 16 ? ISIS_GR_OK : ISIS_GR_REFUSED_NO_ROOM));
+    }
+}
+
+/* as many circuits as a gateway has, and one more; the octets of the settings are 17 and 19 a circuit */
+static void eight_circuits(void) {
+    isis_gr_settings s = settings(ISIS_GR_MODE_RESTARTING, 0, 3, 60);
+    size_t i;
+    for (i = 2; i < ISIS_GR_MAX_CIRCUITS; i++) {
+        s.circuits[i] = s.circuits[i % 2];
+    }
+    s.count = ISIS_GR_MAX_CIRCUITS;
+    EXPECT(isis_gr_set_up(&g, &s).hellos == 255);
+    EXPECT(isis_gr_release(&g, ISIS_GR_MAX_CIRCUITS) == ISIS_GR_OK && isis_gr_clear(&g, ISIS_GR_MAX_CIRCUITS + 1) == ISIS_GR_REFUSED_NO_CIRCUIT);
+    s.count = ISIS_GR_MAX_CIRCUITS + 1;
+    EXPECT(isis_gr_set_up(&g, &s).code == ISIS_GR_REFUSED_BAD_SETTING);
+    EXPECT(isis_gr_gateway_words() == ISIS_GR_GATEWAY_WORDS && sizeof g == 8 * ISIS_GR_GATEWAY_WORDS);
+}
+
+int main(void) {
+    twelve_refusals();
+    p2p_record();
+    lan_records();
+    restart_without_neighbours();
+    hello_of_the_last_tick();
+    overload();
+    t1_ends();
+    limits();
+    eight_circuits();
+    puts("every constant and every field of isis_gr.h: as docs/RULES.md has it");
+    return 0;
+}
