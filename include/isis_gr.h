@@ -305,8 +305,9 @@ static inline isis_gr_setting_fault isis_gr_fault(const isis_gr_settings *settin
     return f;
 }
 
-/* Takes one hello frame, from its first octet, 0x83, on: after the LLC's FE FE 03; padding behind the PDU may be lent too. Refused 1 to 9, gateway and reply are as they were. reply has at least 11 octets; its first 11 are written only where
-   the field reply is not ISIS_GR_REPLY_NONE, those past 11 never. */
+/* Takes one hello frame, from its first octet, 0x83, on: after the LLC's FE FE 03; padding behind the PDU may be lent too. Refused 1 to 9,
+   gateway and reply are as they were. reply has at least 11 octets; its first 11 are written only where the field reply is not
+   ISIS_GR_REPLY_NONE, those past 11 never. */
 static inline isis_gr_received isis_gr_receive(isis_gr_gateway *gateway, uint8_t circuit, const uint8_t source[6], const uint8_t *frame,
                                                size_t frame_len, uint8_t *reply, size_t reply_len) {
     isis_gr_raw_received words = isis_gr_raw_receive(gateway->words, circuit, source, frame, frame_len, reply, reply_len);

@@ -358,6 +358,42 @@ static void eight_circuits(void) {
     EXPECT(isis_gr_gateway_words() == ISIS_GR_GATEWAY_WORDS && sizeof g == 8 * ISIS_GR_GATEWAY_WORDS);
 }
 
+/* RULES, "Setup": each setting out of its range, and the circuit that it is of; the first of two is named */
+static void each_setting(void) {
+    const isis_gr_settings good = settings(ISIS_GR_MODE_RUNNING, 0, 3, 60);
+    struct {
+        uint8_t setting, circuit;
+        isis_gr_settings settings;
+    } rows[] = {
+        {ISIS_GR_SETTING_T1, 0, good},    {ISIS_GR_SETTING_T2, 0, good},     {ISIS_GR_SETTING_TRIES, 0, good}, {ISIS_GR_SETTING_MODE, 0, good},
+        {ISIS_GR_SETTING_COUNT, 0, good}, {ISIS_GR_SETTING_KIND, 1, good},   {ISIS_GR_SETTING_LEVELS, 1, good}, {ISIS_GR_SETTING_PRIORITY, 2, good},
+        {ISIS_GR_SETTING_HOLD, 2, good},  {ISIS_GR_SETTING_METRIC, 2, good},
+    };
+    uint8_t octets[ISIS_GR_SETTINGS_OCTETS];
+    size_t i;
+    rows[0].settings.t1 = 0;
+    rows[1].settings.t2 = 0;
+    rows[2].settings.tries = 0;
+    rows[3].settings.mode = 2;
+    rows[4].settings.count = 0;
+    rows[5].settings.circuits[0].kind = 2;
+    rows[6].settings.circuits[0].levels = 0;
+    rows[7].settings.circuits[1].priority = 128;
+    rows[8].settings.circuits[1].hold = 0;
+    rows[9].settings.circuits[1].metric = 16777215;
+    EXPECT(isis_gr_fault(&good).setting == ISIS_GR_SETTING_NONE && isis_gr_fault(&good).circuit == 0);
+    for (i = 0; i < sizeof rows / sizeof rows[0]; i++) {
+        isis_gr_setting_fault fault = isis_gr_fault(&rows[i].settings);
+        EXPECT(fault.setting == rows[i].setting && fault.circuit == rows[i].circuit);
+        EXPECT(isis_gr_set_up(&g, &rows[i].settings).code == ISIS_GR_REFUSED_BAD_SETTING);
+        rows[i].settings.circuits[1].metric = 16777215; /* the last of all */
+        fault = isis_gr_fault(&rows[i].settings);
+        EXPECT(fault.setting == rows[i].setting && fault.circuit == rows[i].circuit);
+    }
+    isis_gr_put_settings(octets, &good);
+    EXPECT(isis_gr_raw_fault(ISIS_GR_LAYOUT + 1, octets) == ISIS_GR_SETTING_VERSION);
+}
+
 int main(void) {
     twelve_refusals();
     p2p_record();
@@ -368,6 +404,7 @@ int main(void) {
     t1_ends();
     limits();
     eight_circuits();
+    each_setting();
     puts("every constant and every field of isis_gr.h: as docs/RULES.md has it");
     return 0;
 }
