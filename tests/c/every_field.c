@@ -358,7 +358,7 @@ static void eight_circuits(void) {
     EXPECT(isis_gr_gateway_words() == ISIS_GR_GATEWAY_WORDS && sizeof g == 8 * ISIS_GR_GATEWAY_WORDS);
 }
 
-/* RULES, "Setup": each setting out of its range, and the circuit that it is of; the first of two is named */
+/* docs/RULES.md, "What the gateway holds": each setting out of its range, and the circuit that it is of; the first of two is named */
 static void each_setting(void) {
     const isis_gr_settings good = settings(ISIS_GR_MODE_RUNNING, 0, 3, 60);
     struct {
