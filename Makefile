@@ -68,7 +68,8 @@ fuzz: archive
 
 # examples/daemon.c against FRR and against itself, in network namespaces of its own; as root, with Debian's frr and tshark
 live: archive
-	@$(MAKE) -s c && tools/live
+	@$(MAKE) -s c
+	@tools/live
 
 # the Rattle kit that the proofs were made with
 kit:

@@ -188,7 +188,8 @@ static void p2p_record(void) {
     EXPECT(r.timers.restart == ISIS_GR_RESTART_NONE && r.t1_end == ISIS_GR_T1_KEPT);
     EXPECT(reply[0] == 211 && reply[1] == 9 && reply[2] == ISIS_GR_REPLY_RA && reply[3] == 0 && reply[4] == 27 && memcmp(reply + 5, peer, 6) == 0);
     l = isis_gr_look_up(&g, P2P, 1, peer, NULL);
-    EXPECT(l.mark == ISIS_GR_MARK_RESTART && l.suppressed == 1 && l.advertised == 0 && l.state == ISIS_GR_RECORD_UP && l.expiry == 137 && l.reverse == 0);
+    EXPECT(l.mark == ISIS_GR_MARK_RESTART && l.suppressed == 1 && l.advertised == 0 && l.state == ISIS_GR_RECORD_UP && l.expiry == 137);
+    EXPECT(l.tlv == 1 && l.reverse == 0);
 
     p2p(HELLO_UP, HELLO_PR, 300); /* line 3: expiry 110 + 300 */
     r = receive(P2P, peer_mac);
