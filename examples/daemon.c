@@ -350,7 +350,7 @@ int main(int n, char **words) {
     settings.circuits[0].id = OWN_CIRCUIT;
     started = isis_gr_set_up(&g, &settings);
     if (started.code != ISIS_GR_OK || isis_gr_gateway_words() != ISIS_GR_GATEWAY_WORDS) {
-        fprintf(stderr, "%s\n", isis_gr_text(started.code));
+        fprintf(stderr, "%s: setting %u\n", isis_gr_text(started.code), isis_gr_fault(&settings).setting);
         return 2;
     }
     say(restarting ? "restarts" : "starts");
