@@ -8,13 +8,15 @@ use mathlib.Core.Bool.{true, false, _||_, or-assoc, true≢false}
 use native.Mathlib.Omega.{arith}
 use native.Mathlib.Nat.{add-zero, pow-zero, pow-suc, not-suc-le-zero, le-of-suc-le-suc, eq-or-lt-of-le}
 use lib.Arith.{le-zero}
+use lib.ListN.{drop}
+use lib.Seq.{getD-take, getD-drop}
 use lib.Dec.{eqb, ltb}
 use borrow.Author.Tests.{eq-eqb, ne-eqb, eqb-true, eqb-false, ltb-true, ltb-false}
 use Rattle.basics.specs.Octets.{octet, big, little}
 use Rattle.basics.proofs.BoolLaws.{by-test}
 use Rattle.basics.proofs.OctetsLaws.{big-mod, big-div, big-lt}
 use Rattle.neighbours.specs.Neighbours.{listedTo}
-use Rattle.neighbours.specs.Search.{digit, turned, fourAt}
+use Rattle.neighbours.specs.Search.{digit, turned, fourAt, part}
 
 -- one MAC more, at octet j
 pub by-one : (m : ℕ) (v : List ℕ) (k j n : ℕ) → j ≡ 6 * k → n ≡ suc k → listedTo m v n ≡ (listedTo m v k || eqb (big 6 v j) m)
@@ -47,6 +49,25 @@ listed-more m v a (suc b) h e =
 
 pub listed-fewer : (m : ℕ) (v : List ℕ) (a b : ℕ) → a ≤ b → listedTo m v b ≡ false → listedTo m v a ≡ false
 listed-fewer m v a b h e = by-test (listedTo m v a) (λ t. absurd (true≢false (sym (listed-more m v a b h t) ∙ e))) (λ t. t)
+
+-- ---- the octets of a part of a PDU
+
+pub big-part : (s : List ℕ) (from n k j : ℕ) → j + k ≤ n → big k (part s from n) j ≡ big k s (from + j)
+unfolding big
+big-part s from n zero j h = refl
+big-part s from n (suc k) j h =
+    let o : octet (part s from n) (j + k) ≡ octet s (from + (j + k)) = getD-take n (drop from s) (j + k) 0 (omega arith) ∙ getD-drop from s (j + k) 0 in
+    let a : from + (j + k) ≡ from + j + k = omega arith in
+    rw (big-part s from n k j (omega arith), o, a)
+
+pub four-part : (s : List ℕ) (from n j i m : ℕ) → j + 26 ≤ n → i ≡ from + j → fourAt s i m ≡ fourAt (part s from n) j m
+unfolding fourAt
+four-part s from n j i m h e =
+    let p : (d : ℕ) → d ≤ 18 → big 6 s (i + d + 2) ≡ big 6 (part s from n) (j + d + 2) = λ d l.
+    let q : i + d + 2 ≡ from + (j + d + 2) = omega arith in
+    ap (big 6 s) q ∙ sym (big-part s from n 6 (j + d + 2) (omega arith)) in
+    let z : big 6 s (i + 2) ≡ big 6 (part s from n) (j + 2) = (let q : i + 2 ≡ from + (j + 2) = omega arith in ap (big 6 s) q ∙ sym (big-part s from n 6 (j + 2) (omega arith))) in
+    rw (z, p 6 (omega arith), p 12 (omega arith), p 18 (omega arith))
 
 -- ---- the octets of a number
 
@@ -110,10 +131,14 @@ module _ (v : List ℕ) (h : (k : ℕ) → octet v k < 256) where
       e ∙ sym (ne-eqb (big 6 v at) m (λ q. eqb-false (little 6 v at) (turned 6 m) e (sym t ∙ ap (turned 6) q))))
 
   -- a number that is no MAC is in no list
-  pub no-mac : (m n : ℕ) → 281474976710656 ≤ m → listedTo m v n ≡ false
+  pub no-mac : (from n m k : ℕ) → 6 * k ≤ n → 281474976710656 ≤ m → listedTo m (part v from n) k ≡ false
   unfolding listedTo
-  no-mac m zero l = refl
-  no-mac m (suc n) l = rw (no-mac m n l, ne-eqb (big 6 v (6 * n)) m (λ e. omega (arith, big-lt v (6 * n) h 6)))
+  no-mac from n m zero b l = refl
+  no-mac from n m (suc k) b l =
+      rw (
+        no-mac from n m k (omega arith) l,
+        ne-eqb (big 6 (part v from n) (6 * k)) m (λ e. omega (arith, big-part v from n 6 (6 * k) (omega arith), big-lt v (from + 6 * k) h 6)),
+      )
 
 -- ---- the comparison
 

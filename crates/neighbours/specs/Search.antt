@@ -4,6 +4,7 @@ use mathlib.Core.Path.{_≡_}
 use mathlib.Core.List.{List}
 use mathlib.Core.Bool.{Bool, _||_}
 use lib.Dec.{eqb}
+use lib.ListN.{take, drop}
 use Rattle.basics.specs.Octets.{big}
 
 -- octet k of a number, the lowest being octet 0
@@ -19,6 +20,10 @@ turned (suc n) m = digit n m + 256 * turned n m
 -- m is a number of six octets, and the search compares with x: 65536 times its octets, the first lowest
 abbrev pub SoughtAs : ℕ → ℕ → Type 0
 SoughtAs m x = (m < 281474976710656) × (x ≡ 65536 * turned 6 m)
+
+-- the n octets of a PDU from a position on
+abbrev pub part : List ℕ → ℕ → ℕ → List ℕ
+part s from n = take n (drop from s)
 
 -- one of the four MACs two octets past a position is the MAC
 unfoldable pub fourAt : List ℕ → ℕ → ℕ → Bool

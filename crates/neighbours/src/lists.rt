@@ -5,9 +5,10 @@ use tlv::tlvs::IS_NEIGHBOURS;
 use tlv::tlvs::find;
 use tlv::tlvs::value_at;
 ghost use mathlib.Core.Path.{_≡_};
+ghost use Prim.Native.Nat.{_≤_};
 ghost use mathlib.Core.Bool.{_||_};
 ghost use lib.ListN.{length};
-ghost use Rattle.tlv.specs.Tlv.{tlvs, ofType};
+ghost use Rattle.tlv.specs.Tlv.{tlvs, ofType, valueAt, nextAt};
 ghost use Rattle.neighbours.specs.Neighbours.{listedIn};
 ghost use Rattle.neighbours.specs.Lists.{listRead};
 
@@ -17,14 +18,15 @@ pub enum ListRead {
     Good(bool),
 }
 
-// Whether the MAC was listed before, or is in this value.
-fn is_listed_here(listed: bool, v: &[u8], mac: u64) -> bool
-    ensures { λ r. ⌜ r ≡ (listed || listedIn mac (now (v .entry))) ⌝ }
+// Whether the MAC was listed before, or is in the value of the TLV at a position.
+fn is_listed_here(listed: bool, pdu: &[u8], at: usize, mac: u64) -> bool
+    requires { ⌜ nextAt (now pdu) at ≤ length (now pdu) ⌝ }
+    ensures { λ r. ⌜ r ≡ (listed || listedIn mac (valueAt (now (pdu .entry)) at)) ⌝ }
 {
     if listed {
         return true;
     }
-    is_listed_in(v, mac)
+    is_listed_in(pdu, at, mac)
 }
 
 // The lists of a PDU whose TLVs start at `from`, of which `count` are lists.
@@ -44,7 +46,7 @@ pub fn read_lists(pdu: &[u8], from: usize, count: usize, mac: u64) -> ListRead
         if v.len() % 6 != 0 {
             return ListRead::Bad;
         }
-        listed = is_listed_here(listed, v, mac);
+        listed = is_listed_here(listed, pdu, p, mac);
         at = p + 2 + v.len();
         left -= 1;
     }

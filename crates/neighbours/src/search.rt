@@ -11,14 +11,16 @@
 use basics::octets::half;
 use basics::octets::word;
 use std::num::wrapping_sub_usize;
+use tlv::tlvs::value_at;
 ghost use mathlib.Core.Path.{_≡_};
 ghost use mathlib.Core.Bool.{false};
-ghost use Prim.Native.Nat.{_+_, _≤_, _<_};
+ghost use Prim.Native.Nat.{_+_, _/_, _≤_, _<_};
 ghost use lib.ListN.{length};
 ghost use lib.Dec.{eqb};
 ghost use Rattle.basics.specs.Octets.{big, little};
 ghost use Rattle.neighbours.specs.Neighbours.{listedTo, listedIn};
-ghost use Rattle.neighbours.specs.Search.{turned, SoughtAs, fourAt};
+ghost use Rattle.tlv.specs.Tlv.{valueAt, nextAt};
+ghost use Rattle.neighbours.specs.Search.{turned, SoughtAs, fourAt, part};
 
 // Numbers from here on are longer than six octets.
 const PAST_MAC: u64 = 281474976710656;
@@ -95,25 +97,29 @@ fn listed_short(v: &[u8], mac: u64, start: usize) -> bool
     false
 }
 
-// The same of a value of five or more, by fours from the end. The second to the fifth are asked last, some of them for the second time.
-fn listed_long(v: &[u8], mac: u64, start: usize) -> bool
-    requires { ⌜ (30 ≤ length (now v)) × (listedTo mac (now v) 1 ≡ false) × SoughtAs mac start ⌝ }
-    ensures { λ r. ⌜ r ≡ listedIn mac (now (v .entry)) ⌝ }
+// The same of a value of five or more, by fours from the end: the `n` octets of a PDU from `from` on. The second to the fifth are asked last,
+// some of them for the second time. Positions are the PDU's own, so that the loop has one number to keep.
+fn listed_long(pdu: &[u8], from: usize, n: usize, mac: u64, start: usize) -> bool
+    requires { ⌜ (30 ≤ n) × (from + n ≤ length (now pdu)) × (listedTo mac (part (now pdu) from n) 1 ≡ false) × SoughtAs mac start ⌝ }
+    ensures { λ r. ⌜ r ≡ listedTo mac (part (now (pdu .entry)) from n) (n / 6) ⌝ }
 {
-    let mut i = v.len() - v.len() % 6;
-    while 30 < i {
-        if one_of_four(v, i - 26, mac, start) {
+    let fifth = from + 30;
+    let mut i = from + (n - n % 6);
+    while fifth < i {
+        if one_of_four(pdu, i - 26, mac, start) {
             return true;
         }
         i -= 24;
     }
-    one_of_four(v, 4, mac, start)
+    one_of_four(pdu, from + 4, mac, start)
 }
 
-// Whether the MAC is one of those in a value. Octets past the last whole six are no MAC.
-pub fn is_listed_in(v: &[u8], mac: u64) -> bool
-    ensures { λ r. ⌜ r ≡ listedIn mac (now (v .entry)) ⌝ }
+// Whether the MAC is one of those in the value of the TLV at a position. Octets past the last whole six are no MAC.
+pub fn is_listed_in(pdu: &[u8], at: usize, mac: u64) -> bool
+    requires { ⌜ nextAt (now pdu) at ≤ length (now pdu) ⌝ }
+    ensures { λ r. ⌜ r ≡ listedIn mac (valueAt (now (pdu .entry)) at) ⌝ }
 {
+    let v = value_at(pdu, at);
     if v.len() < 6 {
         return false;
     }
@@ -127,5 +133,5 @@ pub fn is_listed_in(v: &[u8], mac: u64) -> bool
     if v.len() < 30 {
         return listed_short(v, mac, start);
     }
-    listed_long(v, mac, start)
+    listed_long(pdu, at + 2, v.len(), mac, start)
 }

@@ -45,7 +45,7 @@ returns-2 : tie.Need-returns-2 Inv-loop μ-loop
 returns-2 c = sym (c .before .before .before .before .before .before .before .loop .inv .1 ∙ ap (listOn _ _) (turn-list (got (c .before .before .before)) (c .before .value-at .ensures)) ∙ list-bad _ _ _ _ (c .if1 .taken))
 
 is-listed-here-requires : tie.Need-is-listed-here-requires Inv-loop μ-loop
-is-listed-here-requires c κs = search needs
+is-listed-here-requires c κs = got (c .before .before .before) .within
 
 add-at : tie.Need-add-at Inv-loop μ-loop
 add-at c = omega (arith, turn-within (got (c .before .before .before .before)) (c .before .before .value-at .ensures))
@@ -62,7 +62,7 @@ loop-less c = omega arith
 loop-again : tie.Need-loop-again Inv-loop μ-loop
 loop-again c =
     let e = turn-list (got (c .before .before .before .before)) (c .before .before .value-at .ensures) in
-    (omega (arith, ap length e), rw (c .is-listed-here .ensures) (c .before .before .before .before .before .before .before .before .loop .inv .1 ∙ ap (listOn _ _) e ∙ list-next _ _ _ _ (c .before .if1 .left)))
+    (omega (arith, ap length e), rw (c .is-listed-here .ensures, ← c .before .before .value-at .ensures) (c .before .before .before .before .before .before .before .before .loop .inv .1 ∙ ap (listOn _ _) e ∙ list-next _ _ _ _ (c .before .if1 .left)))
 
 returns-3 : tie.Need-returns-3 Inv-loop μ-loop
 returns-3 c = sym (c .before .loop .inv .1 ∙ list-end _ _ _ (omega arith))
