@@ -1,20 +1,11 @@
 /* Uses every function of isis_gr.h once or more: sample runs of document 01, and what a refusal leaves. Prints the first thing that differs. */
 #include "isis_gr.h"
 
-#include <stdio.h>
-#include <stdlib.h>
+#include "expect.h"
 
 static const uint8_t own_id[6] = {0x19, 0x21, 0x68, 0x00, 0x10, 0x01};
 static const uint8_t neighbour[6] = {0x19, 0x21, 0x68, 0x00, 0x10, 0x02};
 static const uint8_t source[6] = {2, 0, 0, 0, 0, 2};
-
-#define EXPECT(what)                                                             \
-    do {                                                                         \
-        if (!(what)) {                                                           \
-            fprintf(stderr, "%s:%d: not so: %s\n", __FILE__, __LINE__, #what);   \
-            exit(1);                                                             \
-        }                                                                        \
-    } while (0)
 
 static isis_gr_settings settings(uint8_t mode, uint32_t clock) {
     isis_gr_settings s;

@@ -5,16 +5,7 @@
 
 #include "hello.h"
 
-#include <stdio.h>
-#include <stdlib.h>
-
-#define EXPECT(what)                                                           \
-    do {                                                                       \
-        if (!(what)) {                                                         \
-            fprintf(stderr, "%s:%d: not so: %s\n", __FILE__, __LINE__, #what); \
-            exit(1);                                                           \
-        }                                                                      \
-    } while (0)
+#include "expect.h"
 
 static const uint8_t us[6] = {0x19, 0x21, 0x68, 0x00, 0x10, 0x01};
 static const uint8_t peer[6] = {0x19, 0x21, 0x68, 0x00, 0x10, 0x02};
