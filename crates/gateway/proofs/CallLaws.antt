@@ -38,7 +38,7 @@ use Rattle.control.specs.Common.{Common}
 use Rattle.control.proofs.CommonLaws.{circuits-length}
 use Rattle.control.specs.Timing.{CommonSettles, CommonTicks}
 use Rattle.adjacency.specs.Keys.{keyOn}
-use Rattle.model.specs.Numbers.{refusalNo, lowestNo}
+use Rattle.model.specs.Numbers.{refusalNo, someWaits, lowestNo}
 use Rattle.model.specs.Answers.{Answer, Refused, Ticked, Told, Fact, Done, Noticed, Looked, Metric, HelloFlags, Waits, timersAnswer, recordAnswer, lostBits}
 use Rattle.model.specs.Gateway.{Gateway, Room, withSlots, withRooms, withCommon, noRoom, renew, roomOf}
 use Rattle.model.specs.Receive.{Acted, refuse}
@@ -264,9 +264,9 @@ module _ (ws : List ℕ) where
           })
 
   -- circuits that wait for T1
-  pub waits : (k : ℕ) (low : Lowest) → k ≡ countRuns (cs .timers .t1s) → low ≡ firstRuns (cs .timers .t1s) 1 → Meets (Told (Waits k (lowestNo low))) (step gw (Over Waiting)) ws ws []
+  pub waits : (k : ℕ) (low : Lowest) → k ≡ countRuns (cs .timers .t1s) → low ≡ firstRuns (cs .timers .t1s) 1 → Meets (Told (Waits k (someWaits low) (lowestNo low))) (step gw (Over Waiting)) ws ws []
   unfolding step judge carry gatewayOf
-  waits k low e f = record { answer = λ i. Told (Waits (e i) (lowestNo (f i))); reply = refl; next = refl; kept = λ x y. refl }
+  waits k low e f = record { answer = λ i. Told (Waits (e i) (someWaits (f i)) (lowestNo (f i))); reply = refl; next = refl; kept = λ x y. refl }
 
 pub lapsed-at : (ws : List ℕ) (clock i : ℕ) → i < circuits → (any : Bool) (t : List ℕ) → Sweeps (expiredBy clock) (tableOf (part (roomPlace i) (roomPlace i + roomWords - roomPlace i) ws)) (tableOf t) any
     → length ws ≡ gatewayWords → length t ≡ roomPlace i + roomWords - roomPlace i

@@ -98,7 +98,7 @@ fact-code (Noticed t) = omega arith
 fact-code (Looked r) = omega arith
 fact-code (Metric n) = omega arith
 fact-code (HelloFlags flags) = omega arith
-fact-code (Waits count lowest) = omega arith
+fact-code (Waits count some lowest) = omega arith
 
 -- of every word; every refusal's number is below 256
 pub code : (a : Answer) → numberOf a < 256 → answerNo a % 256 ≡ numberOf a
@@ -205,6 +205,7 @@ module _ (s : State) (shown : Bool) (low : lastOf s .priority < 256) where
       (omega arith, omega arith, omega arith, omega arith, omega arith, omega arith, omega arith, omega arith)
 
 -- the circuits that wait: at most all of them
-pub waiting-parts : (count lowest : ℕ) → count < 256
-    → (answerNo (Told (Waits count lowest)) / 2 ^ 8 % 256 ≡ count) × (answerNo (Told (Waits count lowest)) / 2 ^ 16 ≡ lowest)
-waiting-parts count lowest h = (omega arith, omega arith)
+pub waiting-parts : (count : ℕ) (some : Bool) (lowest : ℕ) → count < 256
+    → let w = answerNo (Told (Waits count some lowest)) in
+    (w / 2 ^ 8 % 256 ≡ count) × (w / 2 ^ 16 ≡ lowest)
+waiting-parts count some lowest h = (omega arith, omega arith)

@@ -56,7 +56,7 @@ t1s-length : (ws : List ℕ) → length (gatewayOf ws .common .timers .t1s) ≡ 
 unfolding gatewayOf commonOf timersOf
 t1s-length ws = length-joined (t1Bits _) _ ∙ length-bits _
 
-pub waiting-le : {count lowest : ℕ} {ws : List ℕ} → Meets (Told (Waits count lowest)) (step (gatewayOf ws) (Over WaitingCall)) ws ws [] → count ≤ circuits
+pub waiting-le : {count lowest : ℕ} {some : Bool} {ws : List ℕ} → Meets (Told (Waits count some lowest)) (step (gatewayOf ws) (Over WaitingCall)) ws ws [] → count ≤ circuits
 unfolding step judge carry
 waiting-le {count} {ws = ws} m =
     let e : count ≡ countRuns (gatewayOf ws .common .timers .t1s) = cc (m .answer) in

@@ -34,7 +34,7 @@ factNo (Noticed t) = 2 ^ 32 * timersNo t
 factNo (Looked r) = 2 ^ 8 * r .state + 2 ^ 16 * bitOf (r .advertised)
 factNo (Metric n) = 2 ^ 32 * n
 factNo (HelloFlags flags) = 2 ^ 8 * flags
-factNo (Waits count lowest) = 2 ^ 8 * count + 2 ^ 16 * lowest
+factNo (Waits count some lowest) = 2 ^ 8 * count + 2 ^ 16 * lowest
 
 -- ---- the answers
 
@@ -85,7 +85,7 @@ foundWords (Told (Noticed t)) ws = ws
 foundWords (Told (Looked r)) ws = cond (eqb (r .state) 0) ws (recordWords r)
 foundWords (Told (Metric n)) ws = ws
 foundWords (Told (HelloFlags flags)) ws = ws
-foundWords (Told (Waits count lowest)) ws = ws
+foundWords (Told (Waits count some lowest)) ws = ws
 
 -- ---- what is given to setup
 

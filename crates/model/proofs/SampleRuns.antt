@@ -21,7 +21,7 @@ use Rattle.timer_parts.specs.Heard.{acknowledges, heardTlv, heardOf}
 use Rattle.timer_parts.specs.T1.{startEntry, due, helloDue, tickT1, done, satisfied, acknowledged, heardT1, freedBy}
 use Rattle.timer_parts.specs.T2.{startTimer, startT2s, anyT2, anyAfter, cancelT2, cancelBoth, expireT2, expireBoth, spfDue}
 use Rattle.timer_parts.specs.T3.{lowerT3, heardT3, expiresT3, expiredT3}
-use Rattle.timers.specs.Timers.{withT1s, withT2s, withT3, anyRuns, noT1, atT1, tickT1s, expireT2s, waits, cancelT2s, tickT3, finish, closed, settled, toT3, heardIn}
+use Rattle.timers.specs.Timers.{withT1s, withT2s, withT3, anyRuns, countRuns, firstRuns, noT1, atT1, tickT1s, expireT2s, waits, cancelT2s, tickT3, finish, closed, settled, toT3, heardIn}
 use Rattle.timers.specs.Outcome.{overloadOf, overloadDue, outcomeWith, outcomeOf, ordered, tickHellos, heardFreed}
 use Rattle.timers.specs.Events.{startHead, startT1, startHellos, started}
 use Rattle.basics.specs.Lists.{every, some}
@@ -37,8 +37,8 @@ use Rattle.model.specs.SampleRuns.{SampleRuns}
 use Rattle.model.specs.SampleCalls.{SampleCalls}
 
 rows : SampleRuns × SampleCalls
-unfolding ones big hasBits octetsOf tlvs tlvsUp cutAt ofType loneFault unless counted without invalid needsNeighbor needsTime leastLength restartBad restartWith timeOf neighborOf restartOctets layoutOf notHello badLength threeWayBad threeWayLength stateOf identifiersOf reverseBad reverseOf faultOn earlier ruleFault tlvsRead pduRead layoutRead helloRead wrongSource wrongId wrongNeighbor linkStep keptUp stepOf planned lineBy lineOf dataBy acceptedBy lineIn reactOf csnpsOf sameKey find has full crowded replace insert put sweep firstState emptyRoom heldTo bitsOf acknowledges heardTlv heardOf startEntry due helloDue tickT1 done satisfied acknowledged heardT1 freedBy startTimer startT2s anyT2 anyAfter cancelT2 cancelBoth expireT2 expireBoth spfDue lowerT3 heardT3 expiresT3 expiredT3 withT1s withT2s withT3 anyRuns noT1 atT1 tickT1s expireT2s waits cancelT2s tickT3 finish closed settled toT3 heardIn overloadOf overloadDue outcomeWith outcomeOf ordered tickHellos heardFreed startHead startT1 startHellos started every some circuitOk lengthsOk settingsOk enabledLevels circuitOf setupCommon keyOn ifRoom decided kept written csnpsIn numbered renew recordAt newGateway setup refuse accepted reacted decidedIn checked readIn receive csnpComplete lookUp linkMetricOf act lift on noneOf tickOf databaseOf judge carry step trace leftBy callsOf seenBy
-rows = ((refl, refl, (refl, refl), refl, (refl, refl, refl)), (refl, refl, refl, refl, refl, (refl, refl)))
+unfolding ones big hasBits octetsOf tlvs tlvsUp cutAt ofType loneFault unless counted without invalid needsNeighbor needsTime leastLength restartBad restartWith timeOf neighborOf restartOctets layoutOf notHello badLength threeWayBad threeWayLength stateOf identifiersOf reverseBad reverseOf faultOn earlier ruleFault tlvsRead pduRead layoutRead helloRead wrongSource wrongId wrongNeighbor linkStep keptUp stepOf planned lineBy lineOf dataBy acceptedBy lineIn reactOf csnpsOf sameKey find has full crowded replace insert put sweep firstState emptyRoom heldTo bitsOf acknowledges heardTlv heardOf startEntry due helloDue tickT1 done satisfied acknowledged heardT1 freedBy startTimer startT2s anyT2 anyAfter cancelT2 cancelBoth expireT2 expireBoth spfDue lowerT3 heardT3 expiresT3 expiredT3 withT1s withT2s withT3 anyRuns countRuns firstRuns noT1 atT1 tickT1s expireT2s waits cancelT2s tickT3 finish closed settled toT3 heardIn overloadOf overloadDue outcomeWith outcomeOf ordered tickHellos heardFreed startHead startT1 startHellos started every some circuitOk lengthsOk settingsOk enabledLevels circuitOf setupCommon keyOn ifRoom decided kept written csnpsIn numbered renew recordAt newGateway setup refuse accepted reacted decidedIn checked readIn receive csnpComplete lookUp linkMetricOf act lift on noneOf tickOf databaseOf judge carry step trace leftBy callsOf seenBy
+rows = ((refl, refl, (refl, refl), refl, (refl, refl, refl)), (refl, refl, refl, refl, refl, (refl, refl), (refl, refl)))
 
 pub sample-runs : SampleRuns
 sample-runs = rows .0

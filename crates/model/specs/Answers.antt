@@ -20,7 +20,7 @@ use Rattle.timers.specs.Events.{helloBits}
 use Rattle.timers.specs.declared.outcome.Overload.the-variants.{Quiet}
 use Rattle.timers.specs.declared.outcome.TimerOutcome.{TimerOutcome}
 use Rattle.timers.specs.declared.outcome.TimerOutcome.the-variants.{Idle, Goes, Ended}
-use Rattle.model.specs.Numbers.{refusalNo, replyFlags, replyTime, lowestNo, levelsNo, csnpsNo, freedNo, overloadNo, restartNo, markNo, phaseNo, stateNo}
+use Rattle.model.specs.Numbers.{refusalNo, replyFlags, replyTime, someWaits, lowestNo, levelsNo, isOrdered, csnpsNo, freedNo, overloadNo, restartNo, markNo, phaseNo, stateNo}
 use Rattle.model.specs.declared.answers.Change.{Change}
 use Rattle.model.specs.declared.answers.Orders.{Orders}
 use Rattle.model.specs.declared.answers.Received.{Received as ReceivedCode}
@@ -55,11 +55,12 @@ pub record ChangeAnswer : Type 0 where
   pub after : ℕ
   pub advertised : Bool
 
--- an accepted frame: the reply's flags and Remaining Time, the levels of line 1's order, T1's end for want of a Restart TLV, the timers, and the
--- frame's record
+-- an accepted frame: the reply's flags and Remaining Time, whether line 1 orders CSNPs and the levels of its order, T1's end for want of a
+-- Restart TLV, the timers, and the frame's record
 pub record FrameAnswer : Type 0 where
   pub reply : ℕ
   pub time : ℕ
+  pub ordered : Bool
   pub csnps : ℕ
   pub freed : ℕ
   pub timers : TimersAnswer
@@ -86,7 +87,7 @@ pub data Fact : Type 0 where
   Looked : RecordAnswer → Fact
   Metric : ℕ → Fact
   HelloFlags : (flags : ℕ) → Fact
-  Waits : (count lowest : ℕ) → Fact
+  Waits : (count : ℕ) (some : Bool) (lowest : ℕ) → Fact
 
 -- "A refusal returns its number only". Of a tick, lost: the circuits that lost a record; hellos: those whose hello is ordered; circuit 1
 -- first.
@@ -119,6 +120,7 @@ frameAnswer o =
     record {
       reply = replyFlags (o .reply);
       time = replyTime (o .reply);
+      ordered = isOrdered (o .csnps);
       csnps = csnpsNo (o .csnps);
       freed = freedNo (o .freed);
       timers = timersAnswer (o .outcome);
@@ -229,4 +231,4 @@ flagsOf (RefusedFlags x) = Refused (refusalNo x)
 flagsOf (Next f) = Told (HelloFlags (f .bits))
 
 abbrev pub waitingOf : Waiting → Answer
-waitingOf w = Told (Waits (w .count) (lowestNo (w .lowest)))
+waitingOf w = Told (Waits (w .count) (someWaits (w .lowest)) (lowestNo (w .lowest)))

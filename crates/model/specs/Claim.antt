@@ -95,7 +95,7 @@ withoutLost n (Told f) = Told f
 
 -- ".. but for line 1's orders"
 abbrev pub withoutCsnps : FrameAnswer → FrameAnswer
-withoutCsnps f = record { reply = f .reply; time = f .time; csnps = 0; freed = f .freed; timers = f .timers; change = f .change }
+withoutCsnps f = record { reply = f .reply; time = f .time; ordered = false; csnps = 0; freed = f .freed; timers = f .timers; change = f .change }
 
 unfoldable pub unordered : Answer → Answer
 unordered (Received f) = Received (withoutCsnps f)

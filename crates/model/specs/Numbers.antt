@@ -3,7 +3,7 @@
 -- read"); the others are house. Every promise of crates gateway and isis_gr goes by this table, through Answers.
 use Prim.Native.Nat.{ℕ, _+_, _*_}
 use mathlib.Core.List.{List, [], _∷_}
-use mathlib.Core.Bool.{Bool}
+use mathlib.Core.Bool.{Bool, true, false}
 use Rattle.basics.specs.Bits.{bitOf}
 use Rattle.basics.specs.declared.levels.Levels.{Levels}
 use Rattle.basics.specs.declared.mask.Lowest.{Lowest}
@@ -55,7 +55,11 @@ abbrev pub replyTime : Acknowledgement → ℕ
 replyTime NoReply = 0
 replyTime (Send ack time) = time
 
--- "the lowest such circuit (or none)": 0 for none
+-- "the lowest such circuit (or none)": whether there is one, and its number; 0 for none
+abbrev pub someWaits : Lowest → Bool
+someWaits NoneWaits = false
+someWaits (Circuit n) = true
+
 abbrev pub lowestNo : Lowest → ℕ
 lowestNo NoneWaits = 0
 lowestNo (Circuit n) = n
@@ -66,7 +70,11 @@ lowestNo (Circuit n) = n
 abbrev pub levelsNo : Levels → ℕ
 levelsNo l = bitOf (l .one) + 2 * bitOf (l .two)
 
--- the levels of line 1's order
+-- whether line 1 orders CSNPs, and the levels of its order
+abbrev pub isOrdered : Csnps → Bool
+isOrdered NoCsnps = false
+isOrdered (Ordered l) = true
+
 abbrev pub csnpsNo : Csnps → ℕ
 csnpsNo NoCsnps = 0
 csnpsNo (Ordered l) = levelsNo l

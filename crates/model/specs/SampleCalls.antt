@@ -5,10 +5,10 @@ use mathlib.Core.Path.{_≡_}
 use mathlib.Core.Bool.{Bool, true, false}
 use mathlib.Core.List.{List, [], _∷_, map}
 use lib.ListN.{length, replicate, set}
-use Rattle.settings.specs.declared.mode.Mode.the-variants.{Running}
+use Rattle.settings.specs.declared.mode.Mode.the-variants.{Running, Restarting}
 use Rattle.model.specs.Answers.{Answer, Refused, Received, Ticked, Told, Done, Noticed, Looked, Metric, HelloFlags, Waits, numberOf}
 use Rattle.model.specs.Gateway.{Gateway, Refused as RefusedSetup, setup}
-use Rattle.model.specs.Step.{Call, At, Over, Receive, Clear, CsnpComplete, LookUp, LinkMetric, Tick, DatabaseComplete, step}
+use Rattle.model.specs.Step.{Call, At, Over, Receive, Clear, CsnpComplete, LookUp, LinkMetric, Tick, DatabaseComplete, Waiting, step}
 use Rattle.model.specs.Trace.{Turn, trace, after}
 use Rattle.model.specs.SampleFrames.{settings, frameOf, frameWith, hello, row, lentOctets, callsOf, From}
 
@@ -124,7 +124,7 @@ shown (Told Done) = (0, false)
 shown (Told (Noticed t)) = (0, false)
 shown (Told (Metric n)) = (0, false)
 shown (Told (HelloFlags n)) = (0, false)
-shown (Told (Waits n m)) = (0, false)
+shown (Told (Waits n some m)) = (0, false)
 shown (Refused n) = (0, false)
 shown (Received f) = (0, false)
 shown (Ticked lost hellos t) = (0, false)
@@ -152,5 +152,11 @@ Clears =
     × (map shown (answers (trace g (At 1 Clear ∷ looking ∷ receive (hello 2 (0 ∷ [])) ∷ looking ∷ [])))
     ≡ (0, false) ∷ (0, false) ∷ (0, false) ∷ (1, false) ∷ []))
 
+-- "how many circuits still wait for T1, and the lowest such circuit (or none)": circuit 1 in the mode Restarting, none in Running
+abbrev pub Waitings : Type 0
+Waitings =
+    From (setup (settings Restarting 10 80)) (λ g. step g (Over Waiting) .answer ≡ Told (Waits 1 true 1))
+    × OnSample (λ g. step g (Over Waiting) .answer ≡ Told (Waits 0 false 0))
+
 abbrev pub SampleCalls : Type 0
-SampleCalls = EachNumber × FirstOfTwo × Twelve × Ticks × Advertised × Clears
+SampleCalls = EachNumber × FirstOfTwo × Twelve × Ticks × Advertised × Clears × Waitings

@@ -6,7 +6,7 @@ use mathlib.Core.Bool.{true, false}
 use mathlib.Core.Path.{_≡_}
 use mathlib.Core.List.{List, [], _∷_, _++_, map}
 use lib.ListN.{replicate}
-use lib.Dec.{eqb}
+use lib.Dec.{eqb, ltb}
 use Rattle.hello.specs.declared.reverse.ReverseMetric.the-variants.{Absent as NoMetric}
 use Rattle.adjacency.specs.declared.record.Adjacency.{Adjacency}
 use Rattle.adjacency.specs.declared.record.Adjacency.the-variants.{Present}
@@ -50,7 +50,7 @@ up expiry mark = Present (Up (kept expiry) mark)
 abbrev pub octets : ℕ → ℕ → ℕ → List ℕ
 octets flag high low = 0xD3 ∷ 0x09 ∷ flag ∷ high ∷ low ∷ 0x19 ∷ 0x21 ∷ 0x68 ∷ 0x00 ∷ 0x10 ∷ 0x02 ∷ 0xFF ∷ []
 
--- the flags and the Remaining Time of the reply, the levels of line 1's order (3 for both), the record's state before and after (0 none, 1 INIT,
+-- the flags and the Remaining Time of the reply, the levels of line 1's order (3 for both, 0 without an order), the record's state before and after (0 none, 1 INIT,
 -- 2 UP; none is suppressed), whether the restart goes on (1)
 abbrev pub accepted : ℕ → ℕ → ℕ → ℕ → ℕ → ℕ → Answer
 accepted flags time csnps before after restart =
@@ -58,6 +58,7 @@ accepted flags time csnps before after restart =
     (record {
       reply = flags;
       time = time;
+      ordered = ltb 0 csnps;
       csnps = csnps;
       freed = 0;
       timers = record { restart = restart; spf = 0; overload = 0 };

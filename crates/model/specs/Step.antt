@@ -26,7 +26,7 @@ use Rattle.control.specs.Common.{Common, withClock, withTimers, circuitOf}
 use Rattle.settings.specs.declared.circuit.Chosen.{Chosen}
 use Rattle.settings.specs.declared.circuit.Chosen.the-variants.{Known, Unknown}
 use Rattle.adjacency.specs.Keys.{keyOn}
-use Rattle.model.specs.Numbers.{refusalNo, lowestNo}
+use Rattle.model.specs.Numbers.{refusalNo, someWaits, lowestNo}
 use Rattle.model.specs.Answers.{Answer, Refused as RefusedAnswer, Ticked, Told, Fact, Done, Noticed, Looked, Metric, HelloFlags, Waits, TimersAnswer, timersAnswer, recordAnswer}
 use Rattle.model.specs.Gateway.{Room, Gateway, withSlots, roomOf, renew}
 use Rattle.model.specs.Receive.{Acted, refuse, receive}
@@ -169,7 +169,7 @@ databaseOf level c =
 
 -- "how many circuits still wait for T1, and the lowest such circuit (or none)"
 abbrev pub waitsOf : Timers → Fact
-waitsOf t = Waits (countRuns (t .t1s)) (lowestNo (firstRuns (t .t1s) 1))
+waitsOf t = let low = firstRuns (t .t1s) 1 in Waits (countRuns (t .t1s)) (someWaits low) (lowestNo low)
 
 unfoldable pub judge : Common → Global → Judged
 judge c (Tick clock) = tickOf clock c

@@ -1,4 +1,4 @@
--- Laws of the search for a MAC, for the proofs of this crate: it may go by one MAC or by four, and a MAC is told by its octets
+-- Laws of the search for a MAC, for the proofs of this crate: it may go by one MAC, by four or by eight, and a MAC is told by its octets
 -- in either order.
 use Prim.Native.Nat.{ℕ, zero, suc, _+_, _*_, _/_, _%_, _^_, _<_, _≤_}
 use mathlib.Core.Path.{_≡_, refl, sym, ap, _∙_}
@@ -16,41 +16,9 @@ use Rattle.basics.specs.Octets.{octet, big, little}
 use Rattle.basics.proofs.BoolLaws.{by-test}
 use Rattle.basics.proofs.OctetsLaws.{big-mod, big-div, big-lt}
 use Rattle.neighbours.specs.Neighbours.{listedTo}
-use Rattle.neighbours.specs.Search.{digit, turned, fourAt, part}
+use Rattle.neighbours.specs.Search.{digit, turned, fourAt, eightAt, part}
 
--- one MAC more, at octet j
-pub by-one : (m : ℕ) (v : List ℕ) (k j n : ℕ) → j ≡ 6 * k → n ≡ suc k → listedTo m v n ≡ (listedTo m v k || eqb (big 6 v j) m)
-unfolding listedTo
-by-one m v k j n p q = rw (p, q)
-
--- the first MAC
-pub first-one : (m : ℕ) (v : List ℕ) → listedTo m v 1 ≡ eqb (big 6 v 0) m
-unfolding listedTo
-first-one m v = refl
-
--- four MACs more, two octets past j
-pub by-four : (m : ℕ) (v : List ℕ) (k j n : ℕ) → j + 2 ≡ 6 * k → n ≡ k + 4 → listedTo m v n ≡ (listedTo m v k || fourAt v j m)
-unfolding fourAt
-by-four m v k j n p q =
-    rw (
-      by-one m v (k + 3) (j + 18 + 2) n (omega arith) (omega arith),
-      by-one m v (k + 2) (j + 12 + 2) (k + 3) (omega arith) (omega arith),
-      by-one m v (k + 1) (j + 6 + 2) (k + 2) (omega arith) (omega arith),
-      by-one m v k (j + 2) (k + 1) p (omega arith),
-    )
-    (simp or-assoc)
-
--- what is listed among fewer is listed among more
-pub listed-more : (m : ℕ) (v : List ℕ) (a b : ℕ) → a ≤ b → listedTo m v a ≡ true → listedTo m v b ≡ true
-unfolding listedTo
-listed-more m v a zero h e = rw (le-zero h) at e
-listed-more m v a (suc b) h e =
-    ⊎-elim (λ q. rw q at e) (λ l. rw (listed-more m v a b (le-of-suc-le-suc l) e)) (eq-or-lt-of-le h)
-
-pub listed-fewer : (m : ℕ) (v : List ℕ) (a b : ℕ) → a ≤ b → listedTo m v b ≡ false → listedTo m v a ≡ false
-listed-fewer m v a b h e = by-test (listedTo m v a) (λ t. absurd (true≢false (sym (listed-more m v a b h t) ∙ e))) (λ t. t)
-
--- ---- the octets of a part of a PDU
+-- ---- MACs of a part of a PDU
 
 pub big-part : (s : List ℕ) (from n k j : ℕ) → j + k ≤ n → big k (part s from n) j ≡ big k s (from + j)
 unfolding big
@@ -60,14 +28,37 @@ big-part s from n (suc k) j h =
     let a : from + (j + k) ≡ from + j + k = omega arith in
     rw (big-part s from n k j (omega arith), o, a)
 
-pub four-part : (s : List ℕ) (from n j i m : ℕ) → j + 26 ≤ n → i ≡ from + j → fourAt s i m ≡ fourAt (part s from n) j m
-unfolding fourAt
-four-part s from n j i m h e =
-    let p : (d : ℕ) → d ≤ 18 → big 6 s (i + d + 2) ≡ big 6 (part s from n) (j + d + 2) = λ d l.
-    let q : i + d + 2 ≡ from + (j + d + 2) = omega arith in
-    ap (big 6 s) q ∙ sym (big-part s from n 6 (j + d + 2) (omega arith)) in
-    let z : big 6 s (i + 2) ≡ big 6 (part s from n) (j + 2) = (let q : i + 2 ≡ from + (j + 2) = omega arith in ap (big 6 s) q ∙ sym (big-part s from n 6 (j + 2) (omega arith))) in
-    rw (z, p 6 (omega arith), p 12 (omega arith), p 18 (omega arith))
+module _ (m : ℕ) (s : List ℕ) (from n : ℕ) where
+  -- one MAC more, two octets past i
+  pub by-one : (k k′ i : ℕ) → i + 2 ≡ from + 6 * k → k′ ≡ suc k → 6 * k′ ≤ n
+      → listedTo m (part s from n) k′ ≡ (listedTo m (part s from n) k || eqb (big 6 s (i + 2)) m)
+  unfolding listedTo
+  by-one k k′ i p q h = rw (q, big-part s from n 6 (6 * k) (omega arith), ← p)
+
+  -- four more, and eight
+  pub by-four : (k k′ i : ℕ) → i + 2 ≡ from + 6 * k → k′ ≡ k + 4 → 6 * k′ ≤ n
+      → listedTo m (part s from n) k′ ≡ (listedTo m (part s from n) k || fourAt s i m)
+  unfolding fourAt
+  by-four k k′ i p q h =
+      rw (
+        by-one (k + 3) k′ (i + 18) (omega arith) (omega arith) h,
+        by-one (k + 2) (k + 3) (i + 12) (omega arith) (omega arith) (omega arith),
+        by-one (k + 1) (k + 2) (i + 6) (omega arith) (omega arith) (omega arith),
+        by-one k (k + 1) i p (omega arith) (omega arith),
+      )
+      (simp or-assoc)
+
+  pub by-eight : (k k′ i : ℕ) → i + 2 ≡ from + 6 * k → k′ ≡ k + 8 → 6 * k′ ≤ n
+      → listedTo m (part s from n) k′ ≡ (listedTo m (part s from n) k || eightAt s i m)
+  unfolding eightAt
+  by-eight k k′ i p q h = rw (by-four (k + 4) k′ (i + 24) (omega arith) (omega arith) h, by-four k (k + 4) i p refl (omega arith)) (simp or-assoc)
+
+-- what is listed among fewer is listed among more
+pub listed-more : (m : ℕ) (v : List ℕ) (a b : ℕ) → a ≤ b → listedTo m v a ≡ true → listedTo m v b ≡ true
+unfolding listedTo
+listed-more m v a zero h e = rw (le-zero h) at e
+listed-more m v a (suc b) h e =
+    ⊎-elim (λ q. rw q at e) (λ l. rw (listed-more m v a b (le-of-suc-le-suc l) e)) (eq-or-lt-of-le h)
 
 -- ---- the octets of a number
 
@@ -149,9 +140,3 @@ told-above x r s l t e ls lt lr w =
     by-test (ltb r 65536)
     (λ b. b ∙ sym (eq-eqb l t (let k : r < 65536 = ltb-true r 65536 b in omega arith)))
     (λ b. b ∙ sym (ne-eqb l t (λ q. let k : 65536 ≤ r = ltb-false r 65536 b in omega arith)))
-
-pub told-times : (x y t : ℕ) → y ≡ 65536 * t → eqb (65536 * x) y ≡ eqb x t
-told-times x y t e =
-    by-test (eqb x t)
-    (λ q. eq-eqb (65536 * x) y (let k : x ≡ t = eqb-true x t q in omega arith) ∙ sym q)
-    (λ q. ne-eqb (65536 * x) y (λ k. eqb-false x t q (omega arith)) ∙ sym q)

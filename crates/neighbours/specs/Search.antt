@@ -29,3 +29,7 @@ part s from n = take n (drop from s)
 unfoldable pub fourAt : List ℕ → ℕ → ℕ → Bool
 fourAt v at m =
     eqb (big 6 v (at + 2)) m || (eqb (big 6 v (at + 6 + 2)) m || (eqb (big 6 v (at + 12 + 2)) m || eqb (big 6 v (at + 18 + 2)) m))
+
+-- one of the eight there is the MAC
+unfoldable pub eightAt : List ℕ → ℕ → ℕ → Bool
+eightAt v at m = fourAt v at m || fourAt v (at + 24) m

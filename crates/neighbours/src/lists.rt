@@ -18,19 +18,35 @@ pub enum ListRead {
     Good(bool),
 }
 
-// Whether the MAC was listed before, or is in the value of the TLV at a position.
-fn is_listed_here(listed: bool, pdu: &[u8], at: usize, mac: u64) -> bool
-    requires { ⌜ nextAt (now pdu) at ≤ length (now pdu) ⌝ }
+// Whether the MAC was listed before, or is in the value of the TLV from `at` to `next`.
+fn is_listed_here(listed: bool, pdu: &[u8], at: usize, next: usize, mac: u64) -> bool
+    requires { ⌜ (next ≡ nextAt (now pdu) at) × (next ≤ length (now pdu)) ⌝ }
     ensures { λ r. ⌜ r ≡ (listed || listedIn mac (valueAt (now (pdu .entry)) at)) ⌝ }
 {
     if listed {
         return true;
     }
-    is_listed_in(pdu, at, mac)
+    is_listed_in(pdu, at, next, mac)
 }
 
-// The lists of a PDU whose TLVs start at `from`, of which `count` are lists.
-pub fn read_lists(pdu: &[u8], from: usize, count: usize, mac: u64) -> ListRead
+// The list of a PDU that has one, as most have. Apart from the others it costs no loop over TLVs, and its search has more registers.
+fn read_lone(pdu: &[u8], from: usize, mac: u64) -> ListRead
+    requires { ⌜ 1 ≡ length (ofType 6 (tlvs (now pdu) from)) ⌝ }
+    ensures { λ r. ⌜ r ≡ listRead mac (ofType 6 (tlvs (now (pdu .entry)) from)) ⌝ }
+{
+    let found = find(pdu, from, IS_NEIGHBOURS);
+    let Found::At(p) = found else {
+        return ListRead::Good(false);
+    };
+    let v = value_at(pdu, p);
+    if v.len() % 6 != 0 {
+        return ListRead::Bad;
+    }
+    ListRead::Good(is_listed_in(pdu, p, p + 2 + v.len(), mac))
+}
+
+// The lists of a PDU that has any number of them.
+fn read_each(pdu: &[u8], from: usize, count: usize, mac: u64) -> ListRead
     requires { ⌜ count ≡ length (ofType 6 (tlvs (now pdu) from)) ⌝ }
     ensures { λ r. ⌜ r ≡ listRead mac (ofType 6 (tlvs (now (pdu .entry)) from)) ⌝ }
 {
@@ -46,9 +62,20 @@ pub fn read_lists(pdu: &[u8], from: usize, count: usize, mac: u64) -> ListRead
         if v.len() % 6 != 0 {
             return ListRead::Bad;
         }
-        listed = is_listed_here(listed, pdu, p, mac);
         at = p + 2 + v.len();
+        listed = is_listed_here(listed, pdu, p, at, mac);
         left -= 1;
     }
     ListRead::Good(listed)
+}
+
+// The lists of a PDU whose TLVs start at `from`, of which `count` are lists.
+pub fn read_lists(pdu: &[u8], from: usize, count: usize, mac: u64) -> ListRead
+    requires { ⌜ count ≡ length (ofType 6 (tlvs (now pdu) from)) ⌝ }
+    ensures { λ r. ⌜ r ≡ listRead mac (ofType 6 (tlvs (now (pdu .entry)) from)) ⌝ }
+{
+    if count == 1 {
+        return read_lone(pdu, from, mac);
+    }
+    read_each(pdu, from, count, mac)
 }

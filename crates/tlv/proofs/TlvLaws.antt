@@ -128,7 +128,7 @@ value-length s at h = length-take-le (octet s (at + 1)) (drop (at + 2) s) (rw le
 
 -- a turn of a loop over all TLVs of a type: the one found, whose value is in hand, and those past that value
 module _ {s : List ℕ} {from k p : ℕ} {v : List ℕ} (f : FoundAt s from k p) (e : v ≡ valueAt s p) where
-  value-ends : p + 2 + length v ≡ nextAt s p
+  pub value-ends : p + 2 + length v ≡ nextAt s p
   value-ends = rw (e, value-length s p (f .within))
 
   pub turn-within : p + 2 + length v ≤ length s

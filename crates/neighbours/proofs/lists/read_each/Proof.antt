@@ -1,15 +1,15 @@
 -- The invariant: as many lists are left as `left` says, and they and what was listed before give the reading of the whole.
 use Rattle.neighbours.proofs.ListsLaws.{listOn, list-start, list-end, list-bad, list-next}
 use Rattle.neighbours.specs.Lists.{listRead}
-use Rattle.tlv.proofs.TlvLaws.{turn-within, turn-list}
+use Rattle.tlv.proofs.TlvLaws.{value-ends, turn-within, turn-list}
 use Rattle.tlv.specs.Tlv.{tlvs, ofType, Finds, FoundAt}
 use lib.ListN.{length}
 use borrow.Author.Needs.{needs}
 use native.Mathlib.Omega.{arith}
 use mathlib.Core.Path.{_≡_, sym, ap, subst, _∙_}
 use mathlib.Core.Bool.{false}
-use Rattle.neighbours.proofs.lists.read_lists.Statement.{statement}
-use Rattle.neighbours.proofs.lists.read_lists.Tie as tie
+use Rattle.neighbours.proofs.lists.read_each.Statement.{statement}
+use Rattle.neighbours.proofs.lists.read_each.Tie as tie
 
 abbrev Inv-loop : tie.InvT-loop
 Inv-loop pdu from count mac listed₀ at₀ left₀ listed at left =
@@ -44,14 +44,16 @@ value-at-requires c κs = got (c .before) .within
 returns-2 : tie.Need-returns-2 Inv-loop μ-loop
 returns-2 c = sym (c .before .before .before .before .before .before .before .loop .inv .1 ∙ ap (listOn _ _) (turn-list (got (c .before .before .before)) (c .before .value-at .ensures)) ∙ list-bad _ _ _ _ (c .if1 .taken))
 
-is-listed-here-requires : tie.Need-is-listed-here-requires Inv-loop μ-loop
-is-listed-here-requires c κs = got (c .before .before .before) .within
-
 add-at : tie.Need-add-at Inv-loop μ-loop
-add-at c = omega (arith, turn-within (got (c .before .before .before .before)) (c .before .before .value-at .ensures))
+add-at c = omega (arith, turn-within (got (c .before .before .before)) (c .before .value-at .ensures))
 
 add-at-2 : tie.Need-add-at-2 Inv-loop μ-loop
-add-at-2 c = omega (arith, turn-within (got (c .before .before .before .before)) (c .before .before .value-at .ensures))
+add-at-2 c = omega (arith, turn-within (got (c .before .before .before)) (c .before .value-at .ensures))
+
+is-listed-here-requires : tie.Need-is-listed-here-requires Inv-loop μ-loop
+is-listed-here-requires c κs =
+    let g = got (c .before .before .before) in
+    (value-ends g (c .before .value-at .ensures), turn-within g (c .before .value-at .ensures))
 
 sub-left : tie.Need-sub-left Inv-loop μ-loop
 sub-left c = omega arith
@@ -67,8 +69,8 @@ loop-again c =
 returns-3 : tie.Need-returns-3 Inv-loop μ-loop
 returns-3 c = sym (c .before .loop .inv .1 ∙ list-end _ _ _ (omega arith))
 
-pub read-lists-spec : {M : Type 1} → statement M
-read-lists-spec =
+pub read-each-spec : {M : Type 1} → statement M
+read-each-spec =
     tie.close
     (tie.spec
     Inv-loop
@@ -80,9 +82,9 @@ read-lists-spec =
     returns
     value-at-requires
     returns-2
-    is-listed-here-requires
     add-at
     add-at-2
+    is-listed-here-requires
     sub-left
     loop-less
     loop-again
