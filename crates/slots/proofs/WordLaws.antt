@@ -29,30 +29,30 @@ present w o a b h n x y = simp (eq-eqb _ _ h, n, bit-back (w / 16777216 % 2) a x
 absent : (w : ℕ) → w / 64 % 2 ≡ 0 → reverseAt w ≡ Absent
 absent w h = simp (ne-eqb (w / 64 % 2) 1 (λ (e : w / 64 % 2 ≡ 1). omega arith))
 
+-- the reverse metric's digits, a and b, stand apart from the others
+apart : (x s t l p a b w : ℕ) (v : ReverseMetric) → x < 16 → s ≤ 1 → t ≤ 1 → l < 256 → p < 256 → a ≤ 1
+    → w ≡ x + (64 * a + 16777216 * b + 32 * t + 65536 * p + 16 * s) + 256 * l → reverseAt w ≡ v → Digits x s t l p v w
+apart x s t l p a b w v hx hs ht hl hp ha e h =
+    record {
+      low = omega arith;
+      suppressed = omega arith;
+      tlv = omega arith;
+      level = omega arith;
+      priority = omega arith;
+      reverse = h;
+    }
+
 digits : (x s t l p : ℕ) (v : ReverseMetric) → x < 16 → s ≤ 1 → t ≤ 1 → l < 256 → p < 256 → FitReverse v
     → Digits x s t l p v (x + (reverseWord v + 32 * t + 65536 * p + 16 * s) + 256 * l)
 digits x s t l p Absent hx hs ht hl hp f =
-    record {
-      low = omega arith;
-      suppressed = omega arith;
-      tlv = omega arith;
-      level = omega arith;
-      priority = omega arith;
-      reverse = absent (x + (0 + 32 * t + 65536 * p + 16 * s) + 256 * l) (omega arith);
-    }
+    apart x s t l p 0 0 _ Absent hx hs ht hl hp (omega arith) (omega arith)
+    (absent (x + (0 + 32 * t + 65536 * p + 16 * s) + 256 * l) (omega arith))
 digits x s t l p (Present o a b) hx hs ht hl hp f =
     let ha : bitOf a ≤ 1 = bit-le a in
     let hb : bitOf b ≤ 1 = bit-le b in
-    record {
-      low = omega arith;
-      suppressed = omega arith;
-      tlv = omega arith;
-      level = omega arith;
-      priority = omega arith;
-      reverse =
-          present (x + (64 + 16777216 * bitOf a + 33554432 * bitOf b + 4294967296 * o + 32 * t + 65536 * p + 16 * s) + 256 * l) o a b
-          (omega arith) (omega arith) (omega arith) (omega arith);
-    }
+    apart x s t l p 1 (bitOf a + 2 * bitOf b + 256 * o) _ (Present o a b) hx hs ht hl hp (omega arith) (omega arith)
+    (present (x + (64 + 16777216 * bitOf a + 33554432 * bitOf b + 4294967296 * o + 32 * t + 65536 * p + 16 * s) + 256 * l) o a b
+    (omega arith) (omega arith) (omega arith) (omega arith))
 
 -- the digits of a record's word
 pub data-digits : (x l : ℕ) (d : Data) → x < 16 → l < 256 → FitData d
