@@ -1,5 +1,5 @@
 -- Rows beside C1 to C10, as calls on the sample gateway: each refusal, and of two that meet the first (document 01, "Refusals by
--- number"); what a tick marks and a look up tells. On the right of ≡ stand the document's numbers.
+-- number"); what a tick marks and a look up tells; which circuits wait. On the right of ≡ stand the document's numbers.
 use Prim.Native.Nat.{ℕ, suc}
 use mathlib.Core.Path.{_≡_}
 use mathlib.Core.Bool.{Bool, true, false}
