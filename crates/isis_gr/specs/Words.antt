@@ -24,7 +24,7 @@ maskNo (b ∷ bs) = bitOf b + 2 * maskNo bs
 abbrev pub timersNo : TimersAnswer → ℕ
 timersNo t = t .restart + 4 * t .spf + 16 * t .overload
 
--- an accepted frame
+-- an accepted frame; levels 0 tell that there is nothing to order, whether or not line 1 gave an order
 abbrev pub frameNo : FrameAnswer → ℕ
 frameNo f = 2 ^ 8 * f .reply + 2 ^ 16 * f .csnps + 2 ^ 24 * f .freed + 2 ^ 32 * timersNo (f .timers) + 2 ^ 40 * f .time
 

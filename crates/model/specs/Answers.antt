@@ -80,7 +80,7 @@ pub record RecordAnswer : Type 0 where
   pub whole : Bool
   pub unreachable : Bool
 
--- what is told by a call that asks, or that only says it was done
+-- what is told by a call that asks, or that only says it was done; of circuits that wait how many, whether there is a lowest, and which
 pub data Fact : Type 0 where
   Done : Fact
   Noticed : TimersAnswer → Fact

@@ -50,8 +50,8 @@ up expiry mark = Present (Up (kept expiry) mark)
 abbrev pub octets : ℕ → ℕ → ℕ → List ℕ
 octets flag high low = 0xD3 ∷ 0x09 ∷ flag ∷ high ∷ low ∷ 0x19 ∷ 0x21 ∷ 0x68 ∷ 0x00 ∷ 0x10 ∷ 0x02 ∷ 0xFF ∷ []
 
--- the flags and the Remaining Time of the reply, the levels of line 1's order (3 for both, 0 without an order), the record's state before and after (0 none, 1 INIT,
--- 2 UP; none is suppressed), whether the restart goes on (1)
+-- the flags and the Remaining Time of the reply, the levels of line 1's order (3 for both, 0 without an order), the record's state before
+-- and after (0 none, 1 INIT, 2 UP; none is suppressed), whether the restart goes on (1)
 abbrev pub accepted : ℕ → ℕ → ℕ → ℕ → ℕ → ℕ → Answer
 accepted flags time csnps before after restart =
     Received
