@@ -1,93 +1,80 @@
-/* Paints a stack and lets the archive's calls run on it: how deep receive went on frames of 1,492 octets and on short ones, and each other call.
-   Fails where receive takes 512 octets and more. */
+/* Paints a stack and lets every call run on it, in both modes, with full rooms and frames of 1,492 octets of each kind: how deep it went, as the archive
+   has it and through the header, which adds what this compiler makes of it. Fails where a call went deeper than its limit, or never was done. */
 #define _XOPEN_SOURCE 700
-#include "two_circuits.h"
+#include "isis_gr.h"
 
-#include <stdio.h>
-#include <stdlib.h>
+#include "expect.h"
+
 #include <ucontext.h>
 
-enum { STACK = 1 << 16, LIMIT = 512, PAINT = 0xA5 };
+enum { STACK = 1 << 14, PAINT = 0xA5, HEADER_LIMIT = 1024, LONGEST = 1492, ROUTERS = 17 };
 
 static unsigned char stack[STACK];
 static ucontext_t caller, callee;
-static isis_gr_gateway g;
-static uint8_t frame[1492], reply[ISIS_GR_REPLY_OCTETS];
-static size_t length;
-static uint8_t circuit;
-static const uint8_t source[6] = {2, 0, 0, 0, 0, 2};
-static volatile uint64_t answer;
 static unsigned char *at_call;
 
-/* where the stack stands when receive is called */
-static void run(void) {
-    at_call = __builtin_frame_address(0);
-    answer = isis_gr_raw_receive(g.words, circuit, source, frame, length, reply, sizeof reply).answer;
-}
+/* ---- what the calls take */
 
-static uint8_t settings[ISIS_GR_SETTINGS_OCTETS];
+static isis_gr_gateway g;
+static isis_gr_settings settings;
+static uint8_t packed[ISIS_GR_SETTINGS_OCTETS], frame[LONGEST], reply[ISIS_GR_REPLY_OCTETS], source[6];
+static size_t length, reply_length;
+static uint8_t circuit, level;
+static uint32_t now;
 static uint64_t found[2];
 
-static void run_set_up(void) {
-    at_call = __builtin_frame_address(0);
-    answer = isis_gr_raw_set_up(ISIS_GR_LAYOUT, g.words, settings);
-}
+/* ---- the calls: each once on the archive's function, once on the header's */
 
-static void run_fault(void) {
-    at_call = __builtin_frame_address(0);
-    answer = isis_gr_raw_fault(ISIS_GR_LAYOUT, settings);
-}
+static volatile uint32_t code;
 
-static void run_tick(void) {
-    at_call = __builtin_frame_address(0);
-    answer = isis_gr_raw_tick(g.words, 60);
-}
+#define CALL(name, raw, through)                                               \
+    static void raw_##name(void) {                                             \
+        at_call = __builtin_frame_address(0);                                  \
+        code = (uint32_t)((raw) & 255u);                                       \
+    }                                                                          \
+    static void c_##name(void) {                                               \
+        at_call = __builtin_frame_address(0);                                  \
+        code = (through);                                                      \
+    }
 
-static void run_release(void) {
-    at_call = __builtin_frame_address(0);
-    answer = isis_gr_raw_release(g.words, 2);
-}
+CALL(gateway_words, isis_gr_raw_gateway_words() - ISIS_GR_GATEWAY_WORDS, isis_gr_gateway_words() - ISIS_GR_GATEWAY_WORDS)
+CALL(set_up, isis_gr_raw_set_up(ISIS_GR_LAYOUT, g.words, packed), isis_gr_set_up(&g, &settings).code)
+CALL(fault, isis_gr_raw_fault(ISIS_GR_LAYOUT, packed), isis_gr_fault(&settings).setting)
+CALL(receive, isis_gr_raw_receive(g.words, circuit, source, frame, length, reply, reply_length).answer,
+     isis_gr_receive(&g, circuit, source, frame, length, reply, reply_length).code)
+CALL(tick, isis_gr_raw_tick(g.words, now), isis_gr_tick(&g, now).code)
+CALL(release, isis_gr_raw_release(g.words, circuit), isis_gr_release(&g, circuit))
+CALL(clear, isis_gr_raw_clear(g.words, circuit), isis_gr_clear(&g, circuit))
+CALL(csnp_complete, isis_gr_raw_csnp_complete(g.words, circuit, level), isis_gr_csnp_complete(&g, circuit, level).code)
+CALL(database_complete, isis_gr_raw_database_complete(g.words, level), isis_gr_database_complete(&g, level).code)
+CALL(look_up, isis_gr_raw_look_up(g.words, circuit, level, frame + 9, source, found), isis_gr_look_up(&g, circuit, level, frame + 9, source).code)
+CALL(link_metric, isis_gr_raw_link_metric(g.words, circuit), isis_gr_link_metric(&g, circuit).code)
+CALL(next_hello_flags, isis_gr_raw_next_hello_flags(g.words, circuit), isis_gr_next_hello_flags(&g, circuit).code)
+CALL(waiting_circuits, isis_gr_raw_waiting_circuits(g.words), isis_gr_waiting_circuits(&g).count & 0u)
 
-static void run_clear(void) {
-    at_call = __builtin_frame_address(0);
-    answer = isis_gr_raw_clear(g.words, 2);
-}
+enum { WORDS, SET_UP, FAULT, RECEIVE, TICK, RELEASE, CLEAR, CSNP, DATABASE, LOOK_UP, METRIC, FLAGS, WAITING, CALLS };
 
-static void run_csnp(void) {
-    at_call = __builtin_frame_address(0);
-    answer = isis_gr_raw_csnp_complete(g.words, 2, 1);
-}
-
-static void run_database(void) {
-    at_call = __builtin_frame_address(0);
-    answer = isis_gr_raw_database_complete(g.words, 1);
-}
-
-static void run_look_up(void) {
-    at_call = __builtin_frame_address(0);
-    answer = isis_gr_raw_look_up(g.words, 2, 1, frame + 9, source, found);
-}
-
-static void run_metric(void) {
-    at_call = __builtin_frame_address(0);
-    answer = isis_gr_raw_link_metric(g.words, 1);
-}
-
-static void run_flags(void) {
-    at_call = __builtin_frame_address(0);
-    answer = isis_gr_raw_next_hello_flags(g.words, 1);
-}
-
-static void run_waiting(void) {
-    at_call = __builtin_frame_address(0);
-    answer = isis_gr_raw_waiting_circuits(g.words);
-}
-
-/* the same without the call */
-static void idle(void) {
-    at_call = __builtin_frame_address(0);
-    answer = 0;
-}
+static struct {
+    const char *name;
+    size_t limit;
+    void (*raw)(void), (*through)(void);
+    size_t most, most_through;
+    unsigned inputs, done;
+} calls[CALLS] = {
+    {"gateway_words", 16, raw_gateway_words, c_gateway_words, 0, 0, 0, 0},
+    {"set_up", 512, raw_set_up, c_set_up, 0, 0, 0, 0},
+    {"fault", 32, raw_fault, c_fault, 0, 0, 0, 0},
+    {"receive", 320, raw_receive, c_receive, 0, 0, 0, 0},
+    {"tick", 128, raw_tick, c_tick, 0, 0, 0, 0},
+    {"release", 64, raw_release, c_release, 0, 0, 0, 0},
+    {"clear", 16, raw_clear, c_clear, 0, 0, 0, 0},
+    {"csnp_complete", 96, raw_csnp_complete, c_csnp_complete, 0, 0, 0, 0},
+    {"database_complete", 96, raw_database_complete, c_database_complete, 0, 0, 0, 0},
+    {"look_up", 64, raw_look_up, c_look_up, 0, 0, 0, 0},
+    {"link_metric", 16, raw_link_metric, c_link_metric, 0, 0, 0, 0},
+    {"next_hello_flags", 16, raw_next_hello_flags, c_next_hello_flags, 0, 0, 0, 0},
+    {"waiting_circuits", 16, raw_waiting_circuits, c_waiting_circuits, 0, 0, 0, 0},
+};
 
 static size_t depth(void (*what)(void)) {
     size_t i;
@@ -103,29 +90,55 @@ static size_t depth(void (*what)(void)) {
     return (size_t)(at_call - (stack + i));
 }
 
-static void start(void) {
-    isis_gr_settings s = two_circuits(ISIS_GR_MODE_RESTARTING, 60, 60);
-    if (isis_gr_set_up(&g, &s).code != ISIS_GR_OK) {
-        exit(1);
-    }
+/* Both functions from the same memory, which is then as the second left it. The answer is the call's code. */
+static uint32_t paint(int which) {
+    static isis_gr_gateway before;
+    size_t used;
+    uint32_t first;
+    before = g;
+    used = depth(calls[which].raw);
+    first = code;
+    calls[which].most = used > calls[which].most ? used : calls[which].most;
+    g = before;
+    used = depth(calls[which].through);
+    calls[which].most_through = used > calls[which].most_through ? used : calls[which].most_through;
+    EXPECT(code == first);
+    calls[which].inputs++;
+    calls[which].done += code == ISIS_GR_OK;
+    return code;
 }
 
-static void header(uint8_t kind) {
-    const uint8_t p2p[20] = {0x83, 20, 1, 0, 17, 1, 0, 0, 3, 0, 0, 0, 0, 0, 2, 0, 27, 0, 0, 1};
-    const uint8_t lan[27] = {0x83, 27, 1, 0, 15, 1, 0, 0, 3, 0, 0, 0, 0, 0, 2, 0, 27, 0, 0, 64};
-    length = kind == ISIS_GR_KIND_P2P ? sizeof p2p : sizeof lan;
-    memcpy(frame, kind == ISIS_GR_KIND_P2P ? p2p : lan, length);
+/* ---- frames */
+
+static const uint8_t zeros[6] = {0, 0, 0, 0, 0, 0};
+
+/* from the router of a number, which is its System ID and its MAC */
+static void header(uint8_t type, uint8_t router) {
+    memset(frame, 0, sizeof frame);
+    length = type == 17 ? 20 : 27;
+    frame[0] = 0x83;
+    frame[1] = (uint8_t)length;
+    frame[2] = 1;
+    frame[4] = type;
+    frame[5] = 1;
+    frame[8] = 3;
+    frame[14] = router;
+    frame[16] = 27;
+    frame[19] = 64;
+    memcpy(source, zeros, 6);
+    source[0] = 2;
+    source[5] = router;
 }
 
-static void tlv(uint8_t type, uint8_t n, const uint8_t *value) {
+static void tlv(uint8_t type, size_t n, const uint8_t *value) {
     frame[length] = type;
-    frame[length + 1] = n;
+    frame[length + 1] = (uint8_t)n;
     if (value) {
         memcpy(frame + length + 2, value, n);
     } else {
         memset(frame + length + 2, 7, n);
     }
-    length += 2u + n;
+    length += 2 + n;
 }
 
 static void seal(void) {
@@ -133,80 +146,232 @@ static void seal(void) {
     frame[18] = (uint8_t)length;
 }
 
-static size_t most;
+/* A Restart TLV of 9 octets with these flags, or none; it names us, as RA asks on a LAN. */
+static void restart(unsigned flags) {
+    const uint8_t value[9] = {(uint8_t)flags, 0, 20, 0, 0, 0, 0, 0, 1};
+    if (flags < 256) {
+        tlv(211, sizeof value, value);
+    }
+}
 
-static void measure(const char *name) {
-    size_t used = depth(run), base = depth(idle);
-    used = used > base ? used : base;
-    printf("%4zu octets of stack: %s (code %u)\n", used, name, (unsigned)(answer & 255u));
-    depth(run);
-    most = used > most ? used : most;
+static void reverse_metric(void) {
+    const uint8_t value[5] = {2, 0, 0, 5, 0};
+    tlv(16, sizeof value, value);
+}
+
+/* The rest of the 1,492 octets: TLVs of a type, as long as multiples of `unit` allow; or none, but for what is left. */
+static void fill(uint8_t type, size_t unit) {
+    while (length + 2 + unit <= LONGEST) {
+        size_t most = (LONGEST - length - 2) / unit * unit, part = 255 / unit * unit;
+        tlv(type, most < part ? most : part, NULL);
+    }
+    if (length + 2 <= LONGEST) {
+        tlv(8, LONGEST - length - 2, NULL);
+    }
+}
+
+/* Empty TLVs up to what must stand last. */
+static void empty_up_to(size_t last) {
+    while (length + 2 <= LONGEST - last) {
+        tlv(8, 0, NULL);
+    }
+}
+
+static void received(void) {
+    seal();
+    reply_length = sizeof reply;
+    paint(RECEIVE);
+}
+
+/* Every shape of a frame with these flags, from a router: short and of 1,492 octets, what is read first and what is read last. */
+static void frames_p2p(uint8_t router, unsigned flags) {
+    uint8_t state;
+    for (state = 0; state < 3; state++) {
+        uint8_t whole[15] = {0, 0, 0, 0, 5, 0, 0, 0, 0, 0, 1, 0, 0, 0, 7};
+        whole[0] = state;
+        header(17, router);
+        tlv(240, 1, whole);
+        restart(flags);
+        received();
+        header(17, router);
+        tlv(240, sizeof whole, whole);
+        restart(flags);
+        reverse_metric();
+        fill(8, 1);
+        received();
+        header(17, router);
+        empty_up_to(17 + 11 + 7);
+        tlv(240, sizeof whole, whole);
+        restart(flags);
+        reverse_metric();
+        received();
+    }
+}
+
+static void frames_lan(uint8_t type, uint8_t router, unsigned flags) {
+    const uint8_t ours[6] = {0, 0, 0, 0, 0, 9};
+    header(type, router);
+    restart(flags);
+    received();
+    header(type, router);
+    restart(flags);
+    reverse_metric();
+    tlv(6, 6, ours);
+    fill(6, 6);
+    received();
+    header(type, router);
+    fill(6, 6);
+    received();
+    header(type, router);
+    empty_up_to(8 + 8 + 11 + 7);
+    tlv(6, 6, source);
+    tlv(6, 6, ours);
+    restart(flags);
+    reverse_metric();
+    received();
+}
+
+/* ---- a gateway in a mode: eight circuits, P2P and LAN in turns, with full rooms */
+
+static void start(uint8_t mode) {
+    uint8_t i;
+    memset(&settings, 0, sizeof settings);
+    settings.system_id[5] = 1;
+    settings.t1 = 3;
+    settings.t2 = 60;
+    settings.tries = 4;
+    settings.clock = now;
+    settings.mode = mode;
+    settings.count = ISIS_GR_MAX_CIRCUITS;
+    for (i = 0; i < ISIS_GR_MAX_CIRCUITS; i++) {
+        isis_gr_circuit *c = settings.circuits + i;
+        c->kind = i % 2 == 0 ? ISIS_GR_KIND_P2P : ISIS_GR_KIND_LAN;
+        c->levels = ISIS_GR_LEVEL_BOTH;
+        c->hold = 30;
+        c->priority = 64;
+        c->mac[5] = 9;
+        c->id = 7;
+    }
+    isis_gr_put_settings(packed, &settings);
+    EXPECT(paint(FAULT) == ISIS_GR_SETTING_NONE);
+    EXPECT(paint(SET_UP) == ISIS_GR_OK);
+}
+
+static void fill_rooms(void) {
+    static const unsigned flags[] = {256, 0, 1, 2, 3, 4, 5, 8, 9, 16};
+    uint8_t i;
+    size_t f;
+    for (circuit = 1; circuit <= ISIS_GR_MAX_CIRCUITS; circuit++) {
+        for (i = 2; i < 2 + ROUTERS; i++) {
+            for (f = 0; f < sizeof flags / sizeof *flags; f++) {
+                if (circuit % 2 == 1) {
+                    frames_p2p(i, flags[f]);
+                } else {
+                    frames_lan(15, i, flags[f]);
+                    frames_lan(16, i, flags[f]);
+                }
+            }
+        }
+    }
+}
+
+/* Refusals 1 to 8 of a frame, and 12 of settings. */
+static void refused(void) {
+    const uint8_t request[3] = {1, 0, 0}, another[15] = {0, 0, 0, 0, 5, 0, 0, 0, 0, 0, 3, 0, 0, 0, 7};
+    circuit = 1;
+    header(17, 2);
+    tlv(240, sizeof another, another);
+    seal();
+    reply_length = sizeof reply;
+    EXPECT(paint(RECEIVE) == 8);
+    frame[14] = 1;
+    EXPECT(paint(RECEIVE) == 7);
+    tlv(211, 0, request);
+    seal();
+    EXPECT(paint(RECEIVE) == 6);
+    frame[length - 1] = 1;
+    EXPECT(paint(RECEIVE) == 5);
+    frame[18]++;
+    EXPECT(paint(RECEIVE) == 4);
+    frame[4] = 15;
+    EXPECT(paint(RECEIVE) == 3);
+    reply_length--;
+    EXPECT(paint(RECEIVE) == 2);
+    circuit = ISIS_GR_MAX_CIRCUITS + 1;
+    EXPECT(paint(RECEIVE) == 1);
+    settings.circuits[ISIS_GR_MAX_CIRCUITS - 1].priority = 128;
+    isis_gr_put_settings(packed, &settings);
+    EXPECT(paint(FAULT) == ISIS_GR_SETTING_PRIORITY);
+    EXPECT(paint(SET_UP) == 12);
+}
+
+/* What is asked of each circuit: of the last record in a room and of one that does not stand. */
+static void ask(void) {
+    for (circuit = 0; circuit <= ISIS_GR_MAX_CIRCUITS + 1; circuit++) {
+        uint8_t router;
+        paint(METRIC);
+        paint(FLAGS);
+        for (level = 0; level < 4; level++) {
+            for (router = 2; router < 3 + ROUTERS; router++) {
+                header(15, router);
+                paint(LOOK_UP);
+            }
+        }
+    }
+    paint(WAITING);
+    paint(WORDS);
+}
+
+/* Ticks of a second until the clock is `seconds` on. */
+static void pass(uint32_t seconds) {
+    uint32_t end = now + seconds;
+    while (now < end) {
+        now++;
+        EXPECT(paint(TICK) == ISIS_GR_OK);
+    }
+}
+
+static void run(uint8_t mode) {
+    /* T1s at their deadlines, T2s and the end of the mode, records that go at once and by one */
+    start(mode);
+    fill_rooms();
+    ask();
+    pass(70);
+    now--;
+    EXPECT(paint(TICK) == 10);
+    now++;
+    /* the notices end it */
+    start(mode);
+    fill_rooms();
+    for (circuit = 0; circuit <= ISIS_GR_MAX_CIRCUITS + 1; circuit++) {
+        for (level = 0; level < 4; level++) {
+            paint(CSNP);
+        }
+    }
+    for (level = 0; level < 4; level++) {
+        paint(DATABASE);
+    }
+    for (circuit = 0; circuit <= ISIS_GR_MAX_CIRCUITS + 1; circuit++) {
+        paint(RELEASE);
+        paint(CLEAR);
+    }
+    /* T3, with all 128 records gone at once */
+    start(mode);
+    fill_rooms();
+    now += 70000;
+    EXPECT(paint(TICK) == ISIS_GR_OK);
+    refused();
 }
 
 int main(void) {
-    const uint8_t up[1] = {0}, starting[1] = {1}, request[3] = {1, 0, 0}, planned[3] = {8, 0, 9}, ack[9] = {2, 0, 20, 0, 0, 0, 0, 0, 1};
-    const uint8_t metric[5] = {2, 0, 0, 5, 0};
-    int i;
-    start();
-    circuit = 1;
-    header(ISIS_GR_KIND_P2P);
-    tlv(240, 1, starting);
-    seal();
-    measure("P2P, no Restart TLV");
-    header(ISIS_GR_KIND_P2P);
-    tlv(240, 1, up);
-    tlv(211, 9, ack);
-    tlv(16, 5, metric);
-    while (length + 257 <= sizeof frame) {
-        tlv(8, 255, NULL);
+    int i, failed = 0;
+    run(ISIS_GR_MODE_RUNNING);
+    run(ISIS_GR_MODE_RESTARTING);
+    for (i = 0; i < CALLS; i++) {
+        int bad = calls[i].most > calls[i].limit || calls[i].most_through >= HEADER_LIMIT || calls[i].done == 0;
+        printf("%4zu octets of stack (limit %zu), %4zu through the header: %s, %u inputs, %u of them done%s\n", calls[i].most, calls[i].limit,
+               calls[i].most_through, calls[i].name, calls[i].inputs, calls[i].done, bad ? ": TOO DEEP OR NEVER DONE" : "");
+        failed |= bad;
     }
-    tlv(8, (uint8_t)(sizeof frame - length - 2), NULL);
-    seal();
-    measure("P2P, 1,492 octets, RA while Restarting");
-    header(ISIS_GR_KIND_P2P);
-    tlv(240, 1, up);
-    tlv(211, 3, planned);
-    seal();
-    measure("P2P, PR, reply PA");
-    circuit = 2;
-    for (i = 0; i < 2; i++) {
-        header(ISIS_GR_KIND_LAN);
-        tlv(211, 3, request);
-        while (length + 254 <= sizeof frame) {
-            tlv(6, 252, NULL);
-        }
-        tlv(6, (uint8_t)((sizeof frame - length - 2) / 6 * 6), NULL);
-        seal();
-        measure("LAN, 1,492 octets of neighbours, RR, reply RA");
-    }
-    printf("%4zu octets at most for receive; the limit is %d\n", most, LIMIT);
-    {
-        isis_gr_settings s = two_circuits(ISIS_GR_MODE_RESTARTING, 60, 60);
-        const struct {
-            const char *name;
-            void (*run)(void);
-        } others[] = {
-            {"csnp_complete, T1 stops", run_csnp},
-            {"database_complete", run_database},
-            {"look_up", run_look_up},
-            {"link_metric", run_metric},
-            {"next_hello_flags", run_flags},
-            {"waiting", run_waiting},
-            {"tick that ends the restart", run_tick},
-            {"release", run_release},
-            {"clear", run_clear},
-            {"fault", run_fault},
-            {"set_up of eight circuits", run_set_up},
-        };
-        s.count = 8;
-        for (i = 2; i < 8; i++) {
-            s.circuits[i] = s.circuits[1];
-        }
-        isis_gr_put_settings(settings, &s);
-        for (i = 0; i < (int)(sizeof others / sizeof *others); i++) {
-            size_t used = depth(others[i].run), base = depth(idle);
-            printf("%4zu octets of stack: %s\n", used > base ? used : base, others[i].name);
-        }
-    }
-    return most < LIMIT ? 0 : 1;
+    return failed;
 }

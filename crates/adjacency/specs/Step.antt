@@ -19,6 +19,7 @@ use Rattle.adjacency.specs.Record.{isUp}
 use Rattle.adjacency.specs.declared.record.Phase.{Phase}
 use Rattle.adjacency.specs.declared.record.Phase.the-variants.{Gone, Init as InitPhase, Up as UpPhase}
 use Rattle.adjacency.specs.declared.step.Here.{Here}
+use Rattle.adjacency.specs.declared.step.Wrong.{Wrong}
 
 abbrev pub levelOff : Levels → Link → Bool
 levelOff l (Lan level priority listed) = not (hasLevel l level)
@@ -49,6 +50,12 @@ wrongCircuit own (Whole c s n) = not (eqb n own)
 
 unfoldable pub wrongId : Here → Identifiers → Bool
 wrongId here ids = wrongSystem (here .own) ids || wrongCircuit (here .circuit) ids
+
+-- the three answers at once, for the code; a LAN frame has no such identifier
+abbrev pub wrongOf : Here → Link → Wrong
+wrongOf here (Lan level priority listed) = record { id = false; system = false; circuit = false }
+wrongOf here (P2p t) =
+    record { id = wrongId here (t .ids); system = wrongSystem (here .own) (t .ids); circuit = wrongCircuit (here .circuit) (t .ids) }
 
 -- ".. unless RR is set and the record is UP, or only the circuit ID is wrong, the mode is Restarting and the record isn't UP"
 abbrev pub excused : Bool → Bool → Bool → Bool → Bool
@@ -85,12 +92,12 @@ asInit InitPhase = InitPhase
 asInit UpPhase = UpPhase
 
 -- .. and a wrong Neighbor Extended Circuit ID that isn't refused gives INIT (RFC 8706, 3.3.1)
+abbrev pub threeWayStep : Bool → Bool → Phase → ThreeWayState → Phase
+threeWayStep restarting wrong before state = cond restarting (cond wrong InitPhase (p2pStep (asInit before) state)) (p2pStep before state)
+
 unfoldable pub linkStep : Here → Phase → Link → Phase
 linkStep here before (Lan level priority listed) = lanStep listed
-linkStep here before (P2p t) =
-    cond (here .restarting)
-    (cond (wrongCircuit (here .circuit) (t .ids)) InitPhase (p2pStep (asInit before) (t .state)))
-    (p2pStep before (t .state))
+linkStep here before (P2p t) = threeWayStep (here .restarting) (wrongCircuit (here .circuit) (t .ids)) before (t .state)
 
 -- with RR set and the record UP before, nothing here applies: it stays UP
 unfoldable pub keptUp : RestartTlv → Phase → Bool

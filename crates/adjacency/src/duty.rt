@@ -1,13 +1,10 @@
 // Who sends the CSNPs after line 1 (document 01, "Marks and holding time").
-use crate::marks::Line;
 use crate::record::Mark;
 use crate::record::Record;
 use crate::record::State;
 use basics::levels::Levels;
-use basics::levels::only_level;
-use hello::read::Link;
 ghost use mathlib.Core.Path.{_≡_};
-ghost use Rattle.adjacency.specs.Duty.{greater, marksRestart, rival, outranks, linkCsnps, csnpsOf};
+ghost use Rattle.adjacency.specs.Duty.{greater, marksRestart, rival, outranks};
 
 // Our own pair (priority, MAC), at a level.
 pub struct Rank {
@@ -71,35 +68,4 @@ pub fn is_outranked_by(own: Rank, entry: Record) -> bool
         return is_rival(own, key.mac, state);
     }
     false
-}
-
-fn link_csnps(levels: Levels, link: Link, outranked: bool) -> Csnps
-    ensures { λ r. ⌜ r ≡ linkCsnps levels link outranked ⌝ }
-{
-    let Link::Lan {
-        level,
-        priority: _,
-        listed: _,
-    } = link
-    else {
-        return Csnps::Ordered(levels);
-    };
-    if outranked {
-        return Csnps::Nothing;
-    }
-    Csnps::Ordered(only_level(level))
-}
-
-// The order of an accepted frame, where it is known whether another router has the duty.
-pub fn csnps_of(line: Line, levels: Levels, link: Link, outranked: bool) -> Csnps
-    ensures { λ r. ⌜ r ≡ csnpsOf line levels link outranked ⌝ }
-{
-    match line {
-        Line::Ordinary => Csnps::Nothing,
-        Line::One => link_csnps(levels, link, outranked),
-        Line::Two => Csnps::Nothing,
-        Line::Three => Csnps::Nothing,
-        Line::Four => Csnps::Nothing,
-        Line::Five => Csnps::Nothing,
-    }
 }

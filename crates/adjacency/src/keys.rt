@@ -21,7 +21,7 @@ pub fn key_on(kind: CircuitKind, key: Key) -> Key
 }
 
 // The level of a LAN frame; a P2P frame has none.
-pub fn level_in(link: Link) -> u8
+fn level_in(link: Link) -> u8
     ensures { λ r. ⌜ r ≡ levelIn link ⌝ }
 {
     match link {

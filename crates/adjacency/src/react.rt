@@ -19,6 +19,7 @@ use crate::record::mark_of;
 use crate::record::phase_of;
 use crate::record::state_expiry;
 use crate::step::Here;
+use crate::step::Wrong;
 use crate::step::is_wrong_neighbor;
 use crate::step::step_of;
 use basics::refusal::Refusal;
@@ -28,6 +29,7 @@ use restart_tlv::reader::RestartTlv;
 ghost use mathlib.Core.Path.{_≡_};
 ghost use Rattle.adjacency.specs.React.{priorityOf, hasTlv, lastOf, expiryIn, timesOf, stateAs, dataBy, remainingIn, acceptedBy, reactOf, OwnRoad};
 ghost use Rattle.adjacency.specs.Marks.{timeIn};
+ghost use Rattle.adjacency.specs.Step.{wrongOf};
 
 // Refused (8), or the record afterwards, the reply, and the line that fitted.
 pub enum Reaction {
@@ -147,16 +149,16 @@ fn accept(road: Road, after: Phase, here: Here, frame: Hello, adjacency: Adjacen
 }
 
 // Refusal 8, or the frame's effect on the record with its key.
-pub fn react_to(here: Here, frame: Hello, adjacency: Adjacency) -> Reaction
+pub fn react_to(here: Here, wrong: Wrong, frame: Hello, adjacency: Adjacency) -> Reaction
+    requires { ⌜ wrong ≡ wrongOf here (frame .link) ⌝ }
     ensures { λ r. ⌜ r ≡ reactOf here frame adjacency ⌝ }
 {
-    let link = frame.link;
     let tlv = frame.restart;
     let phase = phase_of(adjacency);
-    if is_wrong_neighbor(here, phase, frame, link) {
+    if is_wrong_neighbor(here, wrong, phase, frame) {
         return Reaction::Refused(Refusal::WrongNeighbor);
     }
-    let after = step_of(here, phase, frame);
+    let after = step_of(here, wrong, phase, frame);
     let road = road_of(
         tlv,
         mark_of(adjacency),

@@ -5,13 +5,12 @@ use basics::levels::has_level;
 use hello::read::Hello;
 use hello::read::Link;
 use hello::three_way::Identifiers;
-use hello::three_way::ThreeWay;
 use hello::three_way::ThreeWayState;
 use restart_tlv::flags::Flags;
 use restart_tlv::reader::RestartTlv;
 ghost use mathlib.Core.Path.{_≡_};
 ghost use Rattle.adjacency.specs.Record.{isUp};
-ghost use Rattle.adjacency.specs.Step.{wrongId, keptUp, levelOff, wrongSource, requests, wrongSystem, wrongCircuit, excused, wrongNeighbor, lanStep, p2pStep, asInit, linkStep, stepOf};
+ghost use Rattle.adjacency.specs.Step.{keptUp, levelOff, wrongSource, requests, wrongSystem, wrongCircuit, wrongOf, excused, wrongNeighbor, lanStep, p2pStep, asInit, threeWayStep, linkStep, stepOf};
 
 // What is known where a frame comes: the clock, whether the mode is Restarting, our System ID, and the circuit's own extended circuit
 // ID and configured holding time.
@@ -95,13 +94,32 @@ fn is_wrong_circuit(own: u32, ids: Identifiers) -> bool
     }
 }
 
-fn is_wrong_id(here: Here, ids: Identifiers) -> bool
-    ensures { λ r. ⌜ r ≡ wrongId here ids ⌝ }
+// What of a three-way TLV's identifiers is present and not ours; a LAN frame has none.
+pub struct Wrong {
+    pub id: bool,
+    pub system: bool,
+    pub circuit: bool,
+}
+
+// A frame's identifiers beside our own. Once it is known, neither they nor ours are held any more.
+pub fn wrong_of(here: Here, link: Link) -> Wrong
+    ensures { λ r. ⌜ r ≡ wrongOf here link ⌝ }
 {
-    if is_wrong_system(here.own, ids) {
-        return true;
+    let Link::P2p(three_way) = link else {
+        return Wrong {
+            id: false,
+            system: false,
+            circuit: false,
+        };
+    };
+    let ids = three_way.ids;
+    let system = is_wrong_system(here.own, ids);
+    let circuit = is_wrong_circuit(here.circuit, ids);
+    Wrong {
+        id: system | circuit,
+        system,
+        circuit,
     }
-    is_wrong_circuit(here.circuit, ids)
 }
 
 fn is_excused(request: bool, up: bool, system: bool, restarting: bool) -> bool
@@ -117,16 +135,13 @@ fn is_excused(request: bool, up: bool, system: bool, restarting: bool) -> bool
 }
 
 // Refusal 8.
-pub fn is_wrong_neighbor(here: Here, phase: Phase, frame: Hello, link: Link) -> bool
-    ensures { λ r. ⌜ r ≡ wrongNeighbor here phase frame link ⌝ }
+pub fn is_wrong_neighbor(here: Here, wrong: Wrong, phase: Phase, frame: Hello) -> bool
+    requires { ⌜ wrong ≡ wrongOf here (frame .link) ⌝ }
+    ensures { λ r. ⌜ r ≡ wrongNeighbor here phase frame (frame .link) ⌝ }
 {
-    let Link::P2p(three_way) = link else {
-        return false;
-    };
     let tlv = frame.restart;
-    let ids = three_way.ids;
-    if is_wrong_id(here, ids) {
-        let system = is_wrong_system(here.own, ids);
+    let system = wrong.system;
+    if wrong.id {
         return !is_excused(is_request(tlv), is_up(phase), system, here.restarting);
     }
     false
@@ -165,7 +180,21 @@ fn as_init(phase: Phase) -> Phase
     }
 }
 
-fn step_link(here: Here, phase: Phase, link: Link) -> Phase
+// A three-way TLV with a state, its Neighbor Extended Circuit ID wrong or not.
+fn step_three_way(restarting: bool, wrong: bool, phase: Phase, state: ThreeWayState) -> Phase
+    ensures { λ r. ⌜ r ≡ threeWayStep restarting wrong phase state ⌝ }
+{
+    if restarting {
+        if wrong {
+            return Phase::Init;
+        }
+        return step_p2p(as_init(phase), state);
+    }
+    step_p2p(phase, state)
+}
+
+fn step_link(here: Here, wrong: Wrong, phase: Phase, link: Link) -> Phase
+    requires { ⌜ wrong ≡ wrongOf here link ⌝ }
     ensures { λ r. ⌜ r ≡ linkStep here phase link ⌝ }
 {
     match link {
@@ -174,22 +203,11 @@ fn step_link(here: Here, phase: Phase, link: Link) -> Phase
             priority: _,
             listed,
         } => step_lan(listed),
-        Link::P2p(three_way) => step_three_way(here, phase, three_way),
-    }
-}
-
-fn step_three_way(here: Here, phase: Phase, tlv: ThreeWay) -> Phase
-    ensures { λ r. ⌜ r ≡ linkStep here phase (Link.P2p tlv) ⌝ }
-{
-    let state = tlv.state;
-    let ids = tlv.ids;
-    if here.restarting {
-        if is_wrong_circuit(here.circuit, ids) {
-            return Phase::Init;
+        Link::P2p(three_way) => {
+            let state = three_way.state;
+            step_three_way(here.restarting, wrong.circuit, phase, state)
         }
-        return step_p2p(as_init(phase), state);
     }
-    step_p2p(phase, state)
 }
 
 fn is_kept_up(tlv: RestartTlv, phase: Phase) -> bool
@@ -202,7 +220,8 @@ fn is_kept_up(tlv: RestartTlv, phase: Phase) -> bool
 }
 
 // The record's phase after an accepted frame.
-pub fn step_of(here: Here, phase: Phase, frame: Hello) -> Phase
+pub fn step_of(here: Here, wrong: Wrong, phase: Phase, frame: Hello) -> Phase
+    requires { ⌜ wrong ≡ wrongOf here (frame .link) ⌝ }
     ensures { λ r. ⌜ r ≡ stepOf here phase frame ⌝ }
 {
     let tlv = frame.restart;
@@ -210,5 +229,5 @@ pub fn step_of(here: Here, phase: Phase, frame: Hello) -> Phase
     if is_kept_up(tlv, phase) {
         return Phase::Up;
     }
-    step_link(here, phase, link)
+    step_link(here, wrong, phase, link)
 }

@@ -6,7 +6,9 @@ use mathlib.Core.Logic.{inl, inr, _⊎_}
 use mathlib.Core.List.{List}
 use lib.ListN.{length, getD, set, drop, length-set, length-drop}
 use lib.Seq.{ext-getD, getD-take, getD-drop, length-take-le, getD-set-same, getD-set-other}
-use borrow.Author.Tests.{lt-ltb, le-ltb}
+use lib.Dec.{ltb}
+use borrow.Author.Tests.{lt-ltb, le-ltb, ltb-true}
+use Rattle.basics.proofs.BoolLaws.{by-test}
 use Rattle.basics.specs.declared.levels.Levels.{Levels}
 use Rattle.basics.specs.Levels.{union}
 use Rattle.settings.specs.Settings.{enabledLevels}
@@ -67,6 +69,20 @@ module _ (ws : List ℕ) where
         is = rw (lt-ltb i (length (commonOf ws .circuits)) q) (ap Known (ap (circuitAt ws) z ∙ sym (circuits-nth i noCircuit l)));
         range = (omega arith, omega arith);
       }
+
+  -- the circuit of a number stands in its own words
+  pub known-at : (n : ℕ) (s : Circuit) → circuitOf (commonOf ws) n ≡ Known s → s ≡ circuitAt ws (n - 1)
+  unfolding circuitOf
+  known-at zero s e = absurd (let z : _≡_ {A = ℕ} 0 1 = cc in omega arith)
+  known-at (suc i) s e =
+      let at : suc i - 1 ≡ i = omega arith in
+      let l = length (commonOf ws .circuits) in
+      by-test (ltb i l)
+      (λ q.
+      let z : Known (getD (commonOf ws .circuits) i noCircuit) ≡ Known s = rw q at e in
+      let w : getD (commonOf ws .circuits) i noCircuit ≡ s = cc in
+      sym w ∙ circuits-nth i noCircuit (omega (arith, ltb-true i l q, circuits-length)) ∙ ap (circuitAt ws) (sym at))
+      (λ q. let y : Unknown ≡ Known s = rw q at e in absurd (let z : _≡_ {A = ℕ} 0 1 = cc in omega arith))
 
   -- the levels found before circuit i, with its own
   pub levels-step : (found next : Levels) (i : ℕ) (s : Circuit) → i < countOf ws → s ≡ circuitAt ws i → next ≡ union found (s .levels)

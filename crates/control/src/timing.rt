@@ -11,7 +11,6 @@ use crate::words::move_clock;
 use basics::levels::Levels;
 use basics::mask::Lowest;
 use restart_tlv::flags::Flags;
-use settings::mode::Mode;
 use settings::mode::is_running;
 use timer_parts::heard::Heard;
 use timer_parts::t1::Freed;
@@ -51,11 +50,11 @@ fn hear_in(words: &mut [u64], i: usize, l: Levels, d: Heard) -> HelloOrders
 }
 
 // An accepted hello on circuit i, which has the levels `l`, at the held clock and in the held mode.
-pub fn hear(words: &mut [u64], mode: Mode, i: usize, l: Levels, d: Heard) -> HelloOrders
-    requires { ⌜ (length (now words) ≡ controlWords) × (i < circuits) × (mode ≡ commonOf (now words) .timers .mode) ⌝ }
+pub fn hear(words: &mut [u64], i: usize, l: Levels, d: Heard) -> HelloOrders
+    requires { ⌜ (length (now words) ≡ controlWords) × (i < circuits) ⌝ }
     ensures { λ r. ⌜ CommonHears i l d (now (words .entry)) (now (words .exit)) (r .outcome) (r .freed) ⌝ }
 {
-    if is_running(mode) {
+    if is_running(mode_of(words)) {
         return HelloOrders {
             outcome: TimerOutcome::Idle,
             freed: Freed::Kept,

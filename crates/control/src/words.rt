@@ -95,7 +95,7 @@ fn circuit_in(w: u64, mac: u64, id: u64) -> Circuit
 }
 
 // Circuit i, from 0.
-fn load_circuit(words: &[u64], i: usize) -> Circuit
+pub fn load_circuit(words: &[u64], i: usize) -> Circuit
     requires { ⌜ (length (now words) ≡ controlWords) × (i < circuits) ⌝ }
     ensures { λ r. ⌜ r ≡ circuitAt (now (words .entry)) i ⌝ }
 {

@@ -35,7 +35,7 @@ use Rattle.timer_parts.specs.declared.t1.Freed.{Freed}
 use Rattle.timers.specs.declared.outcome.TimerOutcome.{TimerOutcome}
 use Rattle.settings.specs.declared.circuit.Circuit.{Circuit}
 use Rattle.control.specs.Common.{Common}
-use Rattle.control.specs.Words.{commonOf, controlWords}
+use Rattle.control.specs.Words.{circuitAt, commonOf, controlWords}
 use Rattle.control.specs.Timing.{CommonHears}
 use Rattle.adjacency.specs.Keys.{keyIn}
 use Rattle.room.specs.Accept.{decided, kept, csnpsIn}
@@ -49,12 +49,16 @@ use Rattle.model.specs.Answers.{Refused, Received, frameAnswer, changeOf}
 use Rattle.model.specs.Gateway.{Gateway, Room, withRooms, withCommon, renew, roomOf}
 use Rattle.model.specs.Receive.{refuse, hereOf, rankOf, saidOf, ordersOf, accepted, reacted, decidedIn, checked, readIn, receive}
 use Rattle.model.specs.Step.{Receive, act, lift}
-use Rattle.gateway.specs.Words.{gatewayWords, roomPlace, gatewayOf, Meets}
+use Rattle.gateway.specs.Words.{gatewayWords, roomPlace, gatewayOf, circuitHeld, Meets}
 use Rattle.basics.specs.Lists.{part}
-use Rattle.gateway.proofs.WordLaws.{along, refuses, common-at, common-put, room-put, room-same, room-of, renew-at}
+use Rattle.gateway.proofs.WordLaws.{along, refuses, common-at, common-put, common-stays, room-put, room-same, room-of, renew-at}
 
 pub hears-said : {i : ℕ} {l : Levels} {d d′ : Heard} {ws u : List ℕ} {o : TimerOutcome} {r : Freed} → d ≡ d′ → CommonHears i l d ws u o r → CommonHears i l d′ ws u o r
 hears-said e h = rw (← e) h
+
+pub of-circuit : {n : ℕ} {s s′ : Circuit} {h : Hello} {reply : Acknowledgement} {line : Line} {change : Change} {ws u : List ℕ} {o : Orders} → s ≡ s′
+    → GivesOrders n s h reply line change ws u o → GivesOrders n s′ h reply line change ws u o
+of-circuit e g = rw (← e) g
 
 pub received-is : (g : Gateway) (n : ℕ) (s : Circuit) (mac : ℕ) (frame b : List ℕ) → lift g n (receive n s mac frame b) ≡ lift g n (act n s (Receive mac frame b))
 unfolding lift act
@@ -164,6 +168,23 @@ module _ (ws : List ℕ) (n : ℕ) (s : Circuit) (mac : ℕ) (h : Hello) (b : Li
             next = y .next ∙ ap (λ (x : Gateway). withCommon x (commonAfter n s h (x .common))) same;
             kept = λ x z. absurd (let y : _≡_ {A = ℕ} 0 1 = cc in omega arith);
           })
+
+-- ---- a room put back leaves the circuit's settings, and what the frame says
+
+module _ (ws : List ℕ) (n : ℕ) (s : Circuit) (h : Hello) (t : List ℕ) (len : length ws ≡ gatewayWords) (lo : 0 < n) (hi : n ≤ circuits)
+    (lt : length t ≡ roomPlace (n - 1) + roomWords - roomPlace (n - 1)) (held : s ≡ circuitHeld ws n) where
+  abbrev back : List ℕ
+  back = putMid (roomPlace (n - 1)) (roomPlace (n - 1) + roomWords - roomPlace (n - 1)) ws t
+
+  stays : part 0 controlWords ws ≡ part 0 controlWords back
+  stays = sym (common-stays ws t len (n - 1) (omega arith) lt)
+
+  pub held-back : s ≡ circuitHeld back n
+  held-back = held ∙ ap (λ (l : List ℕ). circuitAt l (n - 1)) stays
+
+  pub said-back : (said : Heard) → said ≡ saidOf (commonOf (part 0 controlWords ws)) s h → said ≡ saidOf (gatewayOf back .common) (circuitHeld back n) h
+  unfolding gatewayOf
+  said-back said e = e ∙ (λ i. saidOf (commonOf (stays i)) (held-back i) h)
 
 -- ---- the orders of an accepted frame
 

@@ -10,7 +10,6 @@ use lib.Seq.{ext-getD, getD-take, getD-drop, length-take-le, set-getD}
 use lib.Dec.{ltb}
 use borrow.Author.Tests.{ltb-true, ltb-false}
 use borrow.Rule.Slice.PartMut.{putMid}
-use Rattle.settings.specs.declared.mode.Mode.{Mode}
 use Rattle.basics.specs.Mask.{circuits}
 use Rattle.basics.proofs.BoolLaws.{by-test}
 use Rattle.basics.specs.declared.refusal.Refusal.{Refusal}
@@ -94,12 +93,6 @@ module _ (ws t : List ℕ) (len : length ws ≡ gatewayWords) where
         let r = tabulate-set (roomAt b) (roomAt ws) circuits i (record { slots = tableOf t }) lt (ap (λ (p : List ℕ). record { slots = tableOf p }) own)
         (λ j lj ne. ap (λ (p : List ℕ). record { slots = tableOf p }) (part-other a (a + roomWords) ws t (omega arith) (omega arith) long (roomPlace j) roomWords (omega arith) (side j i ne))) in
         cc (ap commonOf common-stays, r)
-
-    -- the mode that was asked for before a room is put back is the mode still
-    pub mode-put : (m : Mode) → m ≡ commonOf (part 0 controlWords ws) .timers .mode
-        → m ≡ gatewayOf (putMid a (a + roomWords - a) ws t) .common .timers .mode
-    unfolding gatewayOf
-    mode-put m e = e ∙ ap (λ (l : List ℕ). commonOf l .timers .mode) (sym common-stays)
 
 -- ---- what is read
 

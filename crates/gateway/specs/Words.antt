@@ -1,5 +1,5 @@
 -- The gateway in lent words (house): the control words, then a room for each circuit; and what a call is to do.
-use Prim.Native.Nat.{ℕ, _+_, _*_}
+use Prim.Native.Nat.{ℕ, _+_, _-_, _*_}
 use mathlib.Core.Path.{_≡_}
 use mathlib.Core.List.{List}
 use Rattle.basics.specs.Mask.{circuits}
@@ -7,7 +7,8 @@ use Rattle.basics.specs.Lists.{part, tabulate}
 use Rattle.basics.specs.Octets.{big}
 use Rattle.adjacency.specs.declared.record.Key.{Key}
 use Rattle.slots.specs.Slots.{tableOf, roomWords}
-use Rattle.control.specs.Words.{commonOf, controlWords}
+use Rattle.control.specs.Words.{circuitAt, commonOf, controlWords}
+use Rattle.settings.specs.declared.circuit.Circuit.{Circuit}
 use Rattle.model.specs.Answers.{Answer, Refused}
 use Rattle.model.specs.Gateway.{Gateway, Room}
 use Rattle.model.specs.Step.{Outcome}
@@ -25,6 +26,10 @@ roomAt ws i = record { slots = tableOf (part (roomPlace i) roomWords ws) }
 -- any words mean some gateway
 unfoldable pub gatewayOf : List ℕ → Gateway
 gatewayOf ws = record { common = commonOf (part 0 controlWords ws); rooms = tabulate (roomAt ws) circuits }
+
+-- the settings of circuit n (from 1), as the words have them
+abbrev pub circuitHeld : List ℕ → ℕ → Circuit
+circuitHeld ws n = circuitAt (part 0 controlWords ws) (n - 1)
 
 -- a key as a caller gives it, with a System ID and a MAC of six octets
 abbrev pub keyGiven : ℕ → List ℕ → List ℕ → Key

@@ -1,7 +1,6 @@
 // Receive (document 01, "Refusals by number"): each function is one stage of the definition, in the order of the refusals.
 use adjacency::duty::Rank;
 use adjacency::keys::key_in;
-use adjacency::keys::level_in;
 use adjacency::marks::Acknowledgement;
 use adjacency::marks::Line;
 use adjacency::react::Reaction;
@@ -15,11 +14,11 @@ use adjacency::step::is_wrong_source;
 use basics::octets::six;
 use basics::refusal::Refusal;
 use control::head::mode_of;
-use control::timing::HelloOrders;
 use control::timing::hear;
 use control::words::CONTROL_WORDS;
 use control::words::circuit_of;
 use control::words::clock_of;
+use control::words::load_circuit;
 use control::words::system_of;
 use hello::read::Hello;
 use hello::read::Read;
@@ -31,30 +30,30 @@ use room::accept::accept_in;
 use room::duty::csnps_in;
 use settings::circuit::Chosen;
 use settings::circuit::Circuit;
-use settings::mode::Mode;
 use settings::mode::is_restarting;
 use slots::slot::ROOM_WORDS;
+use timer_parts::heard::Heard;
 use timer_parts::heard::heard_of;
 ghost use mathlib.Core.Path.{_≡_};
-ghost use Prim.Native.Nat.{_-_, _<_, _≤_};
+ghost use Prim.Native.Nat.{_<_, _≤_};
 ghost use lib.ListN.{length};
 ghost use Rattle.basics.specs.Mask.{circuits};
 ghost use Rattle.basics.specs.Octets.{big};
+ghost use Rattle.hello.specs.Hello.{kindOf};
 ghost use Rattle.control.specs.Words.{controlWords, commonOf};
-ghost use Rattle.control.specs.Timing.{CommonHears};
 ghost use Rattle.model.specs.Answers.{receivedOf, isShown, changeOf};
-ghost use Rattle.model.specs.Receive.{hereOf, rankOf, saidOf, decidedIn, checked};
+ghost use Rattle.model.specs.Receive.{hereOf, decidedIn, checked};
 ghost use Rattle.model.specs.Step.{lift, step, At, Receive};
-ghost use Rattle.gateway.specs.Words.{gatewayWords, gatewayOf, Meets};
-ghost use Rattle.gateway.specs.Frame.{GivesOrders};
+ghost use Rattle.gateway.specs.Words.{gatewayWords, gatewayOf, circuitHeld, Meets};
+ghost use Rattle.gateway.specs.Frame.{Settled, GivesOrders};
 
 // What the state step and the marks know of the gateway.
-fn here_of(words: &[u64], mode: Mode, s: Circuit) -> Here
-    requires { ⌜ (length (now words) ≡ controlWords) × (mode ≡ commonOf (now words) .timers .mode) ⌝ }
+fn here_of(words: &[u64], s: Circuit) -> Here
+    requires { ⌜ length (now words) ≡ controlWords ⌝ }
     ensures { λ r. ⌜ r ≡ hereOf (commonOf (now (words .entry))) s ⌝ }
 {
     let clock = clock_of(words);
-    let restarting = is_restarting(mode);
+    let restarting = is_restarting(mode_of(words));
     let own = system_of(words);
     Here {
         clock,
@@ -65,50 +64,32 @@ fn here_of(words: &[u64], mode: Mode, s: Circuit) -> Here
     }
 }
 
-fn rank_of(s: Circuit, frame: Hello) -> Rank
-    ensures { λ r. ⌜ r ≡ rankOf s frame ⌝ }
-{
-    let link = frame.link;
-    let level = level_in(link);
-    Rank {
-        level,
-        priority: s.priority,
-        mac: s.mac,
-    }
-}
-
-// What an accepted frame on circuit i (from 0) says to the timers.
-fn hear_frame(words: &mut [u64], mode: Mode, i: usize, s: Circuit, frame: Hello) -> HelloOrders
-    requires { ⌜ (length (now words) ≡ controlWords) × (i < circuits) × (mode ≡ commonOf (now words) .timers .mode) ⌝ }
-    ensures { λ r. ⌜ CommonHears i (s .levels) (saidOf (commonOf (now (words .entry))) s frame) (now (words .entry)) (now (words .exit)) (r .outcome) (r .freed) ⌝ }
-{
-    let levels = s.levels;
-    let own = system_of(words);
-    let said = heard_of(frame, own, s.id);
-    hear(words, mode, i, levels, said)
-}
-
-// Line 1's order and the timers' of a frame that was accepted on circuit n; the reply stands in the buffer already.
+// Line 1's order and the timers' of a frame that was accepted on circuit n; the reply stands in the buffer already. The circuit's settings are
+// read off the words again: they need not be held while the record is looked for and changed.
 fn order_in(
     gateway: &mut [u64],
-    mode: Mode,
     n: u8,
-    s: Circuit,
     frame: Hello,
+    said: Heard,
     reply: Acknowledgement,
     line: Line,
     change: Change,
 ) -> Orders
-    requires { ⌜ (length (now gateway) ≡ gatewayWords) × (0 < n) × (n ≤ circuits) × (mode ≡ gatewayOf (now gateway) .common .timers .mode) ⌝ }
-    ensures { λ r. ⌜ GivesOrders n s frame reply line change (now (gateway .entry)) (now (gateway .exit)) r ⌝ }
+    requires { ⌜ (length (now gateway) ≡ gatewayWords) × (0 < n) × (n ≤ circuits) × Settled n frame said change (now gateway) ⌝ }
+    ensures { λ r. ⌜ GivesOrders n (circuitHeld (now (gateway .entry)) n) frame reply line change (now (gateway .entry)) (now (gateway .exit)) r ⌝ }
 {
+    let i = n as usize - 1;
+    let s = load_circuit(&gateway[0..CONTROL_WORDS], i);
     let levels = s.levels;
     let link = frame.link;
-    let i = n as usize - 1;
+    let rank = Rank {
+        level: change.level,
+        priority: s.priority,
+        mac: s.mac,
+    };
     let a = CONTROL_WORDS + ROOM_WORDS * i;
-    let rank = rank_of(s, frame);
     let csnps = csnps_in(&gateway[a..a + ROOM_WORDS], rank, line, levels, link);
-    let x = hear_frame(&mut gateway[0..CONTROL_WORDS], mode, i, s, frame);
+    let x = hear(&mut gateway[0..CONTROL_WORDS], i, levels, said);
     let outcome = x.outcome;
     let freed = x.freed;
     Orders {
@@ -153,13 +134,13 @@ fn decide_in(
     frame: Hello,
     reply: &mut [u8],
 ) -> Received
-    requires { ⌜ (length (now gateway) ≡ gatewayWords) × (0 < n) × (n ≤ circuits) × (11 ≤ length (now reply)) ⌝ }
+    requires { ⌜ (length (now gateway) ≡ gatewayWords) × (0 < n) × (n ≤ circuits) × (11 ≤ length (now reply)) × (s ≡ circuitHeld (now gateway) n) × (kindOf (frame .link) ≡ s .kind) ⌝ }
     ensures { λ r. ⌜ Meets (receivedOf r) (lift (gatewayOf (now (gateway .entry))) n (decidedIn n s mac (now (reply .entry)) frame)) (now (gateway .entry)) (now (gateway .exit)) (now (reply .exit)) ⌝ }
 {
     let kind = s.kind;
-    let mode = mode_of(&gateway[0..CONTROL_WORDS]);
-    let here = here_of(&gateway[0..CONTROL_WORDS], mode, s);
+    let here = here_of(&gateway[0..CONTROL_WORDS], s);
     let key = key_in(kind, mac, frame);
+    let said = heard_of(frame, here.own, here.circuit);
     let a = CONTROL_WORDS + ROOM_WORDS * (n as usize - 1);
     let decided = accept_in(&mut gateway[a..a + ROOM_WORDS], here, key, frame, reply);
     let before = decided.before;
@@ -168,10 +149,9 @@ fn decide_in(
         Reaction::Refused(x) => Received::Refused(x),
         Reaction::Accepted(after, acknowledgement, line) => Received::Done(order_in(
             gateway,
-            mode,
             n,
-            s,
             frame,
+            said,
             acknowledgement,
             line,
             change_of(key, before, after),
@@ -188,7 +168,7 @@ fn check_in(
     frame: Hello,
     reply: &mut [u8],
 ) -> Received
-    requires { ⌜ (length (now gateway) ≡ gatewayWords) × (0 < n) × (n ≤ circuits) × (11 ≤ length (now reply)) × (length (now source) ≡ 6) ⌝ }
+    requires { ⌜ (length (now gateway) ≡ gatewayWords) × (0 < n) × (n ≤ circuits) × (11 ≤ length (now reply)) × (length (now source) ≡ 6) × (s ≡ circuitHeld (now gateway) n) × (kindOf (frame .link) ≡ s .kind) ⌝ }
     ensures { λ r. ⌜ Meets (receivedOf r) (lift (gatewayOf (now (gateway .entry))) n (checked n s (big 6 (now (source .entry)) 0) (now (reply .entry)) frame)) (now (gateway .entry)) (now (gateway .exit)) (now (reply .exit)) ⌝ }
 {
     let levels = s.levels;
@@ -209,7 +189,7 @@ fn read_in(
     frame: &[u8],
     reply: &mut [u8],
 ) -> Received
-    requires { ⌜ (length (now gateway) ≡ gatewayWords) × (0 < n) × (n ≤ circuits) × (length (now source) ≡ 6) ⌝ }
+    requires { ⌜ (length (now gateway) ≡ gatewayWords) × (0 < n) × (n ≤ circuits) × (length (now source) ≡ 6) × (s ≡ circuitHeld (now gateway) n) ⌝ }
     ensures { λ r. ⌜ Meets (receivedOf r) (lift (gatewayOf (now (gateway .entry))) n (Rattle.model.specs.Receive.receive n s (big 6 (now (source .entry)) 0) (now (frame .entry)) (now (reply .entry)))) (now (gateway .entry)) (now (gateway .exit)) (now (reply .exit)) ⌝ }
 {
     let kind = s.kind;

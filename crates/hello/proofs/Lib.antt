@@ -1,4 +1,5 @@
 pub mod ReadLaws
 pub mod HelloLaws
+pub mod KindLaws
 pub mod SampleRuns
 pub mod Positions

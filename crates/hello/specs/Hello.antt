@@ -60,6 +60,11 @@ linkOn P2pCircuit l mac p = P2p (threeWayIn (ofKind 240 l p))
 abbrev pub linkOf : Layout → ℕ → List ℕ → Link
 linkOf l mac p = linkOn (l .kind) l mac p
 
+-- the kind of circuit that a link is of
+abbrev pub kindOf : Link → CircuitKind
+kindOf (Lan level priority listed) = LanCircuit
+kindOf (P2p t) = P2pCircuit
+
 unfoldable pub linkRead : CircuitKind → Layout → ℕ → List ℕ → LinkRead
 linkRead kind l mac p = unless (faultOn kind l p) (Good (linkOn kind l mac p)) Bad
 

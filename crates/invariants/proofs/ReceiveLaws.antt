@@ -15,7 +15,7 @@ use Rattle.basics.proofs.BoolLaws.{neither, by-test}
 use Rattle.basics.proofs.OctetsLaws.{big-octetsOf}
 use Rattle.restart_tlv.specs.Restart.{ackFlag, restartOctets}
 use Rattle.restart_tlv.specs.declared.writer.Ack.{Ack}
-use Rattle.hello.specs.Hello.{helloRead}
+use Rattle.hello.specs.Hello.{kindOf, helloRead}
 use Rattle.hello.specs.declared.read.Hello.{Hello}
 use Rattle.hello.specs.declared.read.Link.{Link}
 use Rattle.hello.specs.declared.read.Link.the-variants.{Lan as LanLink, P2p as P2pLink}
@@ -50,7 +50,8 @@ use Rattle.model.specs.Receive.{Acted, refuse, hereOf, accepted, reacted, decid
 use Rattle.invariants.specs.Invariants.{Tells, Span, LevelAndMac, KeyFits, Octets}
 use Rattle.invariants.proofs.RoomLaws.{each-find}
 use Rattle.invariants.proofs.ReactLaws.{SpanIn, Replies, Fair, refused as unfair, accepted as fair, react-fair}
-use Rattle.invariants.proofs.HelloBounds.{kindOf, Brief, refused as refused-read, accepted as brief, brief-read}
+use Rattle.invariants.proofs.HelloBounds.{Brief, brief-read}
+use Rattle.hello.proofs.KindLaws.{Reads, refused as refused-read, accepted as brief}
 use Rattle.invariants.proofs.GatewayLaws.{RoomOk, room-put}
 
 -- ---- what a call on a circuit leaves
@@ -147,10 +148,10 @@ module _ (c : Common) (s : Circuit) (r : Room) (hold : s .hold ≤ 65535) (ok : 
         by-test (wrongSource (s .levels) (c .system) h) (λ e. rw e ok)
         (λ e. rw e (reacted-ok n h k (key-fits (c .system) s mac h kind e) b (decided (hereOf c s) k h (r .slots)) (decided-sound k h p q)))
 
-    read-ok : (x : Read) → Brief (s .kind) x → ActOk c s (readIn n s mac b x c r)
+    read-ok : (x : Read) → Reads (Brief (s .kind)) x → ActOk c s (readIn n s mac b x c r)
     unfolding readIn refuse
     read-ok (RefusedRead x) refused-read = ok
-    read-ok (ReadAs h) (brief p q kind) = checked-ok h p q kind
+    read-ok (ReadAs h) (brief (p, q, kind)) = checked-ok h p q kind
 
     pub receive-ok : (frame : List ℕ) → Octets frame → ActOk c s (receive n s mac frame b c r)
     unfolding receive refuse
@@ -197,10 +198,10 @@ module _ (c : Common) (s : Circuit) (r : Room) (hold : s .hold ≤ 65535) (ok : 
         by-test (wrongSource (s .levels) (c .system) h) (λ e. rw e (refuse-reply k b _))
         (λ e. rw e (reacted-reply n h k b (decided (hereOf c s) k h (r .slots)) (decided-sound k h p q)))
 
-    read-reply : (h : Hello) (x : Read) → x ≡ ReadAs h → Brief (s .kind) x → ReplyOk (c .clock) (keyIn (s .kind) mac h) (readIn n s mac b x c r)
+    read-reply : (h : Hello) (x : Read) → x ≡ ReadAs h → Reads (Brief (s .kind)) x → ReplyOk (c .clock) (keyIn (s .kind) mac h) (readIn n s mac b x c r)
     unfolding readIn
     read-reply h (RefusedRead x) e refused-read = absurd (let z : _≡_ {A = ℕ} 0 1 = cc in omega arith)
-    read-reply h (ReadAs j) e (brief p q kind) = let z : j ≡ h = cc in rw (← z) (checked-reply j p q)
+    read-reply h (ReadAs j) e (brief (p, q, kind)) = let z : j ≡ h = cc in rw (← z) (checked-reply j p q)
 
     pub receive-reply : (h : Hello) (frame : List ℕ) → Octets frame → helloRead (s .kind) (s .mac) frame ≡ ReadAs h
         → ReplyOk (c .clock) (keyIn (s .kind) mac h) (receive n s mac frame b c r)

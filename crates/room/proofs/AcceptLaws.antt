@@ -1,5 +1,5 @@
 -- The laws of an accepted hello, for its code: keys, refusals 8 and 9, what is kept and written, and line 1's order.
-use mathlib.Core.Path.{_≡_, refl}
+use mathlib.Core.Path.{_≡_, refl, ap, _∙_}
 use mathlib.Core.Bool.{Bool, true, false}
 use mathlib.Core.List.{List, _++_}
 use Prim.Native.Nat.{ℕ}
@@ -7,15 +7,19 @@ use lib.ListN.{drop}
 use Rattle.restart_tlv.specs.Restart.{ackFlag, restartOctets}
 use Rattle.restart_tlv.specs.declared.writer.Ack.{Ack}
 use Rattle.basics.specs.declared.levels.Levels.{Levels}
+use Rattle.basics.specs.Levels.{onlyLevel}
 use Rattle.hello.specs.declared.read.Link.{Link}
+use Rattle.hello.specs.declared.read.Link.the-variants.{Lan}
 use Rattle.hello.specs.declared.read.Hello.{Hello}
 use Rattle.basics.specs.declared.refusal.Refusal.{Refusal}
 use Rattle.basics.specs.declared.refusal.Refusal.the-variants.{NoRoom}
 use Rattle.adjacency.specs.React.{reactOf}
+use Rattle.adjacency.specs.Keys.{levelIn}
 use Rattle.adjacency.specs.declared.marks.Acknowledgement.{Acknowledgement}
 use Rattle.adjacency.specs.declared.marks.Acknowledgement.the-variants.{Send}
 use Rattle.adjacency.specs.declared.marks.Line.{Line}
-use Rattle.adjacency.specs.declared.duty.Csnps.{Csnps}
+use Rattle.adjacency.specs.declared.marks.Line.the-variants.{One}
+use Rattle.adjacency.specs.declared.duty.Csnps.the-variants.{Nothing, Ordered}
 use Rattle.adjacency.specs.declared.duty.Rank.{Rank}
 use Rattle.adjacency.specs.Duty.{csnpsOf}
 use Rattle.adjacency.specs.declared.react.Reaction.{Reaction}
@@ -62,7 +66,15 @@ pub written-send : (system : ℕ) (a : Acknowledgement) (ack : Ack) (time : ℕ)
 unfolding written
 written-send system a ack time b e = rw e refl
 
-pub csnps-by : (rank : Rank) (line : Line) (l : Levels) (k : Link) (t : List Slot) (outranked : Bool) (r : Csnps)
-    → r ≡ csnpsOf line l k outranked → outranked ≡ anyOutranks rank t → r ≡ csnpsIn rank line l k t
-unfolding csnpsIn
-csnps-by rank line l k t outranked r e o = rw (← o) e
+-- line 1 on a LAN, our rank being at the frame's level
+module _ (rank : Rank) (l : Levels) (k : Link) (t : List Slot) (level priority : ℕ) (listed : Bool) (e : k ≡ Lan level priority listed) where
+  pub csnps-outranked : anyOutranks rank t ≡ true → Nothing ≡ csnpsIn rank One l k t
+  unfolding csnpsIn csnpsOf
+  csnps-outranked o = rw (e, o) refl
+
+  at-level : anyOutranks rank t ≡ false → Ordered (onlyLevel (levelIn k)) ≡ csnpsIn rank One l k t
+  unfolding csnpsIn csnpsOf
+  at-level o = rw (e, o) refl
+
+  pub csnps-ours : anyOutranks rank t ≡ false → rank .level ≡ levelIn k → Ordered (onlyLevel (rank .level)) ≡ csnpsIn rank One l k t
+  csnps-ours o q = ap (λ (n : ℕ). Ordered (onlyLevel n)) q ∙ at-level o

@@ -1,5 +1,4 @@
 // An accepted hello on one circuit: refusals 8 and 9 in this order, then the record that is kept and the reply that is written.
-use crate::place::Spot;
 use crate::place::place_of;
 use crate::place::store_state;
 use adjacency::marks::Acknowledgement;
@@ -10,9 +9,11 @@ use adjacency::record::Key;
 use adjacency::record::Phase;
 use adjacency::record::phase_of;
 use adjacency::step::Here;
+use adjacency::step::wrong_of;
 use basics::refusal::Refusal;
 use hello::read::Hello;
 use restart_tlv::writer::write_restart;
+use slots::slot::PLACES;
 ghost use mathlib.Core.Path.{_≡_};
 ghost use Prim.Native.Nat.{_≤_};
 ghost use lib.ListN.{length};
@@ -46,22 +47,22 @@ fn keep(words: &mut [u64], i: usize, key: Key, after: Adjacency)
 // Refusal 9, or the record and the reply.
 fn accept_at(
     words: &mut [u64],
-    spot: Spot,
+    at: usize,
     key: Key,
     what: Reaction,
     system: u64,
     reply: &mut [u8],
 ) -> Reaction
-    requires { ⌜ (length (now words) ≡ roomWords) × Spots key (tableOf (now words)) spot × (11 ≤ length (now reply)) ⌝ }
+    requires { ⌜ (length (now words) ≡ roomWords) × Spots key (tableOf (now words)) at × (11 ≤ length (now reply)) ⌝ }
     ensures { λ r. ⌜ AcceptsAt key what system (now (words .entry)) (now (reply .entry)) (now (words .exit)) (now (reply .exit)) r ⌝ }
 {
     let Reaction::Accepted(after, acknowledgement, line) = what else {
         return what;
     };
-    let Spot::At(i) = spot else {
+    if PLACES <= at {
         return Reaction::Refused(Refusal::NoRoom);
-    };
-    keep(words, i, key, after);
+    }
+    keep(words, at, key, after);
     answer(reply, acknowledgement, system);
     Reaction::Accepted(after, acknowledgement, line)
 }
@@ -84,11 +85,13 @@ pub fn accept_in(
     ensures { λ r. ⌜ Accepts here key frame (now (words .entry)) (now (reply .entry)) (now (words .exit)) (now (reply .exit)) r ⌝ }
 {
     let system = frame.system;
+    let link = frame.link;
+    let wrong = wrong_of(here, link);
     let place = place_of(words, key);
     let stood = place.before;
-    let spot = place.spot;
+    let at = place.at;
     let before = phase_of(stood);
-    let what = react_to(here, frame, stood);
-    let reaction = accept_at(words, spot, key, what, system, reply);
+    let what = react_to(here, wrong, frame, stood);
+    let reaction = accept_at(words, at, key, what, system, reply);
     Decision { reaction, before }
 }

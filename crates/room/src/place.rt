@@ -1,12 +1,13 @@
 // Where the record of a key is kept, or would be, and what stands there.
-use crate::search::Found;
 use crate::search::find_key;
 use crate::search::first_free;
+use crate::search::state_at;
 use adjacency::place::Slot;
 use adjacency::record::Adjacency;
 use adjacency::record::Key;
 use adjacency::record::Record;
 use adjacency::record::State;
+use slots::slot::PLACES;
 use slots::slot::load;
 use slots::slot::store;
 ghost use mathlib.Core.Path.{_≡_};
@@ -15,17 +16,13 @@ ghost use lib.ListN.{length, set};
 ghost use Rattle.slots.specs.Slots.{tableOf, roomWords, places};
 ghost use Rattle.adjacency.specs.declared.place.Slot.the-variants.{Held};
 ghost use Rattle.room.specs.Table.{recordWith, find};
-ghost use Rattle.room.specs.Place.{Placed, Missing};
+ghost use Rattle.room.specs.Place.{Placed};
 
-// A place, or none: the room is full and no record has the key (refusal 9).
-pub enum Spot {
-    At(usize),
-    Full,
-}
-
+// The state of the record with a key, and the place that it has or would take: PLACES where the room is full and no record has the key
+// (refusal 9).
 pub struct Place {
     pub before: Adjacency,
-    pub spot: Spot,
+    pub at: usize,
 }
 
 // The record with a key.
@@ -33,27 +30,7 @@ pub fn found(words: &[u64], key: Key) -> Adjacency
     requires { ⌜ length (now words) ≡ roomWords ⌝ }
     ensures { λ r. ⌜ r ≡ find key (tableOf (now (words .entry))) ⌝ }
 {
-    let Found::At(i) = find_key(words, key) else {
-        return Adjacency::Absent;
-    };
-    let Slot::Held(entry) = load(words, i) else {
-        return Adjacency::Absent;
-    };
-    let state = entry.state;
-    Adjacency::Present(state)
-}
-
-fn place_free(words: &[u64], key: Key) -> Place
-    requires { ⌜ (length (now words) ≡ roomWords) × Missing key (tableOf (now words)) ⌝ }
-    ensures { λ r. ⌜ Placed key (tableOf (now (words .entry))) r ⌝ }
-{
-    let before = Adjacency::Absent;
-    let Found::At(i) = first_free(words) else {
-        let spot = Spot::Full;
-        return Place { before, spot };
-    };
-    let spot = Spot::At(i);
-    Place { before, spot }
+    state_at(words, find_key(words, key.level, key.system, key.mac))
 }
 
 // The record of a key, and the place that it has or would take.
@@ -61,18 +38,19 @@ pub fn place_of(words: &[u64], key: Key) -> Place
     requires { ⌜ length (now words) ≡ roomWords ⌝ }
     ensures { λ r. ⌜ Placed key (tableOf (now (words .entry))) r ⌝ }
 {
-    let Found::At(i) = find_key(words, key) else {
-        return place_free(words, key);
-    };
-    let Slot::Held(entry) = load(words, i) else {
+    let at = find_key(words, key.level, key.system, key.mac);
+    if PLACES <= at {
         let before = Adjacency::Absent;
-        let spot = Spot::Full;
-        return Place { before, spot };
+        let at = first_free(words);
+        return Place { before, at };
+    }
+    let Slot::Held(entry) = load(words, at) else {
+        let before = Adjacency::Absent;
+        return Place { before, at };
     };
     let state = entry.state;
     let before = Adjacency::Present(state);
-    let spot = Spot::At(i);
-    Place { before, spot }
+    Place { before, at }
 }
 
 // The record of a key, at its place.

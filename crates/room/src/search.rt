@@ -10,60 +10,72 @@ use slots::probe::is_outranked_at;
 use slots::slot::PLACES;
 use slots::slot::load;
 ghost use mathlib.Core.Path.{_≡_};
-ghost use lib.ListN.{length};
+ghost use lib.ListN.{length, getD};
 ghost use Rattle.slots.specs.Slots.{tableOf, roomWords};
 ghost use Rattle.adjacency.specs.Place.{isFree, isHeld, hasKey};
+ghost use Rattle.adjacency.specs.declared.place.Slot.the-variants.{Free};
 ghost use Rattle.room.specs.Table.{firstState, anyOutranks};
-ghost use Rattle.room.specs.Place.{firstOf};
+ghost use Rattle.room.specs.Place.{firstOf, stateIn};
 
-// The first place that is asked for, if there is one.
-pub enum Found {
-    At(usize),
-    Nothing,
-}
+// A search answers how many places come before the first that is asked for: its number from 0, or PLACES where there is none.
 
-// The place of the record with a key.
-pub fn find_key(words: &[u64], key: Key) -> Found
+// The place of the record with a key, which is given in parts: as a struct it would lie on the stack.
+pub fn find_key(words: &[u64], level: u8, system: u64, mac: u64) -> usize
     requires { ⌜ length (now words) ≡ roomWords ⌝ }
-    ensures { λ r. ⌜ r ≡ firstOf (hasKey key) (tableOf (now (words .entry))) 0 ⌝ }
+    ensures { λ r. ⌜ r ≡ firstOf (hasKey (record { level = level; system = system; mac = mac })) (tableOf (now (words .entry))) ⌝ }
 {
     let mut i = 0;
     while i < PLACES {
-        if is_key_at(words, i, key) {
-            return Found::At(i);
+        if is_key_at(words, i, Key { level, system, mac }) {
+            return i;
         }
         i += 1;
     }
-    Found::Nothing
+    PLACES
 }
 
 // The first place that is free.
-pub fn first_free(words: &[u64]) -> Found
+pub fn first_free(words: &[u64]) -> usize
     requires { ⌜ length (now words) ≡ roomWords ⌝ }
-    ensures { λ r. ⌜ r ≡ firstOf isFree (tableOf (now (words .entry))) 0 ⌝ }
+    ensures { λ r. ⌜ r ≡ firstOf isFree (tableOf (now (words .entry))) ⌝ }
 {
     let mut i = 0;
     while i < PLACES {
         if is_free_at(words, i) {
-            return Found::At(i);
+            return i;
         }
         i += 1;
     }
-    Found::Nothing
+    PLACES
 }
 
-fn first_held(words: &[u64]) -> Found
+fn first_held(words: &[u64]) -> usize
     requires { ⌜ length (now words) ≡ roomWords ⌝ }
-    ensures { λ r. ⌜ r ≡ firstOf isHeld (tableOf (now (words .entry))) 0 ⌝ }
+    ensures { λ r. ⌜ r ≡ firstOf isHeld (tableOf (now (words .entry))) ⌝ }
 {
     let mut i = 0;
     while i < PLACES {
         if is_held_at(words, i) {
-            return Found::At(i);
+            return i;
         }
         i += 1;
     }
-    Found::Nothing
+    PLACES
+}
+
+// The state of the record at a place, if one stands there.
+pub fn state_at(words: &[u64], i: usize) -> Adjacency
+    requires { ⌜ length (now words) ≡ roomWords ⌝ }
+    ensures { λ r. ⌜ r ≡ stateIn (getD (tableOf (now (words .entry))) i Free) ⌝ }
+{
+    if PLACES <= i {
+        return Adjacency::Absent;
+    }
+    let Slot::Held(entry) = load(words, i) else {
+        return Adjacency::Absent;
+    };
+    let state = entry.state;
+    Adjacency::Present(state)
 }
 
 // The first record; a P2P room has one at most.
@@ -71,14 +83,7 @@ pub fn first_state(words: &[u64]) -> Adjacency
     requires { ⌜ length (now words) ≡ roomWords ⌝ }
     ensures { λ r. ⌜ r ≡ firstState (tableOf (now (words .entry))) ⌝ }
 {
-    let Found::At(i) = first_held(words) else {
-        return Adjacency::Absent;
-    };
-    let Slot::Held(entry) = load(words, i) else {
-        return Adjacency::Absent;
-    };
-    let state = entry.state;
-    Adjacency::Present(state)
+    state_at(words, first_held(words))
 }
 
 // Some router has the CSNP duty before us.

@@ -10,6 +10,7 @@ use basics::mask::put_bit;
 use settings::lengths::Lengths;
 use timer_parts::t1::Entry;
 use timer_parts::t1::T1;
+use timer_parts::t1::is_due;
 use timer_parts::t1::is_hello_due;
 use timer_parts::t1::start_entry;
 use timer_parts::t1::tick_t1;
@@ -102,6 +103,10 @@ fn tick_t1_at(words: &mut [u64], m: Masks, i: usize, s: Lengths, clock: u32) -> 
     let old = m.mask;
     let orders = m.hellos;
     let t = load_t1(words, old, i);
+    if !is_due(clock, t) {
+        let hellos = put_bit(orders, i, false);
+        return Masks { mask: old, hellos };
+    }
     let due = is_hello_due(s, clock, t);
     let next = tick_t1(s, clock, t);
     let mask = store_t1(words, old, i, next);

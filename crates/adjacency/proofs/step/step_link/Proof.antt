@@ -1,5 +1,7 @@
 -- The link that was matched decides `linkStep`.
 use Rattle.adjacency.specs.Step.{linkStep}
+use Rattle.adjacency.proofs.StepLaws.{three-way-by}
+use mathlib.Core.Path.{_∙_}
 use borrow.Author.Needs.{needs}
 use Rattle.adjacency.proofs.step.step_link.Statement.{statement}
 use Rattle.adjacency.proofs.step.step_link.Tie as tie
@@ -21,7 +23,7 @@ unfolding linkStep
 returns c = rw (c .before .before .link .given .1) (c .step-lan .ensures)
 
 returns-2 : tie.Need-returns-2
-returns-2 c = rw (c .before .before .link2 .given .1) (c .step-three-way .ensures)
+returns-2 c = c .step-three-way .ensures ∙ three-way-by _ _ _ _ _ (c .before .before .before .before .pre) (c .before .before .link2 .given .1)
 
 pub step-link-spec : {M : Type 1} → statement M
 step-link-spec =

@@ -1,27 +1,19 @@
 -- A refusal puts the room back as it was; else the room is put back, and then the orders are given.
-use Rattle.gateway.proofs.FrameLaws.{left, taken}
-use Rattle.gateway.proofs.WordLaws.{length-room, mode-put}
+use Rattle.gateway.proofs.FrameLaws.{left, taken, held-back, said-back, of-circuit}
+use Rattle.gateway.proofs.WordLaws.{length-room}
 use Rattle.gateway.specs.Words.{roomPlace}
 use Rattle.slots.specs.Slots.{roomWords}
+use Rattle.adjacency.specs.declared.record.Key.{Key}
+use Rattle.adjacency.proofs.KeysLaws.{key-level}
+use Rattle.timer_parts.specs.Heard.{heardOf}
+use Rattle.model.specs.declared.answers.Change.{Change}
 use borrow.Rule.Slice.PartMut.{mid-len}
 use native.Mathlib.Omega.{arith}
-use mathlib.Core.Path.{_∙_}
+use mathlib.Core.Path.{sym, ap, _∙_}
 use Prim.Native.Nat.{_+_, _-_}
 use borrow.Author.Needs.{needs}
 use Rattle.gateway.proofs.frame.decide_in.Statement.{statement}
 use Rattle.gateway.proofs.frame.decide_in.Tie as tie
-
-sub-mode-of : tie.Need-sub-mode-of
-sub-mode-of c = search needs
-
-part-mode-of-start : tie.Need-part-mode-of-start
-part-mode-of-start c = search needs
-
-part-mode-of-end : tie.Need-part-mode-of-end
-part-mode-of-end c = search needs
-
-mode-of-requires : tie.Need-mode-of-requires
-mode-of-requires c κs = search needs
 
 sub-here-of : tie.Need-sub-here-of
 sub-here-of c = search needs
@@ -37,6 +29,9 @@ here-of-requires c κs = search needs
 
 key-in-requires : tie.Need-key-in-requires
 key-in-requires c κs = search needs
+
+heard-of-requires : tie.Need-heard-of-requires
+heard-of-requires c κs = search needs
 
 sub-a : tie.Need-sub-a
 sub-a c = search needs
@@ -77,14 +72,20 @@ change-of-requires c κs = search needs
 order-in-requires : tie.Need-order-in-requires
 order-in-requires c κs =
     let x = c .before .before .before .before .before .before .before .before .before in
-    let s = x .before .before .before .before .before .before .before .before .before .before .before .before in
+    let s = x .before .before .before .before .before .before .before .before .before .before in
     let a = s .args in
     let l = x .accept-in .kept .0 ∙ mid-len (roomPlace (a .n - 1)) (roomPlace (a .n - 1) + roomWords) (a .gateway .now) (omega (arith, s .pre)) in
-    let mode = x .before .before .before .before .before .before .before .mode-of .ensures in (
+    let here = x .before .before .before .before .before .here-of .ensures in
+    let says = x .before .before .before .heard-of .ensures ∙ (λ i. heardOf (here i .own) (here i .circuit) (a .frame)) in (
       length-room (a .gateway .now) (x .accept-in .last .0) (s .pre .0) (a .n - 1) (omega (arith, s .pre)) l,
       s .pre .1,
       s .pre .2,
-      mode-put (a .gateway .now) (x .accept-in .last .0) (s .pre .0) (a .n - 1) (omega (arith, s .pre)) l _ mode,
+      record {
+        says = said-back (a .gateway .now) (a .n) (a .s) (a .frame) (x .accept-in .last .0) (s .pre .0) (s .pre .1) (s .pre .2) l (s .pre .4) _ says;
+        level =
+            ap (λ (y : Change). y .level) (c .change-of .ensures) ∙ ap (λ (k : Key). k .level) (x .before .before .before .before .key-in .ensures)
+            ∙ key-level (a .s .kind) (a .mac) (a .frame) (s .pre .5);
+      },
     )
 
 same-length : tie.Need-same-length
@@ -96,10 +97,10 @@ same-length-2 c = search needs
 returns : tie.Need-returns
 returns c =
     let x = c .before .before .before .before .before .before .before in
-    let s = x .before .before .before .before .before .before .before .before .before .before .before .before in
+    let s = x .before .before .before .before .before .before .before .before .before .before in
     let a = s .args in
-    left (a .gateway .now) (a .n) (a .s) (a .mac) (a .frame) (a .reply .now) (s .pre .0) (s .pre .1) (s .pre .2) _ _ (x .before .before .before .before .here-of .ensures)
-    (x .before .before .before .key-in .ensures) _ (x .accept-in .last .0) _ _ (c .before .reaction .given .1) (x .accept-in .ensures)
+    left (a .gateway .now) (a .n) (a .s) (a .mac) (a .frame) (a .reply .now) (s .pre .0) (s .pre .1) (s .pre .2) _ _ (x .before .before .before .before .before .here-of .ensures)
+    (x .before .before .before .before .key-in .ensures) _ (x .accept-in .last .0) _ _ (c .before .reaction .given .1) (x .accept-in .ensures)
 
 same-length-3 : tie.Need-same-length-3
 same-length-3 c = search needs
@@ -110,27 +111,25 @@ same-length-4 c = search needs
 returns-2 : tie.Need-returns-2
 returns-2 c =
     let x = c .before .before .before .before .before .before .before .before .before .before .before .before in
-    let s = x .before .before .before .before .before .before .before .before .before .before .before .before in
+    let s = x .before .before .before .before .before .before .before .before .before .before in
     let a = s .args in
     let l = x .accept-in .kept .0 ∙ mid-len (roomPlace (a .n - 1)) (roomPlace (a .n - 1) + roomWords) (a .gateway .now) (omega (arith, s .pre)) in
+    let held = held-back (a .gateway .now) (a .n) (a .s) (a .frame) (x .accept-in .last .0) (s .pre .0) (s .pre .1) (s .pre .2) l (s .pre .4) in
     let y = c .before .before .order-in in
-    taken (a .gateway .now) (a .n) (a .s) (a .mac) (a .frame) (a .reply .now) (s .pre .0) (s .pre .1) (s .pre .2) _ _ (x .before .before .before .before .here-of .ensures)
-    (x .before .before .before .key-in .ensures) (x .accept-in .last .0) _ _ _ _ l (y .last .0) _ _ (c .before .before .before .before .before .before .reaction2 .given .1) (x .accept-in .ensures) _
-    (c .before .before .before .change-of .ensures) (y .ensures)
+    taken (a .gateway .now) (a .n) (a .s) (a .mac) (a .frame) (a .reply .now) (s .pre .0) (s .pre .1) (s .pre .2) _ _ (x .before .before .before .before .before .here-of .ensures)
+    (x .before .before .before .before .key-in .ensures) (x .accept-in .last .0) _ _ _ _ l (y .last .0) _ _ (c .before .before .before .before .before .before .reaction2 .given .1) (x .accept-in .ensures) _
+    (c .before .before .before .change-of .ensures) (of-circuit (sym held) (y .ensures))
 
 pub decide-in-spec : {M : Type 1} → statement M
 decide-in-spec =
     tie.close
     (tie.spec
-    sub-mode-of
-    part-mode-of-start
-    part-mode-of-end
-    mode-of-requires
     sub-here-of
     part-here-of-start
     part-here-of-end
     here-of-requires
     key-in-requires
+    heard-of-requires
     sub-a
     mul-a
     add-a

@@ -1,9 +1,9 @@
 -- Line 1's order from the room, and the timers' with the control words put back.
-use Rattle.gateway.proofs.FrameLaws.{gives}
+use Rattle.gateway.proofs.FrameLaws.{gives, hears-said, of-circuit}
 use Rattle.gateway.proofs.WordLaws.{common-at}
-use Rattle.control.specs.Common.{Common}
+use Rattle.model.specs.Receive.{rankOf, saidOf}
 use native.Mathlib.Omega.{arith}
-use mathlib.Core.Path.{sym, ap, _∙_}
+use mathlib.Core.Path.{_≡_, sym, _∙_}
 use borrow.Author.Needs.{needs}
 use Rattle.gateway.proofs.frame.order_in.Statement.{statement}
 use Rattle.gateway.proofs.frame.order_in.Tie as tie
@@ -11,14 +11,23 @@ use Rattle.gateway.proofs.frame.order_in.Tie as tie
 sub-i : tie.Need-sub-i
 sub-i c = search needs
 
+sub-load-circuit : tie.Need-sub-load-circuit
+sub-load-circuit c = search needs
+
+part-load-circuit-start : tie.Need-part-load-circuit-start
+part-load-circuit-start c = search needs
+
+part-load-circuit-end : tie.Need-part-load-circuit-end
+part-load-circuit-end c = search needs
+
+load-circuit-requires : tie.Need-load-circuit-requires
+load-circuit-requires c κs = search needs
+
 mul-a : tie.Need-mul-a
 mul-a c = search needs
 
 add-a : tie.Need-add-a
 add-a c = search needs
-
-rank-of-requires : tie.Need-rank-of-requires
-rank-of-requires c κs = search needs
 
 add-csnps-in : tie.Need-add-csnps-in
 add-csnps-in c = search needs
@@ -38,41 +47,55 @@ part-csnps-in-end c = search needs
 csnps-in-requires : tie.Need-csnps-in-requires
 csnps-in-requires c κs = search needs
 
-sub-hear-frame : tie.Need-sub-hear-frame
-sub-hear-frame c = search needs
+sub-hear : tie.Need-sub-hear
+sub-hear c = search needs
 
-part-hear-frame-start : tie.Need-part-hear-frame-start
-part-hear-frame-start c = search needs
+part-hear-start : tie.Need-part-hear-start
+part-hear-start c = search needs
 
-part-hear-frame-end : tie.Need-part-hear-frame-end
-part-hear-frame-end c = search needs
+part-hear-end : tie.Need-part-hear-end
+part-hear-end c = search needs
 
-hear-frame-requires : tie.Need-hear-frame-requires
-hear-frame-requires c κs = (omega (arith, c .before .before .before .before .before .before .before .pre .0), omega (arith, c .before .before .before .before .before .before .before .pre .1, c .before .before .before .before .before .before .before .pre .2), c .before .before .before .before .before .before .before .pre .3 ∙ sym (ap (λ (x : Common). x .timers .mode) (common-at (c .before .before .before .before .before .before .before .args .gateway .now))))
+hear-requires : tie.Need-hear-requires
+hear-requires c κs = search needs
 
 same-length : tie.Need-same-length
 same-length c = search needs
 
 returns : tie.Need-returns
-returns c = let a = c .before .before .before .before .before .before .before .before .before .before .args in let y = c .before .before .hear-frame in gives (a .gateway .now) (a .n) (a .s) (a .frame) (a .reply) (a .line) (a .change) (c .before .before .before .before .before .before .before .before .before .before .pre .0) (c .before .before .before .before .before .before .before .before .before .before .pre .1) (c .before .before .before .before .before .before .before .before .before .before .pre .2) _ _ _ _ (y .last .0) (omega (arith, y .kept .0)) (c .before .before .before .before .before .before .before .rank-of .ensures) (c .before .before .before .before .csnps-in .ensures) (y .ensures)
+returns c =
+    let x = c .before .before .before .before in
+    let l = x .before .before .before .before .load-circuit in
+    let s = x .before .before .before .before .before .before .before .before in
+    let a = s .args in
+    let y = c .before .before .hear in
+    let says = s .pre .3 .says ∙ (λ i. saidOf (sym (common-at (a .gateway .now)) i) (sym (l .ensures) i) (a .frame)) in
+    let rank : record { level = a .change .level; priority = l .result .priority; mac = l .result .mac } ≡ rankOf (l .result) (a .frame) =
+    λ i. record { level = s .pre .3 .level i; priority = l .result .priority; mac = l .result .mac } in
+    of-circuit (l .ensures)
+    (gives (a .gateway .now) (a .n) (l .result) (a .frame) (a .reply) (a .line) (a .change) (s .pre .0) (s .pre .1) (s .pre .2) _ _ _ _ (y .last .0) (omega (arith, y .kept .0)) rank
+    (x .csnps-in .ensures) (hears-said says (y .ensures)))
 
 pub order-in-spec : {M : Type 1} → statement M
 order-in-spec =
     tie.close
     (tie.spec
     sub-i
+    sub-load-circuit
+    part-load-circuit-start
+    part-load-circuit-end
+    load-circuit-requires
     mul-a
     add-a
-    rank-of-requires
     add-csnps-in
     mul-csnps-in
     sub-csnps-in
     part-csnps-in-start
     part-csnps-in-end
     csnps-in-requires
-    sub-hear-frame
-    part-hear-frame-start
-    part-hear-frame-end
-    hear-frame-requires
+    sub-hear
+    part-hear-start
+    part-hear-end
+    hear-requires
     same-length
     returns)

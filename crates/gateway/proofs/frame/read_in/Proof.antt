@@ -2,6 +2,7 @@
 use Rattle.gateway.proofs.FrameLaws.{small, reads-bad, reads-good}
 use Rattle.gateway.proofs.WordLaws.{along, refuses}
 use Rattle.gateway.specs.Words.{gatewayOf}
+use Rattle.hello.proofs.KindLaws.{read-kind}
 use Rattle.basics.specs.Octets.{big}
 use Rattle.basics.specs.declared.refusal.Refusal.the-variants.{ReplyRoom}
 use mathlib.Core.Path.{sym, _∙_}
@@ -23,7 +24,10 @@ enum-known-hello : tie.Need-enum-known-hello
 enum-known-hello c = search needs
 
 check-in-requires : tie.Need-check-in-requires
-check-in-requires c κs = search needs
+check-in-requires c κs =
+    let s = c .before .before .before .before .before .before .before .before .before .before .before in
+    let kind = read-kind (s .args .s .kind) (s .args .s .mac) (s .args .frame .now) _ (sym (c .before .before .before .before .before .read-hello .ensures) ∙ c .before .before .before .hello .given .1) in
+    (s .pre .0, s .pre .1, s .pre .2, c .before .before .before .before .before .before .if1 .left, s .pre .3, s .pre .4, kind)
 
 returns-2 : tie.Need-returns-2
 returns-2 c = let a = c .before .before .before .before .before .before .before .before .before .args in

@@ -6,7 +6,10 @@ use Rattle.basics.specs.Octets.{big}
 use Rattle.model.specs.Step.{Receive}
 use Rattle.control.specs.Common.{InRange}
 use Rattle.basics.specs.declared.refusal.Refusal.the-variants.{NoCircuit}
-use mathlib.Core.Path.{subst, _∙_}
+use Rattle.control.proofs.CommonLaws.{known-at}
+use Rattle.control.specs.Words.{controlWords}
+use Rattle.basics.specs.Lists.{part}
+use mathlib.Core.Path.{sym, subst, _∙_}
 use borrow.Author.Needs.{needs}
 use Rattle.gateway.proofs.frame.receive_in.Statement.{statement}
 use Rattle.gateway.proofs.frame.receive_in.Tie as tie
@@ -37,7 +40,12 @@ returns c = let a = c .before .before .before .before .before .before .before .b
     along (no-circuit (gatewayOf (a .gateway .now)) (a .n) (Receive (big 6 (a .source .now) 0) (a .frame .now) (a .reply .now)) (choice (a .gateway .now) (a .n) _ _ (c .before .before .circuit-of .ensures) (c .enum-told .given .1))) (refuses-all (a .gateway .now) (a .reply .now) NoCircuit)
 
 read-in-requires : tie.Need-read-in-requires
-read-in-requires c κs = let s = c .before .before .before .before .before .before .before .before .before .before .before .before in let r = subst (InRange _) (c .before .before .before .s .given .1) (c .before .before .before .before .before .circuit-of .ensures .range) in (s .pre .0, r .0, r .1, s .pre .1)
+read-in-requires c κs =
+    let s = c .before .before .before .before .before .before .before .before .before .before .before .before in
+    let chosen = c .before .before .before .before .before .circuit-of .ensures in
+    let known = c .before .before .before .s .given .1 in
+    let r = subst (InRange _) known (chosen .range) in
+    (s .pre .0, r .0, r .1, s .pre .1, known-at (part 0 controlWords (s .args .gateway .now)) (s .args .n) _ (sym (chosen .is) ∙ known))
 
 same-length-2 : tie.Need-same-length-2
 same-length-2 c = search needs

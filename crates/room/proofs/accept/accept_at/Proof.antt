@@ -1,6 +1,6 @@
 -- Refusal 8 passes, then refusal 9, then the record and the reply.
 use mathlib.Core.Path.{refl, sym, subst}
-use Rattle.room.specs.Place.{Spots}
+use native.Mathlib.Omega.{arith}
 use Rattle.room.specs.AcceptWords.{Did}
 use Rattle.room.proofs.AcceptLaws.{room-refused, room-full, room-free}
 use borrow.Author.Needs.{needs}
@@ -14,19 +14,19 @@ enum-told : tie.Need-enum-told
 enum-told c = search needs
 
 returns : tie.Need-returns
-returns c = let e = c .enum-told .given .1 in record { is = room-refused _ _ _ e; did = subst (Did _ _ _ _ _ _) (sym e) (refl, refl) }
-
-enum-known-spot : tie.Need-enum-known-spot
-enum-known-spot c = search needs
-
-enum-told-2 : tie.Need-enum-told-2
-enum-told-2 c = search needs
+returns c =
+    let e = c .enum-told .given .1 in
+    record { is = room-refused _ _ _ e; did = subst (Did _ _ _ _ _ _) (sym e) (refl, refl) }
 
 returns-2 : tie.Need-returns-2
-returns-2 c = let s = c .before .before .before .before .before .before .before in record { is = room-full _ _ _ _ _ (c .before .before .before .what .given .1) (subst (Spots _ _) (c .enum-told2 .given .1) (s .pre .1)); did = (refl, refl) }
+returns-2 c =
+    let s = c .before .before .before .before .before .before in
+    record { is = room-full _ _ _ _ _ (c .before .before .what .given .1) (s .pre .1 .none (omega (arith, c .if1 .taken))); did = (refl, refl) }
 
 keep-requires : tie.Need-keep-requires
-keep-requires c κs = let s = c .before .before .before .before .before .before .before .before .before in (s .pre .0, subst (Spots _ _) (c .before .before .spot .given .1) (s .pre .1))
+keep-requires c κs =
+    let s = c .before .before .before .before .before .before .before in
+    (s .pre .0, s .pre .1 .takes (omega (arith, c .before .if1 .left)))
 
 answer-requires : tie.Need-answer-requires
 answer-requires c κs = search needs
@@ -38,7 +38,11 @@ same-length-2 : tie.Need-same-length-2
 same-length-2 c = search needs
 
 returns-3 : tie.Need-returns-3
-returns-3 c = let s = c .before .before .before .before .before .before .before .before .before .before .before .before .before .before .before .before in let t = subst (Spots _ _) (c .before .before .before .before .before .before .before .before .before .spot .given .1) (s .pre .1) in record { is = room-free _ _ _ _ _ (c .before .before .before .before .before .before .before .before .before .before .before .before .what .given .1) (t .room); did = (c .before .before .before .before .before .before .keep .ensures, c .before .before .answer .ensures) }
+returns-3 c =
+    let x = c .before .before .before .before .before .before in
+    let s = x .before .before .before .before .before .before .before .before in
+    let t = s .pre .1 .takes (omega (arith, x .before .before .if1 .left)) in
+    record { is = room-free _ _ _ _ _ (x .before .before .before .before .what .given .1) (t .room); did = (x .keep .ensures, c .before .before .answer .ensures) }
 
 pub accept-at-spec : {M : Type 1} → statement M
 accept-at-spec =
@@ -47,8 +51,6 @@ accept-at-spec =
     enum-known-what
     enum-told
     returns
-    enum-known-spot
-    enum-told-2
     returns-2
     keep-requires
     answer-requires

@@ -6,6 +6,9 @@ use borrow.Author.Needs.{needs}
 use Rattle.room.proofs.accept.accept_in.Statement.{statement}
 use Rattle.room.proofs.accept.accept_in.Tie as tie
 
+wrong-of-requires : tie.Need-wrong-of-requires
+wrong-of-requires c κs = search needs
+
 place-of-requires : tie.Need-place-of-requires
 place-of-requires c κs = search needs
 
@@ -39,6 +42,7 @@ pub accept-in-spec : {M : Type 1} → statement M
 accept-in-spec =
     tie.close
     (tie.spec
+    wrong-of-requires
     place-of-requires
     phase-of-requires
     react-to-requires

@@ -1,9 +1,11 @@
--- What `find_key` says of the room is `find`, by the laws of a search.
-use Rattle.room.proofs.SearchLaws.{hits, found-below, no-key, key-found, key-stands}
-use Rattle.slots.proofs.SlotLaws.{not-held}
+-- The law `find-at`.
+use Rattle.room.proofs.SearchLaws.{find-at}
 use Rattle.slots.specs.Slots.{tableOf}
-use Rattle.adjacency.specs.Place.{hasKey}
-use mathlib.Core.Path.{sym, _∙_}
+use Rattle.room.specs.Place.{stateIn}
+use Rattle.adjacency.specs.declared.place.Slot.the-variants.{Free}
+use lib.ListN.{getD}
+use Prim.Native.Nat.{ℕ}
+use mathlib.Core.Path.{sym, ap, _∙_}
 use borrow.Author.Needs.{needs}
 use Rattle.room.proofs.place.found.Statement.{statement}
 use Rattle.room.proofs.place.found.Tie as tie
@@ -11,47 +13,14 @@ use Rattle.room.proofs.place.found.Tie as tie
 find-key-requires : tie.Need-find-key-requires
 find-key-requires c κs = search needs
 
-enum-known-i : tie.Need-enum-known-i
-enum-known-i c = search needs
-
-enum-told : tie.Need-enum-told
-enum-told c = search needs
+state-at-requires : tie.Need-state-at-requires
+state-at-requires c κs = search needs
 
 returns : tie.Need-returns
 returns c =
-    let s = c .before .before .before .before .args in
-    sym (no-key (s .key) (tableOf (s .words .now)) 0 (sym (c .before .before .find-key .ensures) ∙ c .enum-told .given .1) .1)
-
-load-requires : tie.Need-load-requires
-load-requires c κs =
-    let s = c .before .before .before .before .before in (
-      s .pre,
-      found-below (hasKey (s .args .key)) (s .args .words .now) _ (sym (c .before .before .before .find-key .ensures) ∙ c .before .i .given .1),
-    )
-
-enum-known-entry : tie.Need-enum-known-entry
-enum-known-entry c = search needs
-
-returns-2 : tie.Need-returns-2
-returns-2 c =
-    let s = c .before .before .before .before .before .before .before .args in
-    absurd (key-stands (s .key) (tableOf (s .words .now)) _ (c .before .load .result) (sym (c .before .before .before .before .before .find-key .ensures) ∙ c .before .before .before .i .given .1) (c .before .load .ensures) (not-held (c .before .load .result) (c .match2 .keys2)))
-
-returns-3 : tie.Need-returns-3
-returns-3 c =
-    let s = c .before .before .before .before .before .before .before .before .before .args in
-    let e = sym (c .before .before .before .before .before .before .before .find-key .ensures) ∙ c .before .before .before .before .before .i .given .1 in
-    sym (key-found (s .key) (tableOf (s .words .now)) _ (hits (hasKey (s .key)) (tableOf (s .words .now)) _ e) (sym (c .before .before .before .load .ensures) ∙ c .before .entry .given .1))
+    let a = c .before .before .before .args in
+    let t = tableOf (a .words .now) in
+    c .state-at .ensures ∙ ap (λ (i : ℕ). stateIn (getD t i Free)) (c .before .find-key .ensures) ∙ sym (find-at (a .key) t)
 
 pub found-spec : {M : Type 1} → statement M
-found-spec =
-    tie.close
-    (tie.spec
-    find-key-requires
-    enum-known-i
-    enum-told
-    returns
-    load-requires
-    enum-known-entry
-    returns-2
-    returns-3)
+found-spec = tie.close (tie.spec find-key-requires state-at-requires returns)
