@@ -1,4 +1,4 @@
-// Searches of a room, place by place.
+// Searches of a room, place by place. Where a place is asked for, the answer is how many come before it: its number from 0, or PLACES where there is none.
 use adjacency::duty::Rank;
 use adjacency::place::Slot;
 use adjacency::record::Adjacency;
@@ -17,9 +17,7 @@ ghost use Rattle.adjacency.specs.declared.place.Slot.the-variants.{Free};
 ghost use Rattle.room.specs.Table.{firstState, anyOutranks};
 ghost use Rattle.room.specs.Place.{firstOf, stateIn};
 
-// A search answers how many places come before the first that is asked for: its number from 0, or PLACES where there is none.
-
-// The place of the record with a key, which is given in parts: as a struct it would lie on the stack.
+// The place of the record with a key. The key comes in parts: a struct would lie on the caller's stack.
 pub fn find_key(words: &[u64], level: u8, system: u64, mac: u64) -> usize
     requires { ⌜ length (now words) ≡ roomWords ⌝ }
     ensures { λ r. ⌜ r ≡ firstOf (hasKey (record { level = level; system = system; mac = mac })) (tableOf (now (words .entry))) ⌝ }
