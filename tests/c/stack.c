@@ -62,7 +62,7 @@ static struct {
     unsigned inputs, done;
 } calls[CALLS] = {
     {"gateway_words", 16, raw_gateway_words, c_gateway_words, 0, 0, 0, 0},
-    {"set_up", 512, raw_set_up, c_set_up, 0, 0, 0, 0},
+    {"set_up", 64, raw_set_up, c_set_up, 0, 0, 0, 0},
     {"fault", 32, raw_fault, c_fault, 0, 0, 0, 0},
     {"receive", 320, raw_receive, c_receive, 0, 0, 0, 0},
     {"tick", 128, raw_tick, c_tick, 0, 0, 0, 0},

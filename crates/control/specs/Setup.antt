@@ -6,9 +6,19 @@ use mathlib.Core.List.{List}
 use lib.ListN.{getD}
 use Rattle.settings.specs.declared.lengths.Lengths.{Lengths}
 use Rattle.timers.specs.Events.{startHellos}
+use Rattle.settings.specs.declared.circuit.Circuit.{Circuit}
 use Rattle.settings.specs.declared.setup.Settings.{Settings}
+use Rattle.control.specs.declared.setup.Basis.{Basis}
 use Rattle.control.specs.Words.{sealPlace, seal, circuitsFrom, commonOf}
 use Rattle.control.specs.Common.{startOf, setupCommon}
+
+-- the settings of a gateway whose circuits stand in its words
+abbrev pub settingsOn : Basis → List Circuit → Settings
+settingsOn b cs = record { system = b .system; lengths = b .lengths; clock = b .clock; mode = b .mode; count = b .count; circuits = cs }
+
+-- .. and these without their circuits
+abbrev pub basisOf : Settings → Basis
+basisOf s = record { system = s .system; lengths = s .lengths; clock = s .clock; mode = s .mode; count = s .count }
 
 -- the words that are no timer's and no circuit's
 pub record Stores (own : ℕ) (l : Lengths) (time n : ℕ) (ws ws′ : List ℕ) : Type 0 where

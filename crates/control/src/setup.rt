@@ -12,10 +12,9 @@ use crate::words::SEAL;
 use crate::words::SEAL_AT;
 use crate::words::SYSTEM_AT;
 use crate::words::levels_of;
-use basics::mask::CIRCUITS;
 use settings::circuit::Circuit;
 use settings::lengths::Lengths;
-use settings::setup::Settings;
+use settings::mode::Mode;
 use timers::events::Start;
 use timers::events::start_timers;
 ghost use mathlib.Core.Path.{_≡_};
@@ -26,10 +25,10 @@ ghost use Rattle.timers.specs.Events.{helloBits};
 ghost use Rattle.basics.specs.Mask.{circuits};
 ghost use Rattle.control.specs.Words.{controlWords, circuitAt, circuitsFrom};
 ghost use Rattle.control.specs.Common.{presentOf};
-ghost use Rattle.control.specs.Setup.{Stores, SetsControl};
+ghost use Rattle.control.specs.Setup.{settingsOn, Stores, SetsControl};
 
 // Circuit i, from 0.
-fn store_circuit(words: &mut [u64], i: usize, s: Circuit)
+pub fn store_circuit(words: &mut [u64], i: usize, s: Circuit)
     requires { ⌜ (length (now words) ≡ controlWords) × (i < circuits) ⌝ }
     ensures { λ _. ⌜ (circuitAt (now (words .exit)) i ≡ s) × ((j : ℕ) → j ≢ i → circuitAt (now (words .exit)) j ≡ circuitAt (now (words .entry)) j) ⌝ }
 {
@@ -39,18 +38,6 @@ fn store_circuit(words: &mut [u64], i: usize, s: Circuit)
     words[CIRCUITS_AT + 3 * i] = w;
     words[CIRCUITS_AT + 3 * i + 1] = mac;
     words[CIRCUITS_AT + 3 * i + 2] = id as u64;
-}
-
-fn store_circuits(words: &mut [u64], all: [Circuit; CIRCUITS])
-    requires { ⌜ length (now words) ≡ controlWords ⌝ }
-    ensures { λ _. ⌜ circuitsFrom (now (words .exit)) 0 circuits ≡ all ⌝ }
-{
-    let mut i = 0;
-    while i < CIRCUITS {
-        let one = all[i];
-        store_circuit(words, i, one);
-        i += 1;
-    }
 }
 
 fn store_settings(words: &mut [u64], system: u64, lengths: Lengths, clock: u32, count: u8)
@@ -73,18 +60,25 @@ fn present_of(count: u8) -> u8
     ((1u16 << count) - 1) as u8
 }
 
-// The common part of a new gateway; the answer is the mask of the circuits whose hello is ordered.
-pub fn set_up(words: &mut [u64], s: Settings) -> u8
+// The settings but for the circuits.
+pub struct Basis {
+    pub system: u64,
+    pub lengths: Lengths,
+    pub clock: u32,
+    pub mode: Mode,
+    pub count: u8,
+}
+
+// The common part of a new gateway whose circuits are stored already; the answer is the mask of the circuits whose hello is ordered.
+pub fn begin(words: &mut [u64], s: Basis) -> u8
     requires { ⌜ (length (now words) ≡ controlWords) × (s .count ≤ circuits) ⌝ }
-    ensures { λ r. ⌜ SetsControl s (now (words .exit)) (helloBits r) ⌝ }
+    ensures { λ r. ⌜ SetsControl (settingsOn s (circuitsFrom (now (words .entry)) 0 circuits)) (now (words .exit)) (helloBits r) ⌝ }
 {
     let lengths = s.lengths;
     let mode = s.mode;
-    let all = s.circuits;
     let clock = s.clock;
     let count = s.count;
     let system = s.system;
-    store_circuits(words, all);
     store_settings(words, system, lengths, clock, count);
     let levels = levels_of(words);
     let present = present_of(count);

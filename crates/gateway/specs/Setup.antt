@@ -3,8 +3,10 @@
 use Prim.Native.Nat.{ℕ}
 use mathlib.Core.Path.{_≡_}
 use mathlib.Core.Bool.{Bool}
+use mathlib.Core.Logic.{_≢_}
 use mathlib.Core.List.{List, map}
-use Rattle.timers.specs.Events.{helloBits}
+use lib.ListN.{set}
+use Rattle.timers.specs.Events.{startHellos, helloBits}
 use Rattle.basics.specs.Octets.{big}
 use Rattle.basics.specs.Mask.{circuits}
 use Rattle.settings.specs.declared.circuit.Circuit.{Circuit}
@@ -12,7 +14,12 @@ use Rattle.settings.specs.declared.setup.Settings.{Settings}
 use Rattle.model.specs.declared.answers.SetUp.{SetUp}
 use Rattle.model.specs.declared.answers.SetUp.the-variants.{Refused as RefusedAnswer, Done}
 use Rattle.model.specs.Numbers.{refusalNo}
-use Rattle.model.specs.Gateway.{Gateway, Setup, Refused as RefusedSetup, Started}
+use Rattle.basics.specs.Lists.{part}
+use Rattle.control.specs.Words.{controlWords, circuitAt, circuitsFrom}
+use Rattle.control.specs.Common.{startOf, setupCommon}
+use Rattle.control.specs.Setup.{settingsOn}
+use Rattle.control.specs.declared.setup.Basis.{Basis}
+use Rattle.model.specs.Gateway.{Gateway, withCommon, newRoom, Setup, Refused as RefusedSetup, Started}
 use Rattle.gateway.specs.declared.config.GatewaySettings.{GatewaySettings}
 use Rattle.gateway.specs.declared.config.CircuitSettings.{CircuitSettings}
 use Rattle.gateway.specs.Words.{gatewayOf}
@@ -39,6 +46,22 @@ settingsGiven s =
       count = s .count;
       circuits = map circuitGiven (s .circuits);
     }
+
+-- Setup in parts, of the words ws. A circuit (from 0) is put: its own settings and room, and no other's.
+pub record PutsCircuit (i : ℕ) (s : Circuit) (ws ws′ : List ℕ) : Type 0 where
+  pub own : circuitAt (part 0 controlWords ws′) i ≡ s
+  pub others : (j : ℕ) → j ≢ i → circuitAt (part 0 controlWords ws′) j ≡ circuitAt (part 0 controlWords ws) j
+  pub rooms : gatewayOf ws′ .rooms ≡ set (gatewayOf ws .rooms) i (newRoom s)
+
+-- all are put
+pub record HoldsCircuits (all : List Circuit) (ws : List ℕ) : Type 0 where
+  pub stored : circuitsFrom (part 0 controlWords ws) 0 circuits ≡ all
+  pub rooms : gatewayOf ws .rooms ≡ map newRoom all
+
+-- then the rest begins
+pub record Begins (b : Basis) (ws ws′ : List ℕ) (hellos : List Bool) : Type 0 where
+  pub next : gatewayOf ws′ ≡ withCommon (gatewayOf ws) (setupCommon (settingsOn b (circuitsFrom (part 0 controlWords ws) 0 circuits)))
+  pub ordered : hellos ≡ startHellos (startOf (settingsOn b (circuitsFrom (part 0 controlWords ws) 0 circuits)))
 
 -- setup's answer: its refusal's number, or the circuits whose hello is ordered
 pub data Report : Type 0 where

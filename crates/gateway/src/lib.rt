@@ -7,4 +7,4 @@ mod frame; // frame.rt: receive
 mod ticks; // ticks.rt: tick and release
 mod notices; // notices.rt: CSNP set complete, database complete
 mod asks; // asks.rt: look up, link metric, flags of the next hello, circuits that wait for T1
-mod setup; // setup.rt: setup
+pub mod setup; // setup.rt: setup; its parts, circuit by circuit, are for isis_gr

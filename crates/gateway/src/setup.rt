@@ -4,7 +4,9 @@ use crate::config::GatewaySettings;
 use basics::mask::CIRCUITS;
 use basics::octets::six;
 use basics::refusal::Refusal;
-use control::setup::set_up;
+use control::setup::Basis;
+use control::setup::begin;
+use control::setup::store_circuit;
 use control::words::CONTROL_WORDS;
 use model::answers::SetUp;
 use room::empty::open_room;
@@ -14,13 +16,14 @@ use settings::setup::are_settings_ok;
 use slots::slot::ROOM_WORDS;
 ghost use mathlib.Core.Path.{_≡_};
 ghost use mathlib.Core.List.{map};
-ghost use Prim.Native.Nat.{_<_};
-ghost use lib.ListN.{length, set};
+ghost use Prim.Native.Nat.{_<_, _≤_};
+ghost use lib.ListN.{length};
 ghost use Rattle.basics.specs.Mask.{circuits};
 ghost use Rattle.basics.specs.Octets.{big};
-ghost use Rattle.model.specs.Gateway.{withRooms, newRoom, setup};
-ghost use Rattle.gateway.specs.Words.{gatewayWords, gatewayOf};
-ghost use Rattle.gateway.specs.Setup.{circuitGiven, settingsGiven, SetsUp};
+ghost use Rattle.timers.specs.Events.{helloBits};
+ghost use Rattle.model.specs.Gateway.{setup};
+ghost use Rattle.gateway.specs.Words.{gatewayWords};
+ghost use Rattle.gateway.specs.Setup.{circuitGiven, settingsGiven, PutsCircuit, HoldsCircuits, Begins, SetsUp};
 
 // A System ID or a MAC.
 fn number(octets: [u8; 6]) -> u64
@@ -80,26 +83,35 @@ pub(crate) fn settings_given(s: GatewaySettings) -> Settings
     }
 }
 
-// Circuit i (from 0): no record stands there.
-fn open_at(gateway: &mut [u64], i: usize, s: Circuit)
+// Circuit i (from 0) of a gateway that is being set up: its settings are stored, and no record stands there.
+pub fn put_circuit(gateway: &mut [u64], i: usize, s: Circuit)
     requires { ⌜ (length (now gateway) ≡ gatewayWords) × (i < circuits) ⌝ }
-    ensures { λ _. ⌜ gatewayOf (now (gateway .exit)) ≡ withRooms (gatewayOf (now (gateway .entry))) (set (gatewayOf (now (gateway .entry)) .rooms) i (newRoom s)) ⌝ }
+    ensures { λ _. ⌜ PutsCircuit i s (now (gateway .entry)) (now (gateway .exit)) ⌝ }
 {
     let kind = s.kind;
     let a = CONTROL_WORDS + ROOM_WORDS * i;
+    store_circuit(&mut gateway[0..CONTROL_WORDS], i, s);
     open_room(&mut gateway[a..a + ROOM_WORDS], kind);
 }
 
-fn open_rooms(gateway: &mut [u64], all: [Circuit; CIRCUITS])
+fn put_circuits(gateway: &mut [u64], all: [Circuit; CIRCUITS])
     requires { ⌜ length (now gateway) ≡ gatewayWords ⌝ }
-    ensures { λ _. ⌜ gatewayOf (now (gateway .exit)) ≡ withRooms (gatewayOf (now (gateway .entry))) (map newRoom all) ⌝ }
+    ensures { λ _. ⌜ HoldsCircuits all (now (gateway .exit)) ⌝ }
 {
     let mut i = 0;
     while i < CIRCUITS {
         let one = all[i];
-        open_at(gateway, i, one);
+        put_circuit(gateway, i, one);
         i += 1;
     }
+}
+
+// The rest of a new gateway, once its circuits are put.
+pub fn begin_in(gateway: &mut [u64], s: Basis) -> u8
+    requires { ⌜ (length (now gateway) ≡ gatewayWords) × (s .count ≤ circuits) ⌝ }
+    ensures { λ r. ⌜ Begins s (now (gateway .entry)) (now (gateway .exit)) (helloBits r) ⌝ }
+{
+    begin(&mut gateway[0..CONTROL_WORDS], s)
 }
 
 // Refusal 12, or a new gateway, whatever the words were.
@@ -108,9 +120,18 @@ pub(crate) fn set_up_in(gateway: &mut [u64], s: Settings) -> SetUp
     ensures { λ r. ⌜ SetsUp (setup s) (now (gateway .entry)) (now (gateway .exit)) r ⌝ }
 {
     let all = s.circuits;
+    let lengths = s.lengths;
+    let mode = s.mode;
     if are_settings_ok(s) {
-        let hellos = set_up(&mut gateway[0..CONTROL_WORDS], s);
-        open_rooms(gateway, all);
+        let basis = Basis {
+            system: s.system,
+            lengths,
+            clock: s.clock,
+            mode,
+            count: s.count,
+        };
+        put_circuits(gateway, all);
+        let hellos = begin_in(gateway, basis);
         return SetUp::Done(hellos);
     }
     SetUp::Refused(Refusal::BadSetting)

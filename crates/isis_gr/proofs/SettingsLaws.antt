@@ -2,23 +2,28 @@
 use Prim.Native.Nat.{ℕ, _+_, _<_, _≤_}
 use native.Mathlib.Omega.{arith}
 use mathlib.Core.Path.{_≡_, refl, ap, sym, _∙_}
-use mathlib.Core.Bool.{true, false}
+use mathlib.Core.Bool.{Bool, true, false, _&&_}
 use mathlib.Core.List.{List}
-use lib.ListN.{getD, take, drop}
+use lib.ListN.{length, getD, take, drop, length-map, List·getD-map}
 use lib.Seq.{take-all}
 use borrow.Author.Tests.{eq-eqb, ne-eqb}
 use Rattle.basics.specs.Octets.{octet}
 use Rattle.basics.specs.Mask.{circuits}
 use Rattle.basics.specs.declared.refusal.Refusal.the-variants.{BadSetting}
-use Rattle.basics.proofs.ListLaws.{getD-tabulate, every-here, every-skip, every-end}
+use Rattle.basics.proofs.ListLaws.{length-tabulate, getD-tabulate, every-here, every-skip, every-end}
 use Rattle.basics.specs.Lists.{every}
+use Rattle.settings.specs.Settings.{between, circuitOk, lengthsOk, settingsOk}
+use Rattle.settings.proofs.SettingsLaws.{ok-counted, ok-miscounted}
+use Rattle.settings.specs.declared.circuit.Circuit.{Circuit}
 use Rattle.settings.specs.declared.setup.Settings.{Settings}
+use Rattle.control.specs.Setup.{basisOf}
+use Rattle.control.specs.declared.setup.Basis.{Basis}
 use Rattle.model.specs.Numbers.{refusalNo}
 use Rattle.model.specs.Gateway.{setup}
 use Rattle.model.specs.declared.answers.SetUp.{SetUp}
-use Rattle.gateway.specs.Setup.{Refused as RefusedReport, SetsUp, reportOf}
+use Rattle.gateway.specs.Setup.{Refused as RefusedReport, PutsCircuit, Begins, SetsUp, reportOf}
 use Rattle.isis_gr.specs.Words.{reportNo, modeKnown}
-use Rattle.isis_gr.specs.Settings.{layout, circuitPlace, circuitPlaces, circuitKnown, settingsFrom, settingsKnown, setupFrom, EncodesSetup}
+use Rattle.isis_gr.specs.Settings.{layout, circuitPlace, circuitPlaces, circuitFrom, circuitKnown, settingsFrom, settingsKnown, setupFrom, EncodesSetup}
 
 -- ---- the circuits' numbers
 
@@ -51,6 +56,38 @@ module _ (s : List ℕ) where
 
     pub known-all : circuits ≤ count → every (circuitKnown s) (take circuits circuitPlaces) ≡ settingsKnown s
     known-all h = ap (every (circuitKnown s)) (sym (take-all count circuitPlaces h)) ∙ known-first
+
+-- ---- the circuits, by their places
+
+pub length-circuits : (s : List ℕ) → length (settingsFrom s .circuits) ≡ circuits
+unfolding settingsFrom
+length-circuits s = length-map circuitPlaces (circuitFrom s) ∙ length-tabulate circuitPlace circuits
+
+pub circuit-nth : (s : List ℕ) (i : ℕ) → i < circuits → circuitFrom s (circuitPlace i) ≡ getD (settingsFrom s .circuits) i (circuitFrom s 0)
+unfolding settingsFrom
+circuit-nth s i lt = sym (List·getD-map (circuitFrom s) circuitPlaces i 0 ∙ ap (circuitFrom s) (getD-tabulate circuitPlace circuits i 0 lt))
+
+pub put-as : {i : ℕ} {c c′ : Circuit} {ws ws′ : List ℕ} → c ≡ c′ → PutsCircuit i c ws ws′ → PutsCircuit i c′ ws ws′
+put-as e h = rw (← e) h
+
+-- ---- settings in range, by their basis
+
+module _ (s : List ℕ) (b : Basis) (e : b ≡ basisOf (settingsFrom s)) where
+  count-is : b .count ≡ settingsFrom s .count
+  count-is = ap (λ (x : Basis). x .count) e
+
+  pub ok-by : (x y : Bool) → between 1 (b .count) circuits ≡ true → x ≡ every circuitOk (take (b .count) (settingsFrom s .circuits)) → y ≡ lengthsOk (b .lengths)
+      → (x && y) ≡ settingsOk (settingsFrom s)
+  ok-by x y h p q =
+      rw (p, q)
+      ((λ i. every circuitOk (take (count-is i) (settingsFrom s .circuits)) && lengthsOk (e i .lengths))
+      ∙ sym (ok-counted (settingsFrom s) (ap (λ (n : ℕ). between 1 n circuits) (sym count-is) ∙ h)))
+
+  pub not-by : between 1 (b .count) circuits ≡ false → false ≡ settingsOk (settingsFrom s)
+  not-by h = sym (ok-miscounted (settingsFrom s) (ap (λ (n : ℕ). between 1 n circuits) (sym count-is) ∙ h))
+
+pub begins-as : {b b′ : Basis} {ws ws′ : List ℕ} {h : List Bool} → b ≡ b′ → Begins b ws ws′ h → Begins b′ ws ws′ h
+begins-as e h = rw (← e) h
 
 -- ---- setup
 

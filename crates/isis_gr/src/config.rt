@@ -3,20 +3,19 @@ use basics::kind::CircuitKind;
 use basics::levels::Levels;
 use basics::mask::CIRCUITS;
 use basics::octets::four;
+use basics::octets::six;
 use basics::octets::two;
 use basics::octets::wide;
-use gateway::config::CircuitSettings;
-use gateway::config::GatewaySettings;
+use control::setup::Basis;
+use settings::circuit::Circuit;
 use settings::lengths::Lengths;
 use settings::mode::Mode;
 ghost use mathlib.Core.Path.{_≡_};
-ghost use mathlib.Core.List.{map};
 ghost use Prim.Native.Nat.{_+_, _<_, _≤_};
 ghost use lib.ListN.{length, take};
-ghost use Rattle.basics.specs.Octets.{big};
 ghost use Rattle.basics.specs.Mask.{circuits};
 ghost use Rattle.basics.specs.Lists.{every};
-ghost use Rattle.gateway.specs.Setup.{circuitGiven, settingsGiven};
+ghost use Rattle.control.specs.Setup.{basisOf};
 ghost use Rattle.isis_gr.specs.Words.{modeOf, kindOf, levelsOf};
 ghost use Rattle.isis_gr.specs.Settings.{settingsOctets, circuitPlaces, circuitFrom, settingsFrom, circuitKnown, settingsKnown};
 
@@ -84,25 +83,17 @@ fn levels_of(n: u8) -> Levels
     }
 }
 
-// A System ID or a MAC.
-fn six_octets(s: &[u8], at: usize) -> [u8; 6]
-    requires { ⌜ at + 5 < length (now s) ⌝ }
-    ensures { λ r. ⌜ big 6 r 0 ≡ big 6 (now (s .entry)) at ⌝ }
-{
-    [s[at], s[at + 1], s[at + 2], s[at + 3], s[at + 4], s[at + 5]]
-}
-
-fn circuit_at(s: &[u8], at: usize) -> CircuitSettings
+// The circuit whose octets start at a place.
+pub(crate) fn circuit_at(s: &[u8], at: usize) -> Circuit
     requires { ⌜ at + 18 < length (now s) ⌝ }
-    ensures { λ r. ⌜ circuitGiven r ≡ circuitFrom (now (s .entry)) at ⌝ }
+    ensures { λ r. ⌜ r ≡ circuitFrom (now (s .entry)) at ⌝ }
 {
     let kind = kind_of(s[at]);
     let levels = levels_of(s[at + LEVELS]);
-    let mac = six_octets(s, at + MAC);
-    CircuitSettings {
+    Circuit {
         kind,
         levels,
-        mac,
+        mac: six(s, at + MAC),
         priority: s[at + PRIORITY],
         hold: two(s, at + HOLD),
         metric: four(s, at + METRIC),
@@ -110,42 +101,23 @@ fn circuit_at(s: &[u8], at: usize) -> CircuitSettings
     }
 }
 
-fn circuits_in(s: &[u8]) -> [CircuitSettings; CIRCUITS]
+// The settings but for the circuits.
+pub(crate) fn basis_in(s: &[u8]) -> Basis
     requires { ⌜ length (now s) ≡ settingsOctets ⌝ }
-    ensures { λ r. ⌜ map circuitGiven r ≡ map (circuitFrom (now (s .entry))) circuitPlaces ⌝ }
+    ensures { λ r. ⌜ r ≡ basisOf (settingsFrom (now (s .entry))) ⌝ }
 {
-    [
-        circuit_at(s, FIRST_CIRCUIT),
-        circuit_at(s, FIRST_CIRCUIT + CIRCUIT_OCTETS),
-        circuit_at(s, FIRST_CIRCUIT + 2 * CIRCUIT_OCTETS),
-        circuit_at(s, FIRST_CIRCUIT + 3 * CIRCUIT_OCTETS),
-        circuit_at(s, FIRST_CIRCUIT + 4 * CIRCUIT_OCTETS),
-        circuit_at(s, FIRST_CIRCUIT + 5 * CIRCUIT_OCTETS),
-        circuit_at(s, FIRST_CIRCUIT + 6 * CIRCUIT_OCTETS),
-        circuit_at(s, FIRST_CIRCUIT + 7 * CIRCUIT_OCTETS),
-    ]
-}
-
-pub(crate) fn settings_in(s: &[u8]) -> GatewaySettings
-    requires { ⌜ length (now s) ≡ settingsOctets ⌝ }
-    ensures { λ r. ⌜ settingsGiven r ≡ settingsFrom (now (s .entry)) ⌝ }
-{
-    let system = six_octets(s, SYSTEM);
     let lengths = Lengths {
         t1: two(s, T1),
         t2: two(s, T2),
         tries: s[TRIES],
     };
-    let clock = four(s, CLOCK);
     let mode = mode_of(s[MODE]);
-    let circuits = circuits_in(s);
-    GatewaySettings {
-        system,
+    Basis {
+        system: six(s, SYSTEM),
         lengths,
-        clock,
+        clock: four(s, CLOCK),
         mode,
         count: s[COUNT],
-        circuits,
     }
 }
 

@@ -14,8 +14,8 @@ use crate::answers::write_found;
 use crate::config::LAYOUT;
 use crate::config::SETTINGS_OCTETS;
 use crate::config::are_settings_known;
-use crate::config::settings_in;
 use crate::faults::fault_of;
+use crate::setup::set_up_from;
 use basics::refusal::Refusal;
 use gateway::calls::GATEWAY_WORDS;
 use gateway::calls::clear;
@@ -26,7 +26,6 @@ use gateway::calls::look_up;
 use gateway::calls::next_hello_flags;
 use gateway::calls::receive;
 use gateway::calls::release;
-use gateway::calls::set_up;
 use gateway::calls::tick;
 use gateway::calls::waiting_circuits;
 use model::answers::SetUp;
@@ -60,7 +59,7 @@ pub extern "C" fn isis_gr_raw_set_up(
         return set_up_word(SetUp::Refused(Refusal::BadSetting));
     }
     if are_settings_known(settings) {
-        return set_up_word(set_up(gateway, settings_in(settings)));
+        return set_up_word(set_up_from(gateway, settings));
     }
     set_up_word(SetUp::Refused(Refusal::BadSetting))
 }

@@ -5,4 +5,5 @@ pub mod exports; // exports.rt: the calls
 mod numbers; // numbers.rt: the parts of an answer as numbers
 mod answers; // answers.rt: each answer as one word
 mod config; // config.rt: the settings of setup from octets
+mod setup; // setup.rt: set up from those octets
 mod faults; // faults.rt: which setting setup refuses

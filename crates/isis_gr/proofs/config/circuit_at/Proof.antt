@@ -21,17 +21,17 @@ shared-slice-read-levels-of c = search needs
 levels-of-requires : tie.Need-levels-of-requires
 levels-of-requires c κs = search needs
 
-add-six-octets : tie.Need-add-six-octets
-add-six-octets c = search needs
+add-six : tie.Need-add-six
+add-six c = search needs
 
-six-octets-requires : tie.Need-six-octets-requires
-six-octets-requires c κs = search needs
+six-requires : tie.Need-six-requires
+six-requires c κs = search needs
 
-add-t8 : tie.Need-add-t8
-add-t8 c = search needs
+add-t10 : tie.Need-add-t10
+add-t10 c = search needs
 
-shared-slice-read-t7 : tie.Need-shared-slice-read-t7
-shared-slice-read-t7 c = search needs
+shared-slice-read-t6 : tie.Need-shared-slice-read-t6
+shared-slice-read-t6 c = search needs
 
 add-two : tie.Need-add-two
 add-two c = search needs
@@ -53,7 +53,17 @@ four-requires-2 c κs = search needs
 
 returns : tie.Need-returns
 unfolding circuitFrom
-returns c = let s = c .before .before .before .before .before .before .before .before .before .before .args .s .now in let at = c .before .before .before .before .before .before .before .before .before .before .args .at in let k = c .before .before .before .before .before .before .before .kind-of .ensures in let l = c .before .before .before .before .before .levels-of .ensures in let m = c .before .before .before .before .six-octets .ensures in let h = c .before .before .two .ensures in let n = c .before .four .ensures in let d = c .four2 .ensures in λ i. record { kind = k i; levels = l i; mac = m i; priority = octet s (at + 8); hold = h i; metric = n i; id = d i }
+returns c =
+    let a = c .before .before .before .before .before .before .before .before .before .before .args in
+    λ i. record {
+      kind = c .before .before .before .before .before .before .before .kind-of .ensures i;
+      levels = c .before .before .before .before .before .levels-of .ensures i;
+      mac = c .before .before .before .before .six .ensures i;
+      priority = octet (a .s .now) (a .at + 8);
+      hold = c .before .before .two .ensures i;
+      metric = c .before .four .ensures i;
+      id = c .four2 .ensures i;
+    }
 
 pub circuit-at-spec : {M : Type 1} → statement M
 circuit-at-spec =
@@ -64,10 +74,10 @@ circuit-at-spec =
     add-levels-of
     shared-slice-read-levels-of
     levels-of-requires
-    add-six-octets
-    six-octets-requires
-    add-t8
-    shared-slice-read-t7
+    add-six
+    six-requires
+    add-t10
+    shared-slice-read-t6
     add-two
     two-requires
     add-four

@@ -1,6 +1,6 @@
 -- Known settings of this layout are set up as crate gateway does; others are refused 12, and nothing is written.
 use Rattle.isis_gr.proofs.SettingsLaws.{encodes-known, encodes-unknown, encodes-other}
-use mathlib.Core.Path.{sym, _∙_}
+use mathlib.Core.Path.{refl, sym, _∙_}
 use borrow.Author.Needs.{needs}
 use Rattle.isis_gr.proofs.exports.isis_gr_raw_set_up.Statement.{statement}
 use Rattle.isis_gr.proofs.exports.isis_gr_raw_set_up.Tie as tie
@@ -14,20 +14,17 @@ returns c = encodes-other (c .before .before .args .settings .now) (c .before .b
 are-settings-known-requires : tie.Need-are-settings-known-requires
 are-settings-known-requires c κs = search needs
 
-settings-in-requires : tie.Need-settings-in-requires
-settings-in-requires c κs = search needs
-
-set-up-requires : tie.Need-set-up-requires
-set-up-requires c κs = search needs
+set-up-from-requires : tie.Need-set-up-from-requires
+set-up-from-requires c κs = search needs
 
 set-up-word-requires-2 : tie.Need-set-up-word-requires-2
 set-up-word-requires-2 c κs = search needs
 
 returns-2 : tie.Need-returns-2
 returns-2 c =
-    let a = c .before .before .before .before .before .before .before .before .before .args in
-    encodes-known (a .settings .now) (a .version) (c .before .before .before .before .before .before .before .before .if1 .left) (sym (c .before .before .before .before .before .before .are-settings-known .ensures) ∙ c .before .before .before .before .before .if2 .taken) (c .before .before .settings-in .ensures)
-    (c .before .set-up .ensures) (c .set-up-word2 .ensures)
+    let a = c .before .before .before .before .before .before .before .before .args in
+    encodes-known (a .settings .now) (a .version) (c .before .before .before .before .before .before .before .if1 .left) (sym (c .before .before .before .before .before .are-settings-known .ensures) ∙ c .before .before .before .before .if2 .taken) refl
+    (c .before .set-up-from .ensures) (c .set-up-word2 .ensures)
 
 set-up-word-requires-3 : tie.Need-set-up-word-requires-3
 set-up-word-requires-3 c κs = search needs
@@ -44,8 +41,7 @@ isis-gr-raw-set-up-spec =
     set-up-word-requires
     returns
     are-settings-known-requires
-    settings-in-requires
-    set-up-requires
+    set-up-from-requires
     set-up-word-requires-2
     returns-2
     set-up-word-requires-3
