@@ -52,6 +52,9 @@ CALL(link_metric, isis_gr_raw_link_metric(g.words, circuit), isis_gr_link_metric
 CALL(next_hello_flags, isis_gr_raw_next_hello_flags(g.words, circuit), isis_gr_next_hello_flags(&g, circuit).code)
 CALL(waiting_circuits, isis_gr_raw_waiting_circuits(g.words), isis_gr_waiting_circuits(&g).count & 0u)
 
+/* a call and its limit */
+#define ROW(name, limit) {#name, limit, raw_##name, c_##name, 0, 0, 0, 0}
+
 enum { WORDS, SET_UP, FAULT, RECEIVE, TICK, RELEASE, CLEAR, CSNP, DATABASE, LOOK_UP, METRIC, FLAGS, WAITING, CALLS };
 
 static struct {
@@ -61,19 +64,9 @@ static struct {
     size_t most, most_through;
     unsigned inputs, done;
 } calls[CALLS] = {
-    {"gateway_words", 16, raw_gateway_words, c_gateway_words, 0, 0, 0, 0},
-    {"set_up", 64, raw_set_up, c_set_up, 0, 0, 0, 0},
-    {"fault", 32, raw_fault, c_fault, 0, 0, 0, 0},
-    {"receive", 320, raw_receive, c_receive, 0, 0, 0, 0},
-    {"tick", 128, raw_tick, c_tick, 0, 0, 0, 0},
-    {"release", 64, raw_release, c_release, 0, 0, 0, 0},
-    {"clear", 16, raw_clear, c_clear, 0, 0, 0, 0},
-    {"csnp_complete", 96, raw_csnp_complete, c_csnp_complete, 0, 0, 0, 0},
-    {"database_complete", 96, raw_database_complete, c_database_complete, 0, 0, 0, 0},
-    {"look_up", 64, raw_look_up, c_look_up, 0, 0, 0, 0},
-    {"link_metric", 16, raw_link_metric, c_link_metric, 0, 0, 0, 0},
-    {"next_hello_flags", 16, raw_next_hello_flags, c_next_hello_flags, 0, 0, 0, 0},
-    {"waiting_circuits", 16, raw_waiting_circuits, c_waiting_circuits, 0, 0, 0, 0},
+    ROW(gateway_words, 16), ROW(set_up, 64), ROW(fault, 32), ROW(receive, 320), ROW(tick, 128), ROW(release, 64), ROW(clear, 16),
+    ROW(csnp_complete, 96), ROW(database_complete, 96), ROW(look_up, 64), ROW(link_metric, 16), ROW(next_hello_flags, 16),
+    ROW(waiting_circuits, 16),
 };
 
 static size_t depth(void (*what)(void)) {

@@ -1,11 +1,12 @@
 -- The laws of setup: a circuit put, all of them, and what the whole comes to.
-use Prim.Native.Nat.{ℕ, _+_, _-_, _<_, _≤_}
+use Prim.Native.Nat.{ℕ, zero, suc, _+_, _-_, _<_, _≤_}
 use native.Mathlib.Omega.{arith}
 use mathlib.Core.Path.{_≡_, refl, ap, sym, _∙_}
 use mathlib.Core.Logic.{_≢_}
 use mathlib.Core.Bool.{Bool, true, false}
-use mathlib.Core.List.{List, _++_, map}
+use mathlib.Core.List.{List, [], _∷_, _++_, map}
 use lib.ListN.{length, set, getD, take, drop}
+use borrow.Author.Tests.{lt-ltb, le-ltb}
 use borrow.Rule.Slice.PartMut.{putMid}
 use Rattle.basics.proofs.PartLaws.{part-same}
 use Rattle.basics.specs.Lists.{part}
@@ -25,9 +26,9 @@ use Rattle.control.specs.declared.setup.Basis.{Basis}
 use Rattle.control.proofs.SetupLaws.{Stored, stored-step, stored-all}
 use Rattle.model.specs.declared.answers.SetUp.{SetUp}
 use Rattle.model.specs.declared.answers.SetUp.the-variants.{Refused, Done}
-use Rattle.model.specs.Gateway.{Gateway, withCommon, newRoom, newGateway, setup}
+use Rattle.model.specs.Gateway.{Gateway, Room, withCommon, newRoom, newGateway, setup}
 use Rattle.gateway.specs.Words.{gatewayWords, roomPlace, gatewayOf}
-use Rattle.gateway.specs.Setup.{Begun, PutsCircuit, HoldsCircuits, Begins, SetsUp}
+use Rattle.gateway.specs.Setup.{Begun, PutsCircuit, HoldsCircuits, countedBasis, Begins, SetsUp}
 use Rattle.gateway.proofs.CallLaws.{copy-step, gather-end}
 use Rattle.gateway.proofs.WordLaws.{length-common, length-rooms, common-put, common-stays, room-put}
 
@@ -42,12 +43,27 @@ puts ws u t i s len lu lt l own others e =
     let same : part 0 controlWords (putMid (roomPlace i) (roomPlace i + roomWords - roomPlace i) ws1 t) ≡ u =
     common-stays ws1 t len1 i lt l ∙ part-same 0 controlWords ws u (omega arith) (omega arith) lu in
     record {
-      own = ap (λ (x : List ℕ). circuitAt x i) same ∙ own;
+      own = λ h. ap (λ (x : List ℕ). circuitAt x i) same ∙ own;
       others = λ j ne. ap (λ (x : List ℕ). circuitAt x j) same ∙ others j ne;
       rooms =
           ap (λ (g : Gateway). g .rooms) (room-put ws1 t len1 i lt l)
           ∙ (λ k. set (ap (λ (g : Gateway). g .rooms) (common-put ws u len lu) k) i (record { slots = e k }));
+      kept = λ h. absurd (omega arith);
     }
+
+pub puts-none : (ws : List ℕ) (i : ℕ) (s : Circuit) → circuits ≤ i → PutsCircuit i s ws ws
+puts-none ws i s le =
+    record {
+      own = λ h. absurd (omega arith);
+      others = λ j ne. refl;
+      rooms = sym (set-past (gatewayOf ws .rooms) i (newRoom s) (omega (arith, length-rooms ws)));
+      kept = λ h. refl;
+    }
+  where
+    set-past : (l : List Room) (i : ℕ) (v : Room) → length l ≤ i → set l i v ≡ l
+    set-past [] i v h = refl
+    set-past (x ∷ xs) zero v h = absurd (omega (arith, h))
+    set-past (x ∷ xs) (suc i) v h = ap (λ (t : List Room). x ∷ t) (set-past xs i v (omega (arith, h)))
 
 -- ---- all of them
 
@@ -63,7 +79,7 @@ module _ (all : List Circuit) (len : length all ≡ circuits) where
   pub put-next : (ws ws′ : List ℕ) (i : ℕ) (d : Circuit) → i < circuits → PutUpTo all ws i → PutsCircuit i (getD all i d) ws ws′ → PutUpTo all ws′ (i + 1)
   put-next ws ws′ i d lt h p =
       record {
-        stored = stored-step (part 0 controlWords ws) (part 0 controlWords ws′) all i d (omega (arith, len)) (h .stored) (p .own) (p .others);
+        stored = stored-step (part 0 controlWords ws) (part 0 controlWords ws′) all i d (omega (arith, len)) (h .stored) (p .own lt) (p .others);
         rooms =
             rw (p .rooms)
             (copy-step _ newRoom (gatewayOf ws .rooms) all i _ (omega (arith, length-rooms ws)) (omega (arith, len)) refl ∙ h .rooms);
@@ -78,10 +94,19 @@ module _ (all : List Circuit) (len : length all ≡ circuits) where
 
 -- ---- the rest
 
+pub counted-many : (b : Basis) → circuits < b .count → record { system = b .system; lengths = b .lengths; clock = b .clock; mode = b .mode; count = 0 } ≡ countedBasis b
+counted-many b h = rw (lt-ltb circuits (b .count) h) refl
+
+pub counted-same : (b : Basis) → b .count ≤ circuits → b ≡ countedBasis b
+counted-same b h = rw (le-ltb circuits (b .count) h) refl
+
 pub begins : (ws u : List ℕ) (b : Basis) (hellos : List Bool) → length ws ≡ gatewayWords → length u ≡ controlWords
     → SetsControl (settingsOn b (circuitsFrom (part 0 controlWords ws) 0 circuits)) u hellos → Begins b ws (putMid 0 controlWords ws u) hellos
 begins ws u b hellos len lu h =
     record { next = common-put ws u len lu ∙ ap (withCommon (gatewayOf ws)) (h .common); ordered = h .hellos }
+
+pub begins-as : {b b′ : Basis} {ws ws′ : List ℕ} {h : List Bool} → b ≡ b′ → Begins b ws ws′ h → Begins b′ ws ws′ h
+begins-as e h = rw (← e) h
 
 module _ (ws : List ℕ) (s : Settings) where
   pub set-up-refused : settingsOk s ≡ false → SetsUp (setup s) ws ws (Refused BadSetting)

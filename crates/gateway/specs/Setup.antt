@@ -1,6 +1,6 @@
 -- Setup in lent words: the settings as a caller gives them, with MACs and the System ID of six octets, and what setup is to do
 -- (document 01, "What the gateway holds").
-use Prim.Native.Nat.{ℕ}
+use Prim.Native.Nat.{ℕ, _<_, _≤_}
 use mathlib.Core.Path.{_≡_}
 use mathlib.Core.Bool.{Bool}
 use mathlib.Core.Logic.{_≢_}
@@ -15,7 +15,7 @@ use Rattle.model.specs.declared.answers.SetUp.{SetUp}
 use Rattle.model.specs.declared.answers.SetUp.the-variants.{Refused as RefusedAnswer, Done}
 use Rattle.model.specs.Numbers.{refusalNo}
 use Rattle.basics.specs.Lists.{part}
-use Rattle.control.specs.Words.{controlWords, circuitAt, circuitsFrom}
+use Rattle.control.specs.Words.{controlWords, circuitAt, circuitsFrom, countIn}
 use Rattle.control.specs.Common.{startOf, setupCommon}
 use Rattle.control.specs.Setup.{settingsOn}
 use Rattle.control.specs.declared.setup.Basis.{Basis}
@@ -47,16 +47,21 @@ settingsGiven s =
       circuits = map circuitGiven (s .circuits);
     }
 
--- Setup in parts, of the words ws. A circuit (from 0) is put: its own settings and room, and no other's.
+-- Setup in parts, of the words ws. A circuit (from 0) is put: its own settings and room, and no other's; nothing past the last.
 pub record PutsCircuit (i : ℕ) (s : Circuit) (ws ws′ : List ℕ) : Type 0 where
-  pub own : circuitAt (part 0 controlWords ws′) i ≡ s
+  pub own : i < circuits → circuitAt (part 0 controlWords ws′) i ≡ s
   pub others : (j : ℕ) → j ≢ i → circuitAt (part 0 controlWords ws′) j ≡ circuitAt (part 0 controlWords ws) j
   pub rooms : gatewayOf ws′ .rooms ≡ set (gatewayOf ws .rooms) i (newRoom s)
+  pub kept : circuits ≤ i → ws′ ≡ ws
 
 -- all are put
 pub record HoldsCircuits (all : List Circuit) (ws : List ℕ) : Type 0 where
   pub stored : circuitsFrom (part 0 controlWords ws) 0 circuits ≡ all
   pub rooms : gatewayOf ws .rooms ≡ map newRoom all
+
+-- a count above 8 counts for none, as it does in the words
+abbrev pub countedBasis : Basis → Basis
+countedBasis b = record { system = b .system; lengths = b .lengths; clock = b .clock; mode = b .mode; count = countIn (b .count) }
 
 -- then the rest begins
 pub record Begins (b : Basis) (ws ws′ : List ℕ) (hellos : List Bool) : Type 0 where

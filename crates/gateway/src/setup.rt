@@ -1,4 +1,5 @@
 // Setup (document 01, "What the gateway holds"): every setting is checked before a word is written.
+use crate::calls::GATEWAY_WORDS;
 use crate::config::CircuitSettings;
 use crate::config::GatewaySettings;
 use basics::mask::CIRCUITS;
@@ -23,7 +24,7 @@ ghost use Rattle.basics.specs.Octets.{big};
 ghost use Rattle.timers.specs.Events.{helloBits};
 ghost use Rattle.model.specs.Gateway.{setup};
 ghost use Rattle.gateway.specs.Words.{gatewayWords};
-ghost use Rattle.gateway.specs.Setup.{circuitGiven, settingsGiven, PutsCircuit, HoldsCircuits, Begins, SetsUp};
+ghost use Rattle.gateway.specs.Setup.{circuitGiven, settingsGiven, PutsCircuit, HoldsCircuits, Begins, SetsUp, countedBasis};
 
 // A System ID or a MAC.
 fn number(octets: [u8; 6]) -> u64
@@ -84,7 +85,7 @@ pub(crate) fn settings_given(s: GatewaySettings) -> Settings
 }
 
 // Circuit i (from 0) of a gateway that is being set up: its settings are stored, and no record stands there.
-pub fn put_circuit(gateway: &mut [u64], i: usize, s: Circuit)
+fn put_in(gateway: &mut [u64], i: usize, s: Circuit)
     requires { ⌜ (length (now gateway) ≡ gatewayWords) × (i < circuits) ⌝ }
     ensures { λ _. ⌜ PutsCircuit i s (now (gateway .entry)) (now (gateway .exit)) ⌝ }
 {
@@ -101,13 +102,13 @@ fn put_circuits(gateway: &mut [u64], all: [Circuit; CIRCUITS])
     let mut i = 0;
     while i < CIRCUITS {
         let one = all[i];
-        put_circuit(gateway, i, one);
+        put_in(gateway, i, one);
         i += 1;
     }
 }
 
 // The rest of a new gateway, once its circuits are put.
-pub fn begin_in(gateway: &mut [u64], s: Basis) -> u8
+fn begin_in(gateway: &mut [u64], s: Basis) -> u8
     requires { ⌜ (length (now gateway) ≡ gatewayWords) × (s .count ≤ circuits) ⌝ }
     ensures { λ r. ⌜ Begins s (now (gateway .entry)) (now (gateway .exit)) (helloBits r) ⌝ }
 {
@@ -135,4 +136,39 @@ pub(crate) fn set_up_in(gateway: &mut [u64], s: Settings) -> SetUp
         return SetUp::Done(hellos);
     }
     SetUp::Refused(Refusal::BadSetting)
+}
+
+// Setup in parts, for a caller that does not hold eight circuits at a time: circuit i (from 0) is put; nothing where there is no such circuit.
+pub fn put_circuit(gateway: &mut [u64; GATEWAY_WORDS], i: usize, s: Circuit)
+    ensures { λ _. ⌜ PutsCircuit i s (now (gateway .entry)) (now (gateway .exit)) ⌝ }
+{
+    if CIRCUITS <= i {
+        return;
+    }
+    put_in(gateway, i, s);
+}
+
+// A count above 8 counts for none, as it does in the words.
+fn counted(s: Basis) -> Basis
+    ensures { λ r. ⌜ (r ≡ countedBasis s) × (r .count ≤ circuits) ⌝ }
+{
+    if (CIRCUITS as u8) < s.count {
+        let lengths = s.lengths;
+        let mode = s.mode;
+        return Basis {
+            system: s.system,
+            lengths,
+            clock: s.clock,
+            mode,
+            count: 0,
+        };
+    }
+    s
+}
+
+// .. and then the rest; the answer is the mask of the circuits whose hello is ordered.
+pub fn start(gateway: &mut [u64; GATEWAY_WORDS], s: Basis) -> u8
+    ensures { λ r. ⌜ Begins (countedBasis s) (now (gateway .entry)) (now (gateway .exit)) (helloBits r) ⌝ }
+{
+    begin_in(gateway, counted(s))
 }

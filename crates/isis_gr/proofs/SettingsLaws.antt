@@ -21,7 +21,7 @@ use Rattle.control.specs.declared.setup.Basis.{Basis}
 use Rattle.model.specs.Numbers.{refusalNo}
 use Rattle.model.specs.Gateway.{setup}
 use Rattle.model.specs.declared.answers.SetUp.{SetUp}
-use Rattle.gateway.specs.Setup.{Refused as RefusedReport, PutsCircuit, Begins, SetsUp, reportOf}
+use Rattle.gateway.specs.Setup.{Refused as RefusedReport, PutsCircuit, SetsUp, reportOf}
 use Rattle.isis_gr.specs.Words.{reportNo, modeKnown}
 use Rattle.isis_gr.specs.Settings.{layout, circuitPlace, circuitPlaces, circuitFrom, circuitKnown, settingsFrom, settingsKnown, setupFrom, EncodesSetup}
 
@@ -85,9 +85,6 @@ module _ (s : List ℕ) (b : Basis) (e : b ≡ basisOf (settingsFrom s)) where
 
   pub not-by : between 1 (b .count) circuits ≡ false → false ≡ settingsOk (settingsFrom s)
   not-by h = sym (ok-miscounted (settingsFrom s) (ap (λ (n : ℕ). between 1 n circuits) (sym count-is) ∙ h))
-
-pub begins-as : {b b′ : Basis} {ws ws′ : List ℕ} {h : List Bool} → b ≡ b′ → Begins b ws ws′ h → Begins b′ ws ws′ h
-begins-as e h = rw (← e) h
 
 -- ---- setup
 

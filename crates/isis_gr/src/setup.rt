@@ -5,8 +5,9 @@ use crate::config::basis_in;
 use crate::config::circuit_at;
 use basics::mask::CIRCUITS;
 use basics::refusal::Refusal;
-use gateway::setup::begin_in;
+use gateway::calls::GATEWAY_WORDS;
 use gateway::setup::put_circuit;
+use gateway::setup::start;
 use model::answers::SetUp;
 use settings::circuit::is_between;
 use settings::circuit::is_circuit_ok;
@@ -18,7 +19,6 @@ ghost use Rattle.basics.specs.Mask.{circuits};
 ghost use Rattle.basics.specs.Lists.{every};
 ghost use Rattle.settings.specs.Settings.{circuitOk, settingsOk};
 ghost use Rattle.model.specs.Gateway.{setup};
-ghost use Rattle.gateway.specs.Words.{gatewayWords};
 ghost use Rattle.gateway.specs.Setup.{HoldsCircuits, SetsUp};
 ghost use Rattle.isis_gr.specs.Settings.{settingsOctets, settingsFrom};
 
@@ -51,8 +51,8 @@ fn are_settings_ok(s: &[u8]) -> bool
     false
 }
 
-fn put_circuits(gateway: &mut [u64], s: &[u8])
-    requires { ⌜ (length (now gateway) ≡ gatewayWords) × (length (now s) ≡ settingsOctets) ⌝ }
+fn put_circuits(gateway: &mut [u64; GATEWAY_WORDS], s: &[u8])
+    requires { ⌜ length (now s) ≡ settingsOctets ⌝ }
     ensures { λ _. ⌜ HoldsCircuits (settingsFrom (now (s .entry)) .circuits) (now (gateway .exit)) ⌝ }
 {
     let mut i = 0;
@@ -64,13 +64,13 @@ fn put_circuits(gateway: &mut [u64], s: &[u8])
 }
 
 // Refusal 12, or a new gateway, whatever the words were.
-pub(crate) fn set_up_from(gateway: &mut [u64], s: &[u8]) -> SetUp
-    requires { ⌜ (length (now gateway) ≡ gatewayWords) × (length (now s) ≡ settingsOctets) ⌝ }
+pub(crate) fn set_up_from(gateway: &mut [u64; GATEWAY_WORDS], s: &[u8]) -> SetUp
+    requires { ⌜ length (now s) ≡ settingsOctets ⌝ }
     ensures { λ r. ⌜ SetsUp (setup (settingsFrom (now (s .entry)))) (now (gateway .entry)) (now (gateway .exit)) r ⌝ }
 {
     if are_settings_ok(s) {
         put_circuits(gateway, s);
-        let hellos = begin_in(gateway, basis_in(s));
+        let hellos = start(gateway, basis_in(s));
         return SetUp::Done(hellos);
     }
     SetUp::Refused(Refusal::BadSetting)

@@ -25,8 +25,8 @@ mul-one c = search needs
 array-copy-out-one : tie.Need-array-copy-out-one Inv-loop μ-loop
 array-copy-out-one c = c .loop-test .taken
 
-put-circuit-requires : tie.Need-put-circuit-requires Inv-loop μ-loop
-put-circuit-requires c κs = (c .before .before .before .loop .inv .1, omega arith)
+put-in-requires : tie.Need-put-in-requires Inv-loop μ-loop
+put-in-requires c κs = (c .before .before .before .loop .inv .1, omega arith)
 
 add-i : tie.Need-add-i Inv-loop μ-loop
 add-i c = omega arith
@@ -39,7 +39,7 @@ loop-again c =
     let l = c .before .before .before .before .before .before .loop in
     let all = c .before .before .before .before .before .before .before .before .args .t2 in
     let la : length all ≡ circuits = search needs in
-    let x = c .before .before .put-circuit in
+    let x = c .before .before .put-in in
     (omega arith, x .kept .0 ∙ l .inv .1, put-next all la (l .gateway) (x .last .0) (l .i) _ (omega arith) (l .inv .2) (x .ensures))
 
 same-length : tie.Need-same-length Inv-loop μ-loop
@@ -61,7 +61,7 @@ put-circuits-spec =
     loop-holds
     mul-one
     array-copy-out-one
-    put-circuit-requires
+    put-in-requires
     add-i
     loop-less
     loop-again

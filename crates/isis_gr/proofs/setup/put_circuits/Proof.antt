@@ -1,25 +1,23 @@
 -- The invariant: the circuits before i are put.
 use Rattle.basics.specs.Mask.{circuits}
-use Rattle.gateway.specs.Words.{gatewayWords}
 use Rattle.gateway.proofs.SetupLaws.{PutUpTo, put-none, put-next, put-all}
 use Rattle.isis_gr.specs.Settings.{circuitFrom, settingsFrom}
 use Rattle.isis_gr.proofs.SettingsLaws.{length-circuits, circuit-nth, put-as}
-use lib.ListN.{length}
 use Prim.Native.Nat.{_-_, _≤_}
-use mathlib.Core.Path.{_≡_, sym, _∙_}
+use mathlib.Core.Path.{_∙_}
 use native.Mathlib.Omega.{arith}
 use borrow.Author.Needs.{needs}
 use Rattle.isis_gr.proofs.setup.put_circuits.Statement.{statement}
 use Rattle.isis_gr.proofs.setup.put_circuits.Tie as tie
 
 abbrev Inv-loop : tie.InvT-loop
-Inv-loop gateway₀ s i₀ gateway i = (i ≤ circuits) × (length gateway ≡ gatewayWords) × PutUpTo (settingsFrom s .circuits) gateway i
+Inv-loop gateway₀ s i₀ gateway i = (i ≤ circuits) × PutUpTo (settingsFrom s .circuits) gateway i
 
 abbrev μ-loop : tie.MeasureT-loop
 μ-loop gateway₀ s i₀ gateway i = circuits - i
 
 loop-holds : tie.Need-loop-holds Inv-loop μ-loop
-loop-holds c = let s = c .before .before in (omega arith, s .pre .0, put-none _ (length-circuits (s .args .s .now)) _)
+loop-holds c = (omega arith, put-none _ (length-circuits (c .before .args .s .now)) _)
 
 mul-circuit-at : tie.Need-mul-circuit-at Inv-loop μ-loop
 mul-circuit-at c = search needs
@@ -31,7 +29,7 @@ circuit-at-requires : tie.Need-circuit-at-requires Inv-loop μ-loop
 circuit-at-requires c κs = omega arith
 
 put-circuit-requires : tie.Need-put-circuit-requires Inv-loop μ-loop
-put-circuit-requires c κs = (c .before .before .before .loop .inv .1, omega arith)
+put-circuit-requires c κs = search needs
 
 add-i : tie.Need-add-i Inv-loop μ-loop
 add-i c = omega arith
@@ -41,20 +39,16 @@ loop-less c = omega arith
 
 loop-again : tie.Need-loop-again Inv-loop μ-loop
 loop-again c =
-    let l = c .before .before .before .before .before .before .loop in
-    let o = c .before .before .before .before .before .before .before .before .before .args .s .now in
-    let x = c .before .before .put-circuit in
-    let e = c .before .before .before .before .circuit-at .ensures ∙ circuit-nth o (l .i) (omega arith) in
-    (omega arith, x .kept .0 ∙ l .inv .1, put-next (settingsFrom o .circuits) (length-circuits o) (l .gateway) (x .last .0) (l .i) (circuitFrom o 0) (omega arith) (l .inv .2) (put-as e (x .ensures)))
-
-same-length : tie.Need-same-length Inv-loop μ-loop
-same-length c = c .before .loop .inv .1 ∙ sym (c .before .before .before .before .pre .0)
+    let l = c .before .before .before .before .loop in
+    let o = c .before .before .before .before .before .before .args .s .now in
+    let e = c .before .before .circuit-at .ensures ∙ circuit-nth o (l .i) (omega arith) in
+    (omega arith, put-next (settingsFrom o .circuits) (length-circuits o) (l .gateway) (c .put-circuit .last .0) (l .i) (circuitFrom o 0) (omega arith) (l .inv .1) (put-as e (c .put-circuit .ensures)))
 
 returns : tie.Need-returns Inv-loop μ-loop
 returns c =
     let l = c .before .loop in
-    let o = c .before .before .before .before .args .s .now in
-    put-all (settingsFrom o .circuits) (length-circuits o) (l .gateway) (l .i) (omega arith) (l .inv .2)
+    let o = c .before .before .before .args .s .now in
+    put-all (settingsFrom o .circuits) (length-circuits o) (l .gateway) (l .i) (omega arith) (l .inv .1)
 
 pub put-circuits-spec : {M : Type 1} → statement M
 put-circuits-spec =
@@ -70,5 +64,4 @@ put-circuits-spec =
     add-i
     loop-less
     loop-again
-    same-length
     returns)
