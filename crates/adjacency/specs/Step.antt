@@ -105,3 +105,7 @@ keptUp r before = requests r && isUp before
 
 unfoldable pub stepOf : Here → Phase → Hello → Phase
 stepOf here before h = cond (keptUp (h .restart) before) UpPhase (linkStep here before (h .link))
+
+-- document 02, W-201, "each record becoming UP": it stood as INIT, or not at all, before the frame, and is UP after it
+unfoldable pub rises : Phase → Phase → Bool
+rises before after = isUp after && not (isUp before)

@@ -10,7 +10,7 @@ use restart_tlv::flags::Flags;
 use restart_tlv::reader::RestartTlv;
 ghost use mathlib.Core.Path.{_≡_};
 ghost use Rattle.adjacency.specs.Record.{isUp};
-ghost use Rattle.adjacency.specs.Step.{keptUp, levelOff, wrongSource, requests, wrongSystem, wrongCircuit, wrongOf, excused, wrongNeighbor, lanStep, p2pStep, asInit, threeWayStep, linkStep, stepOf};
+ghost use Rattle.adjacency.specs.Step.{keptUp, levelOff, wrongSource, requests, wrongSystem, wrongCircuit, wrongOf, excused, wrongNeighbor, lanStep, p2pStep, asInit, threeWayStep, linkStep, stepOf, rises};
 
 // What is known where a frame comes: the clock, whether the mode is Restarting, our System ID, and the circuit's own extended circuit
 // ID and configured holding time.
@@ -56,6 +56,16 @@ pub fn is_up(phase: Phase) -> bool
         Phase::Init => false,
         Phase::Up => true,
     }
+}
+
+// Whether a record becomes UP with a frame.
+pub fn rises(before: Phase, after: Phase) -> bool
+    ensures { λ r. ⌜ r ≡ rises before after ⌝ }
+{
+    if is_up(after) {
+        return !is_up(before);
+    }
+    false
 }
 
 fn is_request(tlv: RestartTlv) -> bool

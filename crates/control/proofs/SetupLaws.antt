@@ -12,8 +12,8 @@ use lib.Seq.{ext-getD, getD-set-same, getD-set-other}
 use borrow.Author.Tests.{eq-eqb, le-ltb, ltb-true, ltb-false}
 use Rattle.settings.specs.declared.lengths.Lengths.{Lengths}
 use Rattle.timers.specs.Timers.{Timers}
+use Rattle.timers.specs.Hellos.{Hellos}
 use Rattle.timers.specs.Events.{started, startHellos, Starts}
-use mathlib.Core.Bool.{Bool}
 use Rattle.timers.specs.declared.events.Start.{Start}
 use Rattle.settings.specs.declared.circuit.Circuit.{Circuit}
 use Rattle.settings.specs.declared.setup.Settings.{Settings}
@@ -175,7 +175,7 @@ module _ (s : Settings) (le : s .count ≤ circuits) (ws mid : List ℕ) (start 
           let x : _≡_ {A = Start} (record { mode = a .mode; lengths = a .lengths; clock = a .clock; present = a .present; levels = a .levels })
           (record { mode = b .mode; lengths = b .lengths; clock = b .clock; present = b .present; levels = b .levels }) = rw (p, q, r, t, u) refl in x
 
-  pub sets-up : (u : List ℕ) (after : Timers) (hs : List Bool) → (withTimers (started start) (commonOf mid) ≡ setupCommon s) × (start ≡ startOf s)
+  pub sets-up : (u : List ℕ) (after : Timers) (hs : Hellos) → (withTimers (started start) (commonOf mid) ≡ setupCommon s) × (start ≡ startOf s)
       → commonOf u ≡ withTimers after (commonOf mid) → Starts start after hs → SetsControl s u hs
   sets-up u after hs q p x =
       record {

@@ -4,7 +4,7 @@ use native.Mathlib.Omega.{arith}
 use mathlib.Core.Path.{_≡_, refl, ap, sym, subst, _∙_}
 use mathlib.Core.Bool.{Bool, true, false, true≢false}
 use mathlib.Core.Logic.{inl, inr}
-use mathlib.Core.List.{List, map}
+use mathlib.Core.List.{List}
 use lib.Dec.{eqb}
 use lib.ListN.{length, getD}
 use borrow.Author.Tests.{eqb-true}
@@ -12,20 +12,22 @@ use borrow.Rule.Slice.PartMut.{putMid}
 use Rattle.basics.proofs.BoolLaws.{by-test}
 use Rattle.basics.specs.declared.levels.Levels.{Levels}
 use Rattle.timer_parts.specs.declared.heard.Heard.{Heard}
-use Rattle.timer_parts.specs.declared.t1.Freed.{Freed}
 use Rattle.timer_parts.specs.declared.t1.Freed.the-variants.{Kept}
 use Rattle.settings.specs.declared.lengths.Lengths.{Lengths}
 use Rattle.timers.specs.Timers.{Timers, settled, toT3, heardIn}
-use Rattle.timers.specs.Memory.{wordCount, entryAt, timersOf, timersAt}
+use Rattle.timers.specs.Memory.{wordCount, timersOf, timersAt}
 use Rattle.settings.specs.Mode.{isRunning}
 use Rattle.timers.specs.Outcome.{ordered, tickHellos}
-use Rattle.timers.specs.Events.{Closes, Ticks, Hears, helloBits}
+use Rattle.timers.specs.Hellos.{Hellos, helloBits}
+use Rattle.timers.specs.Events.{Closes, Ticks, Hears}
+use Rattle.timers.specs.declared.events.HeardOrders.{HeardOrders}
+use Rattle.timers.specs.declared.hellos.HelloOrder.the-variants.{Nothing}
 use Rattle.settings.specs.declared.mode.Mode.the-variants.{Running}
 use Rattle.timers.specs.declared.head.Head.{Head}
 use Rattle.timers.specs.declared.outcome.TimerOutcome.{TimerOutcome}
 use Rattle.timers.specs.declared.outcome.TimerOutcome.the-variants.{Idle}
 use Rattle.timers.proofs.T1sLaws.{bits-none}
-use Rattle.timers.proofs.TimersLaws.{settled-on, ordered-on, hellos-on, freed-on, settled-off, ordered-off, hellos-off, freed-off}
+use Rattle.timers.proofs.TimersLaws.{settled-on, ordered-on, hellos-on, settled-off, ordered-off, hellos-off, heard-off}
 use Rattle.control.specs.Words.{controlWords, sealPlace, entriesPlace, circuitsPlace, headPlace, seal, sealed, headOf, entriesOf, commonOf, entriesEnd}
 use Rattle.control.specs.Common.{Common, withClock, withTimers}
 use Rattle.control.proofs.CommonLaws.{Keeps, timers-changed}
@@ -49,6 +51,10 @@ on-sealed ws m =
 pub timers-now : (ws : List ℕ) (h : Head) → h ≡ headOf ws → timersAt h (entriesOf ws) ≡ commonOf ws .timers
 unfolding commonOf
 timers-now ws h e = rw e refl
+
+pub on-head : (ws : List ℕ) (h : Head) → h ≡ headOf ws → On ws → isRunning (h .mode) ≡ false
+unfolding commonOf timersOf
+on-head ws h e m = ap (λ (x : Head). isRunning (x .mode)) e ∙ m
 
 module _ (ws t : List ℕ) (len : length ws ≡ controlWords) (lt : length t ≡ wordCount) where
   abbrev back : List ℕ
@@ -89,14 +95,20 @@ module _ (ws u : List ℕ) (after : Timers) (p : commonOf u ≡ withTimers after
     pub settles-here : (f : Timers → Timers) (o : TimerOutcome) → Closes f (timersAt h (entriesOf ws)) after o → CommonSettles f ws u o
     settles-here f o s = settles-on f o (subst (λ (t : Timers). Closes f t after o) (timers-now ws h e) s)
 
-    pub hears-here : (clock i : ℕ) (l : Levels) (d : Heard) (o : TimerOutcome) (r : Freed) → clock ≡ commonOf ws .clock
-        → Hears clock i l d (timersAt h (entriesOf ws)) after o r → CommonHears i l d ws u o r
-    hears-here clock i l d o r k s =
-        let x = subst (λ (t : Timers). Hears (commonOf ws .clock) i l d t after o r) (timers-now ws h e)
-        (subst (λ (n : ℕ). Hears n i l d (timersAt h (entriesOf ws)) after o r) k s) in
-        record { settles = settles-on (heardIn (commonOf ws .clock) i l d) o (x .closes); freed = x .freed ∙ freed-on (commonOf ws .timers) m i d }
+    pub hears-here : (lengths : Lengths) (clock i : ℕ) (l : Levels) (rose : Bool) (d : Heard) (o : HeardOrders) → lengths ≡ commonOf ws .lengths
+        → clock ≡ commonOf ws .clock → Hears lengths clock i l rose d (timersAt h (entriesOf ws)) after o → CommonHears i l rose d ws u o
+    hears-here lengths clock i l rose d o j k s =
+        let y = subst (λ (n : ℕ). Hears lengths n i l rose d (timersAt h (entriesOf ws)) after o) k s in
+        let x = subst (λ (t : Timers). Hears (commonOf ws .lengths) (commonOf ws .clock) i l rose d t after o) (timers-now ws h e)
+        (subst (λ (n : Lengths). Hears n (commonOf ws .clock) i l rose d (timersAt h (entriesOf ws)) after o) j y) in
+        record {
+          common = p ∙ ap (λ (t : Timers). withTimers t (commonOf ws))
+              (x .timers ∙ settled-on (commonOf ws .timers) m (heardIn (commonOf ws .lengths) (commonOf ws .clock) i l rose d));
+          orders = x .orders;
+          kept = λ r. absurd (true≢false (sym r ∙ m));
+        }
 
-    pub ticks-here : (lengths : Lengths) (clock : ℕ) (o : TimerOutcome) (hs : List Bool) → lengths ≡ commonOf ws .lengths
+    pub ticks-here : (lengths : Lengths) (clock : ℕ) (o : TimerOutcome) (hs : Hellos) → lengths ≡ commonOf ws .lengths
         → Ticks lengths clock (timersAt h (entriesOf ws)) after o hs → CommonTicksOn clock ws u o hs
     ticks-here lengths clock o hs k s =
         let x = subst (λ (t : Timers). Ticks (commonOf ws .lengths) clock t after o hs) (timers-now ws h e)
@@ -116,23 +128,24 @@ module _ (ws : List ℕ) (m : isRunning (commonOf ws .timers .mode) ≡ true) wh
         kept = λ r. refl;
       }
 
-  pub hears-still : (i : ℕ) (l : Levels) (d : Heard) → CommonHears i l d ws ws Idle Kept
-  hears-still i l d =
-      record { settles = settles-still (heardIn (commonOf ws .clock) i l d); freed = freed-off (commonOf ws .timers) m i d }
+  pub hears-still : (i : ℕ) (l : Levels) (rose : Bool) (d : Heard)
+      → CommonHears i l rose d ws ws (record { outcome = Idle; freed = Kept; hello = Nothing })
+  hears-still i l rose d =
+      record {
+        common = settles-still (heardIn (commonOf ws .lengths) (commonOf ws .clock) i l rose d) .common;
+        orders = heard-off (commonOf ws .timers) m (commonOf ws .lengths) (commonOf ws .clock) i l rose d;
+        kept = λ r. refl;
+      }
 
-  no-hellos : helloBits 0 ≡ map (λ x. false) (commonOf ws .timers .t1s)
-  unfolding commonOf timersOf
-  no-hellos = bits-none (headOf ws .mask) (entryAt (entriesOf ws))
-
-  pub ticks-still : (clock : ℕ) → CommonTicksOn clock ws ws Idle (helloBits 0)
+  pub ticks-still : (clock : ℕ) → CommonTicksOn clock ws ws Idle (record { circuits = helloBits 0; flags = 0 })
   ticks-still clock =
       record {
         settles = settles-still (toT3 (commonOf ws .lengths) clock);
-        hellos = no-hellos ∙ hellos-off (commonOf ws .timers) m (commonOf ws .lengths) clock;
+        hellos = ap (λ (l : List Bool). record { circuits = l; flags = 0 }) bits-none ∙ hellos-off (commonOf ws .timers) m (commonOf ws .lengths) clock;
       }
 
 -- the clock is moved first
-pub ticks-moved : (ws mid u : List ℕ) (clock : ℕ) (o : TimerOutcome) (hs : List Bool) → commonOf mid ≡ withClock clock (commonOf ws)
+pub ticks-moved : (ws mid u : List ℕ) (clock : ℕ) (o : TimerOutcome) (hs : Hellos) → commonOf mid ≡ withClock clock (commonOf ws)
     → CommonTicksOn clock mid u o hs → CommonTicks clock ws u o hs
 ticks-moved ws mid u clock o hs e x =
     record {

@@ -1,10 +1,10 @@
 -- What setup says of the control words, whatever they were (document 01, "What the gateway holds").
 use Prim.Native.Nat.{ℕ}
-use mathlib.Core.Bool.{Bool}
 use mathlib.Core.Path.{_≡_}
 use mathlib.Core.List.{List}
 use lib.ListN.{getD}
 use Rattle.settings.specs.declared.lengths.Lengths.{Lengths}
+use Rattle.timers.specs.Hellos.{Hellos}
 use Rattle.timers.specs.Events.{startHellos}
 use Rattle.settings.specs.declared.circuit.Circuit.{Circuit}
 use Rattle.settings.specs.declared.setup.Settings.{Settings}
@@ -28,7 +28,7 @@ pub record Stores (own : ℕ) (l : Lengths) (time n : ℕ) (ws ws′ : List ℕ)
   pub clock : commonOf ws′ .clock ≡ time
   pub circuits : commonOf ws′ .circuits ≡ circuitsFrom ws 0 n
 
--- all of them, and the circuits whose hello is ordered
-pub record SetsControl (s : Settings) (ws′ : List ℕ) (h : List Bool) : Type 0 where
+-- all of them, and the hellos that are ordered
+pub record SetsControl (s : Settings) (ws′ : List ℕ) (h : Hellos) : Type 0 where
   pub common : commonOf ws′ ≡ setupCommon s
   pub hellos : h ≡ startHellos (startOf s)

@@ -15,7 +15,7 @@ use Rattle.timer_parts.specs.declared.t3.T3.{T3}
 use Rattle.timer_parts.specs.declared.t3.T3.the-variants.{Idle, Runs, Expired}
 use Rattle.timers.specs.Memory.{wordCount, timersAt}
 use Rattle.settings.specs.declared.mode.Mode.{Mode}
-use Rattle.settings.specs.declared.mode.Mode.the-variants.{Running, Restarting}
+use Rattle.settings.specs.declared.mode.Mode.the-variants.{Running, Restarting, Starting}
 use Rattle.timers.specs.declared.head.Head.{Head}
 use Rattle.settings.specs.declared.circuit.Circuit.{Circuit}
 use Rattle.control.specs.Common.{Common}
@@ -107,7 +107,7 @@ countOf ws = countIn (sealed ws countPlace)
 -- ---- the timers' head
 
 abbrev pub modeIn : ℕ → Mode
-modeIn d = cond (eqb d 1) Restarting Running
+modeIn d = cond (eqb d 1) Restarting (cond (eqb d 2) Starting Running)
 
 abbrev pub timerIn : ℕ → ℕ → Timer
 timerIn d deadline = cond (eqb d 1) (Until deadline) Stopped

@@ -4,7 +4,7 @@
 //          mode  T2 of level 1     T2 of level 2     T3   mask  0
 //                runs    noticed   runs    noticed
 //
-// Mode: 0 Running, 1 Restarting. T3: 0 idle, 1 runs, 2 expired. The deadlines follow in words of their own.
+// Mode: 0 Running, 1 Restarting, 2 Starting. T3: 0 idle, 1 runs, 2 expired. The deadlines follow in words of their own.
 use crate::words::HEAD_AT;
 use crate::words::sealed_at;
 use basics::bits::digit;
@@ -26,6 +26,9 @@ fn mode_in(d: u64) -> Mode
 {
     if d == 1 {
         return Mode::Restarting;
+    }
+    if d == 2 {
+        return Mode::Starting;
     }
     Mode::Running
 }
@@ -106,6 +109,7 @@ fn mode_digit(m: Mode) -> u64
     match m {
         Mode::Running => 0,
         Mode::Restarting => 1,
+        Mode::Starting => 2,
     }
 }
 

@@ -17,11 +17,12 @@ use settings::lengths::Lengths;
 use settings::mode::Mode;
 use timers::events::Start;
 use timers::events::start_timers;
+use timers::hellos::HelloOrders;
 ghost use mathlib.Core.Path.{_≡_};
 ghost use mathlib.Core.Logic.{_≢_};
 ghost use Prim.Native.Nat.{ℕ, _<_, _≤_};
 ghost use lib.ListN.{length};
-ghost use Rattle.timers.specs.Events.{helloBits};
+ghost use Rattle.timers.specs.Hellos.{hellosOf};
 ghost use Rattle.basics.specs.Mask.{circuits};
 ghost use Rattle.control.specs.Words.{controlWords, circuitAt, circuitsFrom};
 ghost use Rattle.control.specs.Common.{presentOf};
@@ -69,10 +70,10 @@ pub struct Basis {
     pub count: u8,
 }
 
-// The common part of a new gateway whose circuits are stored already; the answer is the mask of the circuits whose hello is ordered.
-pub fn begin(words: &mut [u64], s: Basis) -> u8
+// The common part of a new gateway whose circuits are stored already; the answer is the hellos that are ordered.
+pub fn begin(words: &mut [u64], s: Basis) -> HelloOrders
     requires { ⌜ (length (now words) ≡ controlWords) × (s .count ≤ circuits) ⌝ }
-    ensures { λ r. ⌜ SetsControl (settingsOn s (circuitsFrom (now (words .entry)) 0 circuits)) (now (words .exit)) (helloBits r) ⌝ }
+    ensures { λ r. ⌜ SetsControl (settingsOn s (circuitsFrom (now (words .entry)) 0 circuits)) (now (words .exit)) (hellosOf r) ⌝ }
 {
     let lengths = s.lengths;
     let mode = s.mode;

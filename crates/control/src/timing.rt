@@ -14,53 +14,61 @@ use restart_tlv::flags::Flags;
 use settings::mode::is_running;
 use timer_parts::heard::Heard;
 use timer_parts::t1::Freed;
+use timers::events::HeardOrders;
+use timers::hellos::HelloOrder;
+use timers::hellos::HelloOrders;
 use timers::outcome::TimerOutcome;
 ghost use mathlib.Core.Path.{_≡_};
 ghost use Prim.Native.Nat.{_<_};
 ghost use lib.ListN.{length, getD};
-ghost use Rattle.timers.specs.Events.{helloBits};
+ghost use Rattle.timers.specs.Hellos.{hellosOf};
 ghost use Rattle.basics.specs.Mask.{circuits};
 ghost use Rattle.timer_parts.specs.T1.{helloFlags};
 ghost use Rattle.timers.specs.Timers.{noT1, csnpIn, noticeT2s, countRuns, firstRuns};
 ghost use Rattle.control.specs.Words.{controlWords, commonOf};
 ghost use Rattle.control.specs.Timing.{On, CommonSettles, CommonHears, CommonTicksOn, CommonTicks};
 
-pub struct HelloOrders {
-    pub outcome: TimerOutcome,
-    pub freed: Freed,
-}
-
 pub struct TickOrders {
-    pub hellos: u8,
+    pub hellos: HelloOrders,
     pub outcome: TimerOutcome,
 }
 
-fn hear_in(words: &mut [u64], i: usize, l: Levels, d: Heard) -> HelloOrders
+fn hear_in(words: &mut [u64], i: usize, l: Levels, rose: bool, d: Heard) -> HeardOrders
     requires { ⌜ (length (now words) ≡ controlWords) × (i < circuits) × On (now words) ⌝ }
-    ensures { λ r. ⌜ CommonHears i l d (now (words .entry)) (now (words .exit)) (r .outcome) (r .freed) ⌝ }
+    ensures { λ r. ⌜ CommonHears i l rose d (now (words .entry)) (now (words .exit)) r ⌝ }
 {
     let h = load_head(words);
+    let s = lengths_of(words);
     let clock = clock_of(words);
-    let x = timers::events::hear_hello(&mut words[ENTRIES_AT..ENTRIES_END], h, clock, i, l, d);
+    let x = timers::events::hear_hello(
+        &mut words[ENTRIES_AT..ENTRIES_END],
+        h,
+        s,
+        clock,
+        i,
+        l,
+        rose,
+        d,
+    );
     let head = x.head;
-    let outcome = x.outcome;
-    let freed = x.freed;
+    let orders = x.orders;
     store_head(words, head);
-    HelloOrders { outcome, freed }
+    orders
 }
 
-// An accepted hello on circuit i, which has the levels `l`, at the held clock and in the held mode.
-pub fn hear(words: &mut [u64], i: usize, l: Levels, d: Heard) -> HelloOrders
+// An accepted hello on circuit i, which has the levels `l`, at the held clock and in the held mode; `rose`: its record becomes UP.
+pub fn hear(words: &mut [u64], i: usize, l: Levels, rose: bool, d: Heard) -> HeardOrders
     requires { ⌜ (length (now words) ≡ controlWords) × (i < circuits) ⌝ }
-    ensures { λ r. ⌜ CommonHears i l d (now (words .entry)) (now (words .exit)) (r .outcome) (r .freed) ⌝ }
+    ensures { λ r. ⌜ CommonHears i l rose d (now (words .entry)) (now (words .exit)) r ⌝ }
 {
     if is_running(mode_of(words)) {
-        return HelloOrders {
+        return HeardOrders {
             outcome: TimerOutcome::Idle,
             freed: Freed::Kept,
+            hello: HelloOrder::Nothing,
         };
     }
-    hear_in(words, i, l, d)
+    hear_in(words, i, l, rose, d)
 }
 
 // The CSNP sets of the levels `n` are complete on circuit i, which has the levels `l`.
@@ -91,7 +99,7 @@ pub fn notice_database(words: &mut [u64], n: Levels) -> TimerOutcome
 
 fn tick_in(words: &mut [u64], clock: u32) -> TickOrders
     requires { ⌜ (length (now words) ≡ controlWords) × On (now words) ⌝ }
-    ensures { λ r. ⌜ CommonTicksOn clock (now (words .entry)) (now (words .exit)) (r .outcome) (helloBits (r .hellos)) ⌝ }
+    ensures { λ r. ⌜ CommonTicksOn clock (now (words .entry)) (now (words .exit)) (r .outcome) (hellosOf (r .hellos)) ⌝ }
 {
     let h = load_head(words);
     let s = lengths_of(words);
@@ -105,11 +113,14 @@ fn tick_in(words: &mut [u64], clock: u32) -> TickOrders
 
 fn tick_on(words: &mut [u64], clock: u32) -> TickOrders
     requires { ⌜ length (now words) ≡ controlWords ⌝ }
-    ensures { λ r. ⌜ CommonTicksOn clock (now (words .entry)) (now (words .exit)) (r .outcome) (helloBits (r .hellos)) ⌝ }
+    ensures { λ r. ⌜ CommonTicksOn clock (now (words .entry)) (now (words .exit)) (r .outcome) (hellosOf (r .hellos)) ⌝ }
 {
     if is_running(mode_of(words)) {
         return TickOrders {
-            hellos: 0,
+            hellos: HelloOrders {
+                circuits: 0,
+                flags: Flags::NONE,
+            },
             outcome: TimerOutcome::Idle,
         };
     }
@@ -119,7 +130,7 @@ fn tick_on(words: &mut [u64], clock: u32) -> TickOrders
 // The clock, and then the timers at it.
 pub fn tick(words: &mut [u64], clock: u32) -> TickOrders
     requires { ⌜ length (now words) ≡ controlWords ⌝ }
-    ensures { λ r. ⌜ CommonTicks clock (now (words .entry)) (now (words .exit)) (r .outcome) (helloBits (r .hellos)) ⌝ }
+    ensures { λ r. ⌜ CommonTicks clock (now (words .entry)) (now (words .exit)) (r .outcome) (hellosOf (r .hellos)) ⌝ }
 {
     move_clock(words, clock);
     tick_on(words, clock)
@@ -128,7 +139,7 @@ pub fn tick(words: &mut [u64], clock: u32) -> TickOrders
 // The flags of the next hello on circuit i.
 pub fn next_flags(words: &[u64], i: usize) -> Flags
     requires { ⌜ (length (now words) ≡ controlWords) × (i < circuits) ⌝ }
-    ensures { λ r. ⌜ r ≡ helloFlags (getD (commonOf (now (words .entry)) .timers .t1s) i noT1) ⌝ }
+    ensures { λ r. ⌜ r ≡ helloFlags (commonOf (now (words .entry)) .timers .mode) (getD (commonOf (now (words .entry)) .timers .t1s) i noT1) ⌝ }
 {
     let h = load_head(words);
     timers::events::next_flags(&words[ENTRIES_AT..ENTRIES_END], h, i)

@@ -27,8 +27,9 @@ use Rattle.basics.specs.declared.kind.CircuitKind.the-variants.{Lan}
 use Rattle.basics.specs.Mask.{bitsOf, circuits}
 use Rattle.timer_parts.specs.T1.{helloFlags}
 use Rattle.basics.specs.declared.mask.Lowest.{Lowest}
+use Rattle.timers.specs.Hellos.{Hellos}
 use Rattle.timers.specs.Timers.{Timers, toT3, csnpIn, noticeT2s, noT1, countRuns, firstRuns}
-use Rattle.settings.specs.Mode.{isRestarting}
+use Rattle.settings.specs.Mode.{isRunning}
 use Rattle.timers.specs.Outcome.{ordered, tickHellos}
 use Rattle.timers.specs.declared.outcome.TimerOutcome.{TimerOutcome}
 use Rattle.settings.specs.Settings.{enabledLevels}
@@ -103,11 +104,11 @@ module _ (ws : List ℕ) (n : ℕ) (len : length ws ≡ gatewayWords) where
     csnp-off e = rw e refl
 
     module _ (has : hasLevel (s .levels) level ≡ true) where
-      pub csnp-outside : isRestarting (commonOf (part 0 controlWords ws) .timers .mode) ≡ false → lift g n (refuse [] NotRestarting) ≡ lift g n (csnpComplete n s level)
+      pub csnp-outside : isRunning (commonOf (part 0 controlWords ws) .timers .mode) ≡ true → lift g n (refuse [] NotRestarting) ≡ lift g n (csnpComplete n s level)
       unfolding lift csnpComplete gatewayOf
       csnp-outside m = rw (has, m) refl
 
-      pub csnp-taken : (m : isRestarting (commonOf (part 0 controlWords ws) .timers .mode) ≡ true) (on : Levels) (se : on ≡ onlyLevel level) (u : List ℕ) (lu : length u ≡ controlWords) (o : TimerOutcome)
+      pub csnp-taken : (m : isRunning (commonOf (part 0 controlWords ws) .timers .mode) ≡ false) (on : Levels) (se : on ≡ onlyLevel level) (u : List ℕ) (lu : length u ≡ controlWords) (o : TimerOutcome)
           → CommonSettles (csnpIn (n - 1) (s .levels) on) (part 0 controlWords ws) u o
           → Meets (Told (Noticed (timersAnswer o))) (lift g n (csnpComplete n s level)) ws (putMid 0 controlWords ws u) []
       unfolding csnpComplete gatewayOf
@@ -141,7 +142,7 @@ module _ (ws : List ℕ) (n : ℕ) (len : length ws ≡ gatewayWords) where
       (ap (λ (x : ℕ). Told (Metric x)) (e ∙ ap (linkMetric (s .kind) (s .metric)) (f ∙ ap firstState (room-of ws n lo hi)))) refl refl refl
 
   -- flags of the next hello
-  pub flags : (s : Circuit) (f : Flags) → f ≡ helloFlags (getD (commonOf (part 0 controlWords ws) .timers .t1s) (n - 1) noT1)
+  pub flags : (s : Circuit) (f : Flags) → f ≡ helloFlags (commonOf (part 0 controlWords ws) .timers .mode) (getD (commonOf (part 0 controlWords ws) .timers .t1s) (n - 1) noT1)
       → Meets (Told (HelloFlags (f .bits))) (lift g n (act n s NextHello)) ws ws []
   unfolding act nextHello gatewayOf
   flags s f e = asks ws n (act n s NextHello) (Told (HelloFlags (f .bits))) (ap (λ (x : Flags). Told (HelloFlags (x .bits))) e) refl refl refl
@@ -209,7 +210,7 @@ module _ (ws : List ℕ) where
           })
 
   -- the rooms first, and then the control words put back
-  pub swept-all : (clock : ℕ) (ws1 u : List ℕ) (lost hellos : List Bool) (o : TimerOutcome) → length ws1 ≡ gatewayWords → length u ≡ controlWords
+  pub swept-all : (clock : ℕ) (ws1 u : List ℕ) (lost : List Bool) (hellos : Hellos) (o : TimerOutcome) → length ws1 ≡ gatewayWords → length u ≡ controlWords
       → lost ≡ map (lapsed clock) (gw .rooms) → gatewayOf ws1 ≡ withRooms gw (map (sweptRoom clock) (gw .rooms))
       → CommonTicks clock (part 0 controlWords ws1) u o hellos → SweepsAll clock ws (putMid 0 controlWords ws1 u) (Ticked lost hellos (timersAnswer o))
   swept-all clock ws1 u lost hellos o l1 lu m r h =
@@ -232,21 +233,21 @@ module _ (ws : List ℕ) where
     database-off e = rw (← le, e) (record { answer = refl; reply = refl; next = refl; kept = λ x y. refl })
 
     module _ (on : hasLevel l level ≡ true) where
-      judged : (d : Judged) → cond (isRestarting (gw .common .timers .mode)) (Tell (settledBy (noticeT2s (onlyLevel level)) (gw .common)) (Told (noticeOf (noticeT2s (onlyLevel level)) (gw .common)))) (RefusedCall NotRestarting) ≡ d
+      judged : (d : Judged) → cond (isRunning (gw .common .timers .mode)) (RefusedCall NotRestarting) (Tell (settledBy (noticeT2s (onlyLevel level)) (gw .common)) (Told (noticeOf (noticeT2s (onlyLevel level)) (gw .common)))) ≡ d
           → step gw call ≡ carry gw d
       unfolding step judge databaseOf
       judged d e =
           let h : hasLevel (enabledLevels (gw .common .circuits)) level ≡ true = rw (← common-at ws, ← le) on in
           ap (carry gw) (rw h e)
 
-      pub database-outside : isRestarting (cs .timers .mode) ≡ false → Meets (Refused (refusalNo NotRestarting)) (step gw call) ws ws []
+      pub database-outside : isRunning (cs .timers .mode) ≡ true → Meets (Refused (refusalNo NotRestarting)) (step gw call) ws ws []
       unfolding carry
       database-outside m =
-          let q : isRestarting (gw .common .timers .mode) ≡ false = rw (← common-at ws) m in
+          let q : isRunning (gw .common .timers .mode) ≡ true = rw (← common-at ws) m in
           along (sym (judged (RefusedCall NotRestarting) (rw q)))
           (record { answer = refl; reply = refl; next = refl; kept = λ x y. refl })
 
-      pub database-taken : isRestarting (cs .timers .mode) ≡ true → (n : Levels) → n ≡ onlyLevel level → (u : List ℕ) → length ws ≡ gatewayWords → length u ≡ controlWords
+      pub database-taken : isRunning (cs .timers .mode) ≡ false → (n : Levels) → n ≡ onlyLevel level → (u : List ℕ) → length ws ≡ gatewayWords → length u ≡ controlWords
           → (o : TimerOutcome) → CommonSettles (noticeT2s n) (part 0 controlWords ws) u o → Meets (Told (Noticed (timersAnswer o))) (step gw call) ws (putMid 0 controlWords ws u) []
       unfolding carry
       database-taken m n ne u len lu o h =
@@ -254,7 +255,7 @@ module _ (ws : List ℕ) where
           let k : CommonSettles f (part 0 controlWords ws) u o = subst (λ (x : Levels). CommonSettles (noticeT2s x) (part 0 controlWords ws) u o) ne h in
           let next = subst (λ (x : Common). commonOf u ≡ settledBy f x) (common-at ws) (k .common) in
           let out = subst (λ (x : Common). Noticed (timersAnswer o) ≡ noticeOf f x) (common-at ws) (ap (λ (x : TimerOutcome). Noticed (timersAnswer x)) (k .outcome)) in
-          let q : isRestarting (gw .common .timers .mode) ≡ true = rw (← common-at ws) m in
+          let q : isRunning (gw .common .timers .mode) ≡ false = rw (← common-at ws) m in
           along (sym (judged (Tell (settledBy f (gw .common)) (Told (noticeOf f (gw .common)))) (rw q)))
           (record {
             answer = ap Told out;

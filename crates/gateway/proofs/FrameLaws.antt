@@ -3,7 +3,7 @@
 use Prim.Native.Nat.{ℕ, _+_, _-_, _<_, _≤_}
 use native.Mathlib.Omega.{arith}
 use mathlib.Core.Path.{_≡_, refl, ap, sym, _∙_}
-use mathlib.Core.Bool.{true, false}
+use mathlib.Core.Bool.{Bool, true, false}
 use mathlib.Core.List.{List}
 use lib.ListN.{length, set}
 use borrow.Author.Tests.{lt-ltb, le-ltb}
@@ -31,8 +31,7 @@ use Rattle.slots.specs.Slots.{tableOf, roomWords}
 use Rattle.adjacency.specs.declared.place.Slot.{Slot}
 use Rattle.basics.specs.declared.levels.Levels.{Levels}
 use Rattle.timer_parts.specs.declared.heard.Heard.{Heard}
-use Rattle.timer_parts.specs.declared.t1.Freed.{Freed}
-use Rattle.timers.specs.declared.outcome.TimerOutcome.{TimerOutcome}
+use Rattle.timers.specs.declared.events.HeardOrders.{HeardOrders}
 use Rattle.settings.specs.declared.circuit.Circuit.{Circuit}
 use Rattle.control.specs.Common.{Common}
 use Rattle.control.specs.Words.{circuitAt, commonOf, controlWords}
@@ -47,14 +46,15 @@ use Rattle.model.specs.declared.answers.Orders.{Orders}
 use Rattle.model.specs.Numbers.{refusalNo}
 use Rattle.model.specs.Answers.{Refused, Received, frameAnswer, changeOf}
 use Rattle.model.specs.Gateway.{Gateway, Room, withRooms, withCommon, renew, roomOf}
-use Rattle.model.specs.Receive.{refuse, hereOf, rankOf, saidOf, ordersOf, accepted, reacted, decidedIn, checked, readIn, receive}
+use Rattle.model.specs.Receive.{refuse, hereOf, rankOf, hasRisen, saidOf, ordersOf, accepted, reacted, decidedIn, checked, readIn, receive}
 use Rattle.model.specs.Step.{Receive, act, lift}
 use Rattle.gateway.specs.Words.{gatewayWords, roomPlace, gatewayOf, circuitHeld, Meets}
 use Rattle.basics.specs.Lists.{part}
 use Rattle.gateway.proofs.WordLaws.{along, refuses, common-at, common-put, common-stays, room-put, room-same, room-of, renew-at}
 
-pub hears-said : {i : ℕ} {l : Levels} {d d′ : Heard} {ws u : List ℕ} {o : TimerOutcome} {r : Freed} → d ≡ d′ → CommonHears i l d ws u o r → CommonHears i l d′ ws u o r
-hears-said e h = rw (← e) h
+pub hears-said : {i : ℕ} {l : Levels} {rose rose′ : Bool} {d d′ : Heard} {ws u : List ℕ} {o : HeardOrders} → rose ≡ rose′ → d ≡ d′ → CommonHears i l rose d ws u o
+    → CommonHears i l rose′ d′ ws u o
+hears-said r e h = rw (← r, ← e) h
 
 pub of-circuit : {n : ℕ} {s s′ : Circuit} {h : Hello} {reply : Acknowledgement} {line : Line} {change : Change} {ws u : List ℕ} {o : Orders} → s ≡ s′
     → GivesOrders n s h reply line change ws u o → GivesOrders n s′ h reply line change ws u o
@@ -165,7 +165,7 @@ module _ (ws : List ℕ) (n : ℕ) (s : Circuit) (mac : ℕ) (h : Hello) (b : Li
           (record {
             answer = ap (λ (x : Orders). Received (frameAnswer x)) (y .orders ∙ (λ i. ordersOf n s h reply line (cs i) (common i) (own i)));
             reply = did .1;
-            next = y .next ∙ ap (λ (x : Gateway). withCommon x (commonAfter n s h (x .common))) same;
+            next = y .next ∙ (λ i. withCommon (same i) (commonAfter n s h (cs i) (same i .common)));
             kept = λ x z. absurd (let y : _≡_ {A = ℕ} 0 1 = cc in omega arith);
           })
 
@@ -192,16 +192,19 @@ module _ (ws : List ℕ) (n : ℕ) (s : Circuit) (h : Hello) (reply : Acknowledg
   abbrev at : ℕ
   at = roomPlace (n - 1)
 
-  pub gives : (rank : Rank) (cs : Csnps) (timed : TimerOutcome) (freed : Freed) (u : List ℕ) → length u ≡ controlWords → rank ≡ rankOf s h
+  pub gives : (rank : Rank) (cs : Csnps) (timed : HeardOrders) (u : List ℕ) → length u ≡ controlWords → rank ≡ rankOf s h
       → cs ≡ csnpsIn rank line (s .levels) (h .link) (tableOf (part at (at + roomWords - at) ws))
-      → CommonHears (n - 1) (s .levels) (saidOf (commonOf (part 0 controlWords ws)) s h) (part 0 controlWords ws) u timed freed
-      → GivesOrders n s h reply line change ws (putMid 0 controlWords ws u) (record { reply = reply; csnps = cs; outcome = timed; freed = freed; change = change })
+      → CommonHears (n - 1) (s .levels) (hasRisen change) (saidOf (commonOf (part 0 controlWords ws)) s h) (part 0 controlWords ws) u timed
+      → GivesOrders n s h reply line change ws (putMid 0 controlWords ws u)
+      (record { reply = reply; csnps = cs; outcome = timed .outcome; freed = timed .freed; hello = timed .hello; change = change })
   unfolding gatewayOf
-  gives rank cs timed freed u lu re ce hs =
+  gives rank cs timed u lu re ce hs =
       let c : cs ≡ csnpsIn (rankOf s h) line (s .levels) (h .link) (roomOf (gatewayOf ws) n .slots) =
       ce ∙ ap (λ (x : Rank). csnpsIn x line (s .levels) (h .link) (tableOf (part at (at + roomWords - at) ws))) re
       ∙ ap (csnpsIn (rankOf s h) line (s .levels) (h .link)) (room-of ws n lo hi) in
       record {
-        orders = λ i. record { reply = reply; csnps = c i; outcome = hs .settles .outcome i; freed = hs .freed i; change = change };
-        next = common-put ws u len lu ∙ ap (withCommon (gatewayOf ws)) (hs .settles .common);
+        orders = λ i.
+            let o : HeardOrders = hs .orders i in
+            record { reply = reply; csnps = c i; outcome = o .outcome; freed = o .freed; hello = o .hello; change = change };
+        next = common-put ws u len lu ∙ ap (withCommon (gatewayOf ws)) (hs .common);
       }

@@ -10,7 +10,9 @@ use borrow.Author.Tests.{lt-ltb, le-ltb}
 use borrow.Rule.Slice.PartMut.{putMid}
 use Rattle.basics.proofs.PartLaws.{part-same}
 use Rattle.basics.specs.Lists.{part}
-use Rattle.timers.specs.Events.{startHellos, helloBits}
+use Rattle.timers.specs.Hellos.{Hellos, hellosOf}
+use Rattle.timers.specs.declared.hellos.HelloOrders.{HelloOrders}
+use Rattle.timers.specs.Events.{startHellos}
 use Rattle.control.specs.Words.{controlWords, circuitAt, circuitsFrom}
 use Rattle.basics.specs.declared.refusal.Refusal.the-variants.{BadSetting}
 use Rattle.slots.specs.Slots.{tableOf, roomWords}
@@ -100,12 +102,12 @@ counted-many b h = rw (lt-ltb circuits (b .count) h) refl
 pub counted-same : (b : Basis) → b .count ≤ circuits → b ≡ countedBasis b
 counted-same b h = rw (le-ltb circuits (b .count) h) refl
 
-pub begins : (ws u : List ℕ) (b : Basis) (hellos : List Bool) → length ws ≡ gatewayWords → length u ≡ controlWords
+pub begins : (ws u : List ℕ) (b : Basis) (hellos : Hellos) → length ws ≡ gatewayWords → length u ≡ controlWords
     → SetsControl (settingsOn b (circuitsFrom (part 0 controlWords ws) 0 circuits)) u hellos → Begins b ws (putMid 0 controlWords ws u) hellos
 begins ws u b hellos len lu h =
     record { next = common-put ws u len lu ∙ ap (withCommon (gatewayOf ws)) (h .common); ordered = h .hellos }
 
-pub begins-as : {b b′ : Basis} {ws ws′ : List ℕ} {h : List Bool} → b ≡ b′ → Begins b ws ws′ h → Begins b′ ws ws′ h
+pub begins-as : {b b′ : Basis} {ws ws′ : List ℕ} {h : Hellos} → b ≡ b′ → Begins b ws ws′ h → Begins b′ ws ws′ h
 begins-as e h = rw (← e) h
 
 module _ (ws : List ℕ) (s : Settings) where
@@ -113,8 +115,8 @@ module _ (ws : List ℕ) (s : Settings) where
   unfolding setup
   set-up-refused e = rw e (record { answer = refl; next = refl; kept = λ x y. refl })
 
-  pub set-up-done : (ws1 ws′ : List ℕ) (hellos : ℕ) → settingsOk s ≡ true → HoldsCircuits (s .circuits) ws1
-      → Begins (basisOf s) ws1 ws′ (helloBits hellos) → SetsUp (setup s) ws ws′ (Done hellos)
+  pub set-up-done : (ws1 ws′ : List ℕ) (hellos : HelloOrders) → settingsOk s ≡ true → HoldsCircuits (s .circuits) ws1
+      → Begins (basisOf s) ws1 ws′ (hellosOf hellos) → SetsUp (setup s) ws ws′ (Done hellos)
   unfolding setup newGateway
   set-up-done ws1 ws′ hellos e held b =
       let on : settingsOn (basisOf s) (circuitsFrom (part 0 controlWords ws1) 0 circuits) ≡ s = ap (settingsOn (basisOf s)) (held .stored) in

@@ -1,6 +1,6 @@
--- What a frame that was accepted orders (document 01, "Marks and holding time" and "Timers while Restarting"), of the words as the record's
--- change left them.
-use Prim.Native.Nat.{ℕ, _-_}
+-- What a frame that was accepted orders (document 01, "Marks and holding time" and "Timers while Restarting"; document 02, W-201), of the words
+-- as the record's change left them.
+use Prim.Native.Nat.{ℕ}
 use mathlib.Core.Path.{_≡_}
 use mathlib.Core.List.{List}
 use Rattle.hello.specs.declared.read.Hello.{Hello}
@@ -9,17 +9,16 @@ use Rattle.adjacency.specs.declared.marks.Acknowledgement.{Acknowledgement}
 use Rattle.adjacency.specs.declared.marks.Line.{Line}
 use Rattle.settings.specs.declared.circuit.Circuit.{Circuit}
 use Rattle.timer_parts.specs.declared.heard.Heard.{Heard}
-use Rattle.timers.specs.Timers.{heard}
 use Rattle.control.specs.Common.{Common, withTimers}
 use Rattle.model.specs.declared.answers.Change.{Change}
 use Rattle.model.specs.declared.answers.Orders.{Orders}
 use Rattle.model.specs.Gateway.{withCommon, roomOf}
-use Rattle.model.specs.Receive.{saidOf, ordersOf}
+use Rattle.model.specs.Receive.{saidOf, timersAfter, ordersOf}
 use Rattle.gateway.specs.Words.{gatewayOf, circuitHeld}
 
--- the common part after a frame on circuit n
-abbrev pub commonAfter : ℕ → Circuit → Hello → Common → Common
-commonAfter n s h c = withTimers (heard (c .clock) (n - 1) (s .levels) (saidOf c s h) (c .timers)) c
+-- the common part after a frame on circuit n that changed its record so
+abbrev pub commonAfter : ℕ → Circuit → Hello → Change → Common → Common
+commonAfter n s h x c = withTimers (timersAfter n s h x c) c
 
 -- what is settled before the record is looked for: what the frame says to the timers, and its level, which is its key's
 pub record Settled (n : ℕ) (h : Hello) (said : Heard) (change : Change) (ws : List ℕ) : Type 0 where
@@ -28,4 +27,4 @@ pub record Settled (n : ℕ) (h : Hello) (said : Heard) (change : Change) (ws : 
 
 pub record GivesOrders (n : ℕ) (s : Circuit) (h : Hello) (reply : Acknowledgement) (line : Line) (change : Change) (ws ws′ : List ℕ) (o : Orders) : Type 0 where
   pub orders : o ≡ ordersOf n s h reply line change (gatewayOf ws .common) (roomOf (gatewayOf ws) n)
-  pub next : gatewayOf ws′ ≡ withCommon (gatewayOf ws) (commonAfter n s h (gatewayOf ws .common))
+  pub next : gatewayOf ws′ ≡ withCommon (gatewayOf ws) (commonAfter n s h change (gatewayOf ws .common))

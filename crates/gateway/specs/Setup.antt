@@ -2,11 +2,11 @@
 -- (document 01, "What the gateway holds").
 use Prim.Native.Nat.{ℕ, _<_, _≤_}
 use mathlib.Core.Path.{_≡_}
-use mathlib.Core.Bool.{Bool}
 use mathlib.Core.Logic.{_≢_}
 use mathlib.Core.List.{List, map}
 use lib.ListN.{set}
-use Rattle.timers.specs.Events.{startHellos, helloBits}
+use Rattle.timers.specs.Hellos.{Hellos, hellosOf}
+use Rattle.timers.specs.Events.{startHellos}
 use Rattle.basics.specs.Octets.{big}
 use Rattle.basics.specs.Mask.{circuits}
 use Rattle.settings.specs.declared.circuit.Circuit.{Circuit}
@@ -64,18 +64,18 @@ abbrev pub countedBasis : Basis → Basis
 countedBasis b = record { system = b .system; lengths = b .lengths; clock = b .clock; mode = b .mode; count = countIn (b .count) }
 
 -- then the rest begins
-pub record Begins (b : Basis) (ws ws′ : List ℕ) (hellos : List Bool) : Type 0 where
+pub record Begins (b : Basis) (ws ws′ : List ℕ) (hellos : Hellos) : Type 0 where
   pub next : gatewayOf ws′ ≡ withCommon (gatewayOf ws) (setupCommon (settingsOn b (circuitsFrom (part 0 controlWords ws) 0 circuits)))
   pub ordered : hellos ≡ startHellos (startOf (settingsOn b (circuitsFrom (part 0 controlWords ws) 0 circuits)))
 
--- setup's answer: its refusal's number, or the circuits whose hello is ordered
+-- setup's answer: its refusal's number, or the hellos that are ordered
 pub data Report : Type 0 where
   Refused : (number : ℕ) → Report
-  Begun : (hellos : List Bool) → Report
+  Begun : Hellos → Report
 
 abbrev pub reportOf : SetUp → Report
 reportOf (RefusedAnswer x) = Refused (refusalNo x)
-reportOf (Done hellos) = Begun (helloBits hellos)
+reportOf (Done hellos) = Begun (hellosOf hellos)
 
 abbrev pub reportIn : Setup → Report
 reportIn (RefusedSetup x) = Refused x

@@ -42,7 +42,7 @@ ghost use Rattle.gateway.specs.Setup.{settingsGiven, SetsUp};
 // The words of a gateway.
 pub const GATEWAY_WORDS: usize = CONTROL_WORDS + ROOM_WORDS * CIRCUITS;
 
-// A new gateway, whatever the memory was; the answer says on which circuits a hello with RR is ordered.
+// A new gateway, whatever the memory was; the answer says which hellos are ordered.
 pub fn set_up(gateway: &mut [u64; GATEWAY_WORDS], settings: GatewaySettings) -> SetUp
     ensures { λ r. ⌜ SetsUp (setup (settingsGiven settings)) (now (gateway .entry)) (now (gateway .exit)) r ⌝ }
 {

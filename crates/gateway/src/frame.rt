@@ -11,6 +11,7 @@ use adjacency::record::is_advertised;
 use adjacency::record::phase_of;
 use adjacency::step::Here;
 use adjacency::step::is_wrong_source;
+use adjacency::step::rises;
 use basics::octets::six;
 use basics::refusal::Refusal;
 use control::head::mode_of;
@@ -89,14 +90,19 @@ fn order_in(
     };
     let a = CONTROL_WORDS + ROOM_WORDS * i;
     let csnps = csnps_in(&gateway[a..a + ROOM_WORDS], rank, line, levels, link);
-    let x = hear(&mut gateway[0..CONTROL_WORDS], i, levels, said);
+    let before = change.before;
+    let after = change.after;
+    let rose = rises(before, after);
+    let x = hear(&mut gateway[0..CONTROL_WORDS], i, levels, rose, said);
     let outcome = x.outcome;
     let freed = x.freed;
+    let hello = x.hello;
     Orders {
         reply,
         csnps,
         outcome,
         freed,
+        hello,
         change,
     }
 }

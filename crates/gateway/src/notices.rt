@@ -1,4 +1,4 @@
-// The daemon's notices that a CSNP set, or a level's database, is complete (document 01, "Timers while Restarting").
+// The daemon's notices that a CSNP set, or a level's database, is complete (document 01, "Timers while Restarting"; document 02, W-201).
 use basics::levels::has_level;
 use basics::levels::only_level;
 use basics::refusal::Refusal;
@@ -11,7 +11,7 @@ use control::words::levels_of;
 use model::answers::Noticed;
 use settings::circuit::Chosen;
 use settings::circuit::Circuit;
-use settings::mode::is_restarting;
+use settings::mode::is_running;
 ghost use mathlib.Core.Path.{_≡_};
 ghost use mathlib.Core.List.{[]};
 ghost use Prim.Native.Nat.{_<_, _≤_};
@@ -30,7 +30,7 @@ fn csnp_on(gateway: &mut [u64], n: u8, s: Circuit, level: u8) -> Noticed
     if !has_level(levels, level) {
         return Noticed::Refused(Refusal::NoCircuit);
     }
-    if !is_restarting(mode_of(&gateway[0..CONTROL_WORDS])) {
+    if is_running(mode_of(&gateway[0..CONTROL_WORDS])) {
         return Noticed::Refused(Refusal::NotRestarting);
     }
     let set = only_level(level);
@@ -58,7 +58,7 @@ pub(crate) fn database_in(gateway: &mut [u64], level: u8) -> Noticed
     if !has_level(levels_of(&gateway[0..CONTROL_WORDS]), level) {
         return Noticed::Refused(Refusal::NoCircuit);
     }
-    if !is_restarting(mode_of(&gateway[0..CONTROL_WORDS])) {
+    if is_running(mode_of(&gateway[0..CONTROL_WORDS])) {
         return Noticed::Refused(Refusal::NotRestarting);
     }
     let set = only_level(level);

@@ -15,13 +15,14 @@ use settings::circuit::Circuit;
 use settings::setup::Settings;
 use settings::setup::are_settings_ok;
 use slots::slot::ROOM_WORDS;
+use timers::hellos::HelloOrders;
 ghost use mathlib.Core.Path.{_≡_};
 ghost use mathlib.Core.List.{map};
 ghost use Prim.Native.Nat.{_<_, _≤_};
 ghost use lib.ListN.{length};
 ghost use Rattle.basics.specs.Mask.{circuits};
 ghost use Rattle.basics.specs.Octets.{big};
-ghost use Rattle.timers.specs.Events.{helloBits};
+ghost use Rattle.timers.specs.Hellos.{hellosOf};
 ghost use Rattle.model.specs.Gateway.{setup};
 ghost use Rattle.gateway.specs.Words.{gatewayWords};
 ghost use Rattle.gateway.specs.Setup.{circuitGiven, settingsGiven, PutsCircuit, HoldsCircuits, Begins, SetsUp, countedBasis};
@@ -108,9 +109,9 @@ fn put_circuits(gateway: &mut [u64], all: [Circuit; CIRCUITS])
 }
 
 // The rest of a new gateway, once its circuits are put.
-fn begin_in(gateway: &mut [u64], s: Basis) -> u8
+fn begin_in(gateway: &mut [u64], s: Basis) -> HelloOrders
     requires { ⌜ (length (now gateway) ≡ gatewayWords) × (s .count ≤ circuits) ⌝ }
-    ensures { λ r. ⌜ Begins s (now (gateway .entry)) (now (gateway .exit)) (helloBits r) ⌝ }
+    ensures { λ r. ⌜ Begins s (now (gateway .entry)) (now (gateway .exit)) (hellosOf r) ⌝ }
 {
     begin(&mut gateway[0..CONTROL_WORDS], s)
 }
@@ -166,9 +167,9 @@ fn counted(s: Basis) -> Basis
     s
 }
 
-// .. and then the rest; the answer is the mask of the circuits whose hello is ordered.
-pub fn start(gateway: &mut [u64; GATEWAY_WORDS], s: Basis) -> u8
-    ensures { λ r. ⌜ Begins (countedBasis s) (now (gateway .entry)) (now (gateway .exit)) (helloBits r) ⌝ }
+// .. and then the rest; the answer is the hellos that are ordered.
+pub fn start(gateway: &mut [u64; GATEWAY_WORDS], s: Basis) -> HelloOrders
+    ensures { λ r. ⌜ Begins (countedBasis s) (now (gateway .entry)) (now (gateway .exit)) (hellosOf r) ⌝ }
 {
     begin_in(gateway, counted(s))
 }

@@ -9,11 +9,13 @@ use control::words::clock_of;
 use control::words::count_of;
 use model::answers::Released;
 use model::answers::Ticked;
+use restart_tlv::flags::Flags;
 use room::empty::open_room;
 use room::sweep::expire;
 use room::sweep::release;
 use settings::circuit::Chosen;
 use slots::slot::ROOM_WORDS;
+use timers::hellos::HelloOrders;
 use timers::outcome::TimerOutcome;
 ghost use mathlib.Core.Path.{_≡_};
 ghost use mathlib.Core.List.{[], map};
@@ -74,7 +76,10 @@ pub(crate) fn tick_in(gateway: &mut [u64], clock: u32) -> Ticked
     if count_of(&gateway[0..CONTROL_WORDS]) == 0 {
         return Ticked::Done {
             lost: 0,
-            hellos: 0,
+            hellos: HelloOrders {
+                circuits: 0,
+                flags: Flags::NONE,
+            },
             outcome: TimerOutcome::Idle,
         };
     }

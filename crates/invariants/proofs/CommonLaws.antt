@@ -1,13 +1,13 @@
 -- What every call leaves of the common part, whatever it answers: setup's settings, a clock that does not fall, and timers of which setup's
 -- settings and the mode say what they said before.
-use Prim.Native.Nat.{ℕ, _-_, _≤_, _<_}
+use Prim.Native.Nat.{ℕ, zero, suc, _-_, _≤_, _<_}
 use native.Mathlib.Omega.{arith}
-use mathlib.Core.Path.{_≡_, refl, _∙_}
-use mathlib.Core.Bool.{true}
-use mathlib.Core.List.{List}
-use lib.ListN.{length}
+use mathlib.Core.Path.{_≡_, refl, ap, _∙_}
+use mathlib.Core.Bool.{Bool, true, false}
+use mathlib.Core.List.{List, [], _∷_}
+use lib.ListN.{length, take}
 use lib.Dec.{ltb}
-use borrow.Author.Tests.{ltb-false}
+use borrow.Author.Tests.{ltb-true, ltb-false}
 use Rattle.basics.proofs.BoolLaws.{by-test}
 use Rattle.basics.specs.Lists.{every}
 use Rattle.basics.specs.Levels.{onlyLevel, hasLevel}
@@ -22,62 +22,85 @@ use Rattle.adjacency.specs.declared.react.Reaction.{Reaction}
 use Rattle.adjacency.specs.declared.react.Reaction.the-variants.{Refused as RefusedReaction, Accepted}
 use Rattle.adjacency.specs.declared.record.Key.{Key}
 use Rattle.room.specs.Accept.{decided}
-use Rattle.settings.specs.Mode.{isRestarting}
+use Rattle.settings.specs.Mode.{isRunning}
 use Rattle.settings.specs.Settings.{circuitOk, circuitsOf, enabledLevels}
 use Rattle.settings.specs.declared.circuit.Chosen.{Chosen}
 use Rattle.settings.specs.declared.circuit.Chosen.the-variants.{Known, Unknown}
 use Rattle.settings.specs.declared.circuit.Circuit.{Circuit}
 use Rattle.settings.specs.declared.lengths.Lengths.{Lengths}
-use Rattle.settings.specs.declared.mode.Mode.the-variants.{Running}
 use Rattle.settings.specs.declared.setup.Settings.{Settings}
 use Rattle.timer_parts.specs.declared.heard.Heard.{Heard}
+use Rattle.timer_parts.specs.declared.t3.T3.the-variants.{Idle}
 use Rattle.timers.specs.Timers.{Timers, settled, toT3, heardIn, csnpIn, noticeT2s}
-use Rattle.timers.proofs.TimersLaws.{mode-running}
 use Rattle.control.specs.Common.{Common, withClock, withTimers, circuitOf, startOf, setupCommon}
 use Rattle.model.specs.Gateway.{Room, Gateway}
-use Rattle.model.specs.Receive.{refuse, hereOf, saidOf, accepted, reacted, decidedIn, checked, readIn, receive}
+use Rattle.model.specs.Receive.{refuse, hereOf, hasRisen, saidOf, accepted, reacted, decidedIn, checked, readIn, receive}
 use Rattle.model.specs.Step.{Local, Receive, Release, Clear, CsnpComplete, LookUp, LinkMetric, NextHello, Global, Tick, DatabaseComplete, Waiting, Call, At, Over, asksLevel, csnpComplete, lookUp, linkMetricOf, nextHello, act, lift, on, Judged, Refused as RefusedCall, Sweep, Tell, noneOf, tickOf, databaseOf, judge, carry, step}
-use Rattle.invariants.specs.Invariants.{Quiet, Restarts, SetupSettings, SetupTimers, Onward}
-use Rattle.invariants.proofs.QuietLaws.{started-quiet, started-restarts, settled-quiet, settled-restarts, toT3-mode, heardIn-mode, csnpIn-mode, noticeT2s-mode}
+use Rattle.invariants.specs.Invariants.{Quiet, Restarts, NoT3, SetupSettings, SetupTimers, Onward}
+use Rattle.invariants.proofs.QuietLaws.{started-quiet, started-restarts, started-no-t3, settled-quiet, settled-mode, settled-no-t3, settled-restarts, toT3-mode, heardIn-mode, csnpIn-mode, noticeT2s-mode, toT3-idle, heardIn-idle, csnpIn-idle, noticeT2s-idle}
 use Rattle.invariants.proofs.SetupTimersLaws.{started-kept, settled-kept, later-kept, toT3-kept, heardIn-kept, csnpIn-kept, noticeT2s-kept}
 
 -- ---- the timers
 
--- the settings' lengths are still setup's
-abbrev pub KeptBy : Lengths → ℕ → Timers → Timers → Type 0
-KeptBy l clock t next = (s : Settings) → l ≡ s .lengths → SetupTimers s clock t → SetupTimers s clock next
+-- the settings are still setup's, and N is not 0
+pub record Set (l : Lengths) (cs : List Circuit) (s : Settings) : Type 0 where
+  pub lengths : l ≡ s .lengths
+  pub circuits : cs ≡ circuitsOf s
+  pub tries : 0 < s .lengths .tries
+
+abbrev pub KeptBy : Lengths → List Circuit → ℕ → Timers → Timers → Type 0
+KeptBy l cs clock t next = (s : Settings) → Set l cs s → SetupTimers s clock t → SetupTimers s clock next
 
 -- what a call's own step is asked for
-pub record Own (l : Lengths) (clock : ℕ) (t next : Timers) : Type 0 where
+pub record Own (l : Lengths) (cs : List Circuit) (clock : ℕ) (t next : Timers) : Type 0 where
   pub mode : next .mode ≡ t .mode
-  pub kept : KeptBy l clock t next
+  pub idle : t .t3 ≡ Idle → next .t3 ≡ Idle
+  pub kept : KeptBy l cs clock t next
 
-module _ (l : Lengths) (clock : ℕ) (t : Timers) where
-  own-tick : Own l clock t (toT3 l clock t)
-  own-tick = record { mode = toT3-mode l clock t; kept = λ s e h. rw e (toT3-kept s clock t h) }
+length-first : {A : Type 0} (n : ℕ) (l : List A) → length (take n l) ≤ n
+length-first zero l = omega arith
+length-first (suc n) [] = omega arith
+length-first (suc n) (x ∷ l) = let k = length-first n l in omega arith
 
-  own-heard : (i : ℕ) (on : Levels) (d : Heard) → Own l clock t (heardIn clock i on d t)
-  own-heard i on d = record { mode = heardIn-mode clock i on d t; kept = λ s e h. heardIn-kept s clock t h i on d }
+module _ (l : Lengths) (cs : List Circuit) (clock : ℕ) (t : Timers) where
+  own-tick : Own l cs clock t (toT3 l clock t)
+  own-tick = record { mode = toT3-mode l clock t; idle = toT3-idle l clock t; kept = λ s e h. rw (e .lengths) (toT3-kept s clock t h) }
 
-  own-csnp : (i : ℕ) (on n : Levels) → Own l clock t (csnpIn i on n t)
-  own-csnp i on n = record { mode = csnpIn-mode i on n t; kept = λ s e h. csnpIn-kept s clock t h i on n }
+  -- on a circuit that is there
+  own-heard : (i : ℕ) (on : Levels) (rose : Bool) (d : Heard) → i < length cs → Own l cs clock t (heardIn l clock i on rose d t)
+  own-heard i on rose d there =
+      record {
+        mode = heardIn-mode l clock i on rose d t;
+        idle = heardIn-idle l clock i on rose d t;
+        kept = λ s e h.
+            let k = length-first (s .count) (s .circuits) in
+            let le : suc i ≤ s .count = omega (arith, ap length (e .circuits)) in
+            rw (e .lengths) (heardIn-kept s clock t h i on rose d le (e .tries));
+      }
 
-  own-database : (n : Levels) → Own l clock t (noticeT2s n t)
-  own-database n = record { mode = noticeT2s-mode n t; kept = λ s e h. noticeT2s-kept s clock t h n }
+  own-csnp : (i : ℕ) (on n : Levels) → Own l cs clock t (csnpIn i on n t)
+  own-csnp i on n =
+      record { mode = csnpIn-mode i on n t; idle = csnpIn-idle i on n t; kept = λ s e h. csnpIn-kept s clock t h i on n }
+
+  own-database : (n : Levels) → Own l cs clock t (noticeT2s n t)
+  own-database n = record { mode = noticeT2s-mode n t; idle = noticeT2s-idle n t; kept = λ s e h. noticeT2s-kept s clock t h n }
 
 -- what the call then gives
-pub record Passes (l : Lengths) (clock : ℕ) (t next : Timers) : Type 0 where
-  pub running : t .mode ≡ Running → next .mode ≡ Running
+pub record Passes (l : Lengths) (cs : List Circuit) (clock : ℕ) (t next : Timers) : Type 0 where
+  pub mode : isRunning (next .mode) ≡ false → next .mode ≡ t .mode
   pub quiet : Quiet t → Quiet next
   pub restarts : (s : Settings) → Restarts s t → Restarts s next
-  pub kept : KeptBy l clock t next
+  pub no-t3 : NoT3 t → NoT3 next
+  pub kept : KeptBy l cs clock t next
 
-passes-settled : (l : Lengths) (clock : ℕ) (f : Timers → Timers) (t : Timers) → Own l clock t (f t) → Passes l clock t (settled f t)
-passes-settled l clock f t own =
+passes-settled : (l : Lengths) (cs : List Circuit) (clock : ℕ) (f : Timers → Timers) (t : Timers) → Own l cs clock t (f t)
+    → Passes l cs clock t (settled f t)
+passes-settled l cs clock f t own =
     record {
-      running = λ e. mode-running t e f;
+      mode = settled-mode f t (own .mode);
       quiet = settled-quiet f t (own .mode);
       restarts = λ s h. settled-restarts s f t h;
+      no-t3 = settled-no-t3 f t (own .mode) (own .idle);
       kept = λ s e h. settled-kept s clock t h f (own .kept s e h);
     }
 
@@ -89,7 +112,7 @@ pub record Keeps (c d : Common) : Type 0 where
   pub lengths : d .lengths ≡ c .lengths
   pub circuits : d .circuits ≡ c .circuits
   pub clock : d .clock ≡ c .clock
-  pub timers : Passes (c .lengths) (c .clock) (c .timers) (d .timers)
+  pub timers : Passes (c .lengths) (c .circuits) (c .clock) (c .timers) (d .timers)
 
 keeps-same : (c : Common) → Keeps c c
 keeps-same c =
@@ -98,21 +121,30 @@ keeps-same c =
       lengths = refl;
       circuits = refl;
       clock = refl;
-      timers = record { running = λ e. e; quiet = λ q. q; restarts = λ s h. h; kept = λ s e h. h };
+      timers = record { mode = λ e. refl; quiet = λ q. q; restarts = λ s h. h; no-t3 = λ h. h; kept = λ s e h. h };
     }
 
-keeps-settled : (c : Common) (f : Timers → Timers) → Own (c .lengths) (c .clock) (c .timers) (f (c .timers)) → Keeps c (withTimers (settled f (c .timers)) c)
+keeps-settled : (c : Common) (f : Timers → Timers) → Own (c .lengths) (c .circuits) (c .clock) (c .timers) (f (c .timers)) → Keeps c (withTimers (settled f (c .timers)) c)
 keeps-settled c f own =
-    record { system = refl; lengths = refl; circuits = refl; clock = refl; timers = passes-settled (c .lengths) (c .clock) f (c .timers) own }
+    record { system = refl; lengths = refl; circuits = refl; clock = refl; timers = passes-settled (c .lengths) (c .circuits) (c .clock) f (c .timers) own }
 
 -- ---- the calls on a circuit
 
-module _ (n : ℕ) (s : Circuit) (c : Common) (r : Room) where
+-- a circuit that is known is there
+known-there : (c : Common) (n : ℕ) (s : Circuit) → circuitOf c n ≡ Known s → n - 1 < length (c .circuits)
+unfolding circuitOf
+known-there c zero s e = absurd (let z : _≡_ {A = ℕ} 0 1 = cc in omega arith)
+known-there c (suc i) s e =
+    by-test (ltb i (length (c .circuits))) (λ a. let z : i < length (c .circuits) = ltb-true i (length (c .circuits)) a in omega arith)
+    (λ a. absurd (let w = rw a at e in let z : _≡_ {A = ℕ} 0 1 = cc in omega arith))
+
+module _ (n : ℕ) (s : Circuit) (c : Common) (r : Room) (known : circuitOf c n ≡ Known s) where
   reacted-keeps : (h : Hello) (k : Key) (b : List ℕ) (a : Reaction) → Keeps c (reacted n s h k b a c r .common)
   unfolding reacted accepted refuse
   reacted-keeps h k b (RefusedReaction x) = keeps-same c
   reacted-keeps h k b (Accepted after reply line) =
-      keeps-settled c (heardIn (c .clock) (n - 1) (s .levels) (saidOf c s h)) (own-heard (c .lengths) (c .clock) (c .timers) (n - 1) (s .levels) (saidOf c s h))
+      keeps-settled c (heardIn (c .lengths) (c .clock) (n - 1) (s .levels) _ (saidOf c s h))
+      (own-heard (c .lengths) (c .circuits) (c .clock) (c .timers) (n - 1) (s .levels) _ (saidOf c s h) (known-there c n s known))
 
   read-keeps : (mac : ℕ) (b : List ℕ) (x : Read) → Keeps c (readIn n s mac b x c r .common)
   unfolding readIn checked decidedIn refuse
@@ -130,9 +162,11 @@ module _ (n : ℕ) (s : Circuit) (c : Common) (r : Room) where
   unfolding csnpComplete refuse
   csnp-keeps level =
       by-test (hasLevel (s .levels) level)
-      (λ e. by-test (isRestarting (c .timers .mode))
-      (λ m. rw (e, m) (keeps-settled c (csnpIn (n - 1) (s .levels) (onlyLevel level)) (own-csnp (c .lengths) (c .clock) (c .timers) (n - 1) (s .levels) (onlyLevel level))))
-      (λ m. rw (e, m) (keeps-same c)))
+      (λ e. by-test (isRunning (c .timers .mode))
+      (λ m. rw (e, m) (keeps-same c))
+      (λ m. rw (e, m)
+      (keeps-settled c (csnpIn (n - 1) (s .levels) (onlyLevel level))
+      (own-csnp (c .lengths) (c .circuits) (c .clock) (c .timers) (n - 1) (s .levels) (onlyLevel level)))))
       (λ e. rw e (keeps-same c))
 
   look-keeps : (k : Key) → Keeps c (lookUp s k c r .common)
@@ -163,15 +197,16 @@ module _ (c : Common) where
   tick-ok clock =
       by-test (noneOf (c .circuits)) (λ e. rw e (keeps-same c))
       (λ e. by-test (ltb clock (c .clock)) (λ b. rw (e, b) tt)
-      (λ b. rw (e, b) (ltb-false _ _ b, keeps-settled (withClock clock c) (toT3 (c .lengths) clock) (own-tick (c .lengths) clock (c .timers)))))
+      (λ b. rw (e, b) (ltb-false _ _ b, keeps-settled (withClock clock c) (toT3 (c .lengths) clock) (own-tick (c .lengths) (c .circuits) clock (c .timers)))))
 
   database-ok : (level : ℕ) → JudgedOk c (databaseOf level c)
   unfolding databaseOf
   database-ok level =
       by-test (hasLevel (enabledLevels (c .circuits)) level)
-      (λ e. by-test (isRestarting (c .timers .mode))
-      (λ m. rw (e, m) (keeps-settled c (noticeT2s (onlyLevel level)) (own-database (c .lengths) (c .clock) (c .timers) (onlyLevel level))))
-      (λ m. rw (e, m) tt))
+      (λ e. by-test (isRunning (c .timers .mode))
+      (λ m. rw (e, m) tt)
+      (λ m. rw (e, m)
+      (keeps-settled c (noticeT2s (onlyLevel level)) (own-database (c .lengths) (c .circuits) (c .clock) (c .timers) (onlyLevel level)))))
       (λ e. rw e tt)
 
   pub judge-ok : (w : Global) → JudgedOk c (judge c w)
@@ -188,7 +223,8 @@ pub record Moves (c d : Common) : Type 0 where
   pub circuits : d .circuits ≡ c .circuits
   pub quiet : Quiet (c .timers) → Quiet (d .timers)
   pub restarts : (s : Settings) → Restarts s (c .timers) → Restarts s (d .timers)
-  pub kept : (s : Settings) → c .lengths ≡ s .lengths → SetupTimers s (c .clock) (c .timers) → SetupTimers s (d .clock) (d .timers)
+  pub no-t3 : NoT3 (c .timers) → NoT3 (d .timers)
+  pub kept : (s : Settings) → Set (c .lengths) (c .circuits) s → SetupTimers s (c .clock) (c .timers) → SetupTimers s (d .clock) (d .timers)
   pub onward : Onward c d
 
 -- the clock moved on, or stood, and the rest kept
@@ -200,18 +236,19 @@ moved c d clock le k =
       circuits = k .circuits;
       quiet = k .timers .quiet;
       restarts = k .timers .restarts;
+      no-t3 = k .timers .no-t3;
       kept = λ s e h. rw (k .clock) (k .timers .kept s e (later-kept s (c .clock) (c .timers) h clock le));
-      onward = record { clock = omega (arith, k .clock); running = k .timers .running };
+      onward = record { clock = omega (arith, k .clock); mode = k .timers .mode };
     }
 
 keeps-moves : (c d : Common) → Keeps c d → Moves c d
 keeps-moves c d k = moved c d (c .clock) (omega arith) k
 
 module _ (g : Gateway) where
-  on-moves : (n : ℕ) (l : Local) (x : Chosen) → Moves (g .common) (on g n l x .next .common)
+  on-moves : (n : ℕ) (l : Local) (x : Chosen) → circuitOf (g .common) n ≡ x → Moves (g .common) (on g n l x .next .common)
   unfolding on lift
-  on-moves n l Unknown = keeps-moves (g .common) (g .common) (keeps-same (g .common))
-  on-moves n l (Known s) = keeps-moves (g .common) _ (act-keeps n s (g .common) _ l)
+  on-moves n l Unknown e = keeps-moves (g .common) (g .common) (keeps-same (g .common))
+  on-moves n l (Known s) e = keeps-moves (g .common) _ (act-keeps n s (g .common) _ e l)
 
   carry-moves : (j : Judged) → JudgedOk (g .common) j → Moves (g .common) (carry g j .next .common)
   unfolding carry
@@ -221,7 +258,7 @@ module _ (g : Gateway) where
 
   pub step-moves : (c : Call) → Moves (g .common) (step g c .next .common)
   unfolding step
-  step-moves (At n l) = on-moves n l (circuitOf (g .common) n)
+  step-moves (At n l) = on-moves n l (circuitOf (g .common) n) refl
   step-moves (Over w) = carry-moves (judge (g .common) w) (judge-ok (g .common) w)
 
 -- ---- what setup gives, and every call keeps
@@ -230,6 +267,8 @@ pub record CommonOk (s : Settings) (c : Common) : Type 0 where
   pub settings : SetupSettings s c
   pub quiet : Quiet (c .timers)
   pub restarts : Restarts s (c .timers)
+  pub no-t3 : NoT3 (c .timers)
+  pub tries : 0 < s .lengths .tries
   pub timers : SetupTimers s (c .clock) (c .timers)
 
 pub common-new : (s : Settings) → every circuitOk (circuitsOf s) ≡ true → 0 < s .lengths .tries → CommonOk s (setupCommon s)
@@ -239,6 +278,8 @@ common-new s ok tries =
       settings = record { system = refl; lengths = refl; circuits = refl };
       quiet = started-quiet (startOf s);
       restarts = started-restarts s ok;
+      no-t3 = started-no-t3 (startOf s);
+      tries = tries;
       timers = started-kept s tries;
     }
 
@@ -253,5 +294,7 @@ common-moved s c d m h =
           };
       quiet = m .quiet (h .quiet);
       restarts = m .restarts s (h .restarts);
-      timers = m .kept s (h .settings .lengths) (h .timers);
+      no-t3 = m .no-t3 (h .no-t3);
+      tries = h .tries;
+      timers = m .kept s (record { lengths = h .settings .lengths; circuits = h .settings .circuits; tries = h .tries }) (h .timers);
     }

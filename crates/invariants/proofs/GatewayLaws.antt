@@ -25,6 +25,7 @@ use Rattle.settings.proofs.SettingsLaws.{between-true}
 use Rattle.control.specs.Common.{noCircuit, circuitOf, setupCommon}
 use Rattle.settings.specs.declared.circuit.Chosen.{Chosen}
 use Rattle.settings.specs.declared.circuit.Chosen.the-variants.{Known, Unknown}
+use Rattle.timers.specs.Hellos.{Hellos}
 use Rattle.model.specs.Gateway.{Room, Gateway, numbered, renew, noRoom, roomOf, newRoom, newGateway, Started, setup}
 use Rattle.model.specs.Step.{sweptRoom}
 use Rattle.invariants.specs.Invariants.{Each, end, roomFor, Span, KeyFits}
@@ -203,7 +204,7 @@ pub record Holds (s : Settings) (g : Gateway) : Type 0 where
   pub common : CommonOk s (g .common)
   pub rooms : RoomsOk g
 
-pub setup-holds : (s : Settings) (g : Gateway) (hellos : List Bool) → setup s ≡ Started g hellos → Holds s g
+pub setup-holds : (s : Settings) (g : Gateway) (hellos : Hellos) → setup s ≡ Started g hellos → Holds s g
 unfolding setup
 setup-holds s g hellos e =
     by-test (settingsOk s)

@@ -24,6 +24,7 @@ use Rattle.settings.specs.declared.setup.Settings.{Settings}
 use Rattle.control.specs.Common.{Common, circuitOf}
 use Rattle.settings.specs.declared.circuit.Chosen.the-variants.{Known, Unknown}
 use Rattle.adjacency.specs.Keys.{keyIn}
+use Rattle.timers.specs.Hellos.{Hellos}
 use Rattle.model.specs.Answers.{Received, Ticked, FrameAnswer, TimersAnswer}
 use Rattle.model.specs.Gateway.{Gateway, roomOf, recordAt}
 use Rattle.model.specs.Receive.{receive}
@@ -84,7 +85,7 @@ module _ (g : Gateway) (h : RoomsOk g) where
   left-above : (clock n : ℕ) → Each (λ r. clock < expiryOf (r .state)) (expired clock (roomOf g n .slots))
   left-above clock n = each-sweep (expiredBy clock) (λ r e q. leb-false (expiryOf (r .state)) clock e) (roomOf g n .slots) (h .rooms n .spans)
 
-  tick-above : (clock : ℕ) (lost hellos : List Bool) (o : TimersAnswer) → step g (Over (Tick clock)) .answer ≡ Ticked lost hellos o
+  tick-above : (clock : ℕ) (lost : List Bool) (hellos : Hellos) (o : TimersAnswer) → step g (Over (Tick clock)) .answer ≡ Ticked lost hellos o
       → AboveClock (step g (Over (Tick clock)) .next)
   unfolding step judge tickOf carry
   tick-above clock lost hellos o e =
@@ -107,7 +108,7 @@ module _ (g : Gateway) (h : RoomsOk g) where
     unfolding step on lift act recordAt
     reply-true told f e r a q =
         let ok : RoomOk (g .common .system) (Known s) (g .common .clock) (roomOf g n .slots) = rw e at (h .rooms n) in
-        let done = act-keeps n s (g .common) (roomOf g n) (Receive mac frame buffer) in
+        let done = act-keeps n s (g .common) (roomOf g n) e (Receive mac frame buffer) in
         let w = receive-reply (g .common) s (roomOf g n) (h .hold n s e) ok n mac buffer j frame f r .said told (rw e at a) q in
         rw e
         (record {
@@ -132,6 +133,7 @@ holds-invariant s g h =
       settings = h .common .settings;
       quiet = h .common .quiet;
       restarts = h .common .restarts;
+      no-t3 = h .common .no-t3;
       timers = h .common .timers;
       onward = λ c. step-moves g c .onward;
     }

@@ -1,8 +1,9 @@
--- In the mode Running no timer runs, and in the mode Restarting some T2 does: setup gives it, and the end of every call on the timers.
+-- In the mode Running no timer runs, in the others some T2 does, and in the mode Starting no T3: setup gives it, and the end of every call on the
+-- timers.
 use Prim.Native.Nat.{ℕ, _+_, _<_}
 use native.Mathlib.Omega.{arith}
-use mathlib.Core.Path.{_≡_, refl, ap, _∙_}
-use mathlib.Core.Bool.{Bool, true, false}
+use mathlib.Core.Path.{_≡_, refl, sym, ap, _∙_}
+use mathlib.Core.Bool.{Bool, true, false, true≢false}
 use mathlib.Core.List.{List, [], _∷_, map}
 use lib.ListN.{length}
 use Rattle.settings.specs.Mode.{isRunning}
@@ -15,37 +16,52 @@ use Rattle.settings.specs.declared.circuit.Circuit.{Circuit}
 use Rattle.basics.specs.Mask.{bitsOf}
 use Rattle.timer_parts.specs.T1.{stopT1}
 use Rattle.timer_parts.specs.T2.{timerRuns, anyT2, startTimer, startT2s}
-use Rattle.timer_parts.specs.T3.{expiresT3}
+use Rattle.timer_parts.specs.T3.{expiresT3, lowerT3, heardT3}
+use Rattle.timer_parts.specs.declared.t3.T3.{T3}
+use Rattle.timer_parts.specs.declared.t3.T3.the-variants.{Idle}
 use Rattle.timer_parts.specs.declared.heard.Heard.{Heard}
+use Rattle.timer_parts.specs.declared.heard.Heard.the-variants.{WithoutTlv, Acknowledged, Plain}
 use Rattle.settings.specs.declared.lengths.Lengths.{Lengths}
 use Rattle.timer_parts.specs.declared.t1.T1.{T1}
 use Rattle.timers.specs.Timers.{Timers, withT1s, withT2s, withT3, anyRuns, atT1, tickT1s, expireT2s, cancelT2s, tickT3, over, finish, closed, settled, toT3, heardIn, csnpIn, noticeT2s}
-use Rattle.timers.specs.Events.{startHead, startT1, startHellos, started}
+use Rattle.timers.specs.Events.{headIn, startT1, startHellos, started}
 use Rattle.timers.specs.declared.events.Start.{Start}
 use Rattle.settings.specs.declared.setup.Settings.{Settings}
 use Rattle.settings.specs.declared.mode.Mode.{Mode}
-use Rattle.settings.specs.declared.mode.Mode.the-variants.{Running, Restarting}
-use Rattle.timers.proofs.TimersLaws.{settled-running, settled-on}
+use Rattle.settings.specs.declared.mode.Mode.the-variants.{Running, Restarting, Starting}
 use Rattle.control.specs.Common.{startOf}
-use Rattle.invariants.specs.Invariants.{Quiet, Restarts}
+use Rattle.invariants.specs.Invariants.{Quiet, Restarts, NoT3}
 
 stopped : (l : List T1) → anyRuns (map stopT1 l) ≡ false
 unfolding anyRuns stopT1
 stopped [] = refl
 stopped (t ∷ ts) = stopped ts
 
--- in the mode Restarting nothing is said
-restarting-quiet : (t : Timers) → t .mode ≡ Restarting → Quiet t
-restarting-quiet t m = record { t1s = λ e. cc; t2s = λ e. cc; t3 = λ e. cc }
+-- in the others nothing is said
+not-running : (m : Mode) → isRunning m ≡ false → {A : Type 0} → m ≡ Running → A
+not-running m on e = absurd (true≢false (sym (ap isRunning e) ∙ on))
+
+on-quiet : (t : Timers) → isRunning (t .mode) ≡ false → Quiet t
+on-quiet t m = record { t1s = λ e. not-running (t .mode) m e; t2s = λ e. not-running (t .mode) m e; t3 = λ e. not-running (t .mode) m e }
 
 -- setup
 started-by : (s : Start) (m : Mode) → s .mode ≡ m → Quiet (started s)
-unfolding started startHead startHellos startT1 startT2s startTimer anyRuns anyT2 bitsOf
+unfolding started headIn startHellos startT1 startT2s startTimer anyRuns anyT2 bitsOf
 started-by s Running p = record { t1s = λ e. rw p refl; t2s = λ e. rw p refl; t3 = λ e. rw p refl }
-started-by s Restarting p = restarting-quiet (started s) (rw p refl)
+started-by s Restarting p = on-quiet (started s) (rw p refl)
+started-by s Starting p = on-quiet (started s) (rw p refl)
 
 pub started-quiet : (s : Start) → Quiet (started s)
 started-quiet s = started-by s (s .mode) refl
+
+no-t3-by : (s : Start) (m : Mode) → s .mode ≡ m → NoT3 (started s)
+unfolding started headIn
+no-t3-by s Running p = record { idle = λ e. (let z = rw p at e in cc) }
+no-t3-by s Restarting p = record { idle = λ e. (let z = rw p at e in cc) }
+no-t3-by s Starting p = record { idle = λ e. rw p refl }
+
+pub started-no-t3 : (s : Start) → NoT3 (started s)
+started-no-t3 s = no-t3-by s (s .mode) refl
 
 timer-runs : (on : Bool) (at : ℕ) → timerRuns (startTimer on at) ≡ on
 unfolding startTimer
@@ -68,9 +84,13 @@ some-enabled (c ∷ l) ok h =
 
 module _ (s : Settings) (ok : every circuitOk (circuitsOf s) ≡ true) where
   restarts-by : (m : Mode) → s .mode ≡ m → Restarts s (started (startOf s))
-  unfolding started startHead
+  unfolding started headIn
   restarts-by Running p = record { some = λ h e. (let z = rw p at e in cc) }
   restarts-by Restarting p =
+      record {
+        some = λ h e. rw p (any-started (enabledLevels (circuitsOf s)) (s .clock + s .lengths .t2) ∙ some-enabled (circuitsOf s) ok h);
+      }
+  restarts-by Starting p =
       record {
         some = λ h e. rw p (any-started (enabledLevels (circuitsOf s)) (s .clock + s .lengths .t2) ∙ some-enabled (circuitsOf s) ok h);
       }
@@ -80,24 +100,36 @@ module _ (s : Settings) (ok : every circuitOk (circuitsOf s) ≡ true) where
 
 -- ---- the end of every call
 
-finish-quiet : (t : Timers) → t .mode ≡ Restarting → Quiet (finish t)
+finish-quiet : (t : Timers) → isRunning (t .mode) ≡ false → Quiet (finish t)
 unfolding finish over
 finish-quiet t m =
-    by-test (anyT2 (t .t2s)) (λ a. rw a (restarting-quiet t m))
+    by-test (anyT2 (t .t2s)) (λ a. rw a (on-quiet t m))
     (λ a. rw a (record { t1s = λ e. stopped (t .t1s); t2s = λ e. a; t3 = λ e. refl }))
 
 module _ (f : Timers → Timers) (t : Timers) (keeps : f t .mode ≡ t .mode) where
-  closed-quiet : t .mode ≡ Restarting → Quiet (closed f t)
+  closed-quiet : isRunning (t .mode) ≡ false → Quiet (closed f t)
   unfolding closed cancelT2s withT2s
-  closed-quiet m = finish-quiet (cancelT2s (f t)) (keeps ∙ m)
-
-  by-mode : (m : Mode) → t .mode ≡ m → Quiet t → Quiet (settled f t)
-  unfolding settled
-  by-mode Running e q = rw (settled-running t e f .0) q
-  by-mode Restarting e q = rw (← settled-on t (ap isRunning e) f) (closed-quiet e)
+  closed-quiet m = finish-quiet (cancelT2s (f t)) (ap isRunning keeps ∙ m)
 
   pub settled-quiet : Quiet t → Quiet (settled f t)
-  settled-quiet q = by-mode (t .mode) refl q
+  unfolding settled
+  settled-quiet q = by-test (isRunning (t .mode)) (λ a. rw a q) (λ a. rw a (closed-quiet a))
+
+  -- the mode is the same, or Running
+  pub settled-mode : isRunning (settled f t .mode) ≡ false → settled f t .mode ≡ t .mode
+  unfolding settled closed finish over cancelT2s withT2s
+  settled-mode on =
+      by-test (isRunning (t .mode)) (λ a. rw a refl)
+      (λ a. by-test (anyT2 (cancelT2s (f t) .t2s)) (λ b. rw (a, b) keeps)
+      (λ b. absurd (true≢false (rw (a, b) at on))))
+
+  -- a T3 that does not run is not begun
+  pub settled-no-t3 : (t .t3 ≡ Idle → f t .t3 ≡ Idle) → NoT3 t → NoT3 (settled f t)
+  unfolding settled closed finish over cancelT2s withT2s
+  settled-no-t3 stays h =
+      by-test (isRunning (t .mode)) (λ a. rw a h)
+      (λ a. by-test (anyT2 (cancelT2s (f t) .t2s)) (λ b. rw (a, b) (record { idle = λ e. stays (h .idle (sym keeps ∙ e)) }))
+      (λ b. rw (a, b) (record { idle = λ e. refl })))
 
 -- some T2 runs, or the mode ends
 finish-restarts : (s : Settings) (t : Timers) → Restarts s (finish t)
@@ -119,9 +151,9 @@ pub toT3-mode : (s : Lengths) (clock : ℕ) (t : Timers) → toT3 s clock t .mod
 unfolding toT3 cancelT2s expireT2s tickT1s withT1s withT2s
 toT3-mode s clock t = tickT3-mode clock (cancelT2s (expireT2s clock (tickT1s s clock t)))
 
-pub heardIn-mode : (clock i : ℕ) (l : Levels) (d : Heard) (t : Timers) → heardIn clock i l d t .mode ≡ t .mode
+pub heardIn-mode : (s : Lengths) (clock i : ℕ) (l : Levels) (rose : Bool) (d : Heard) (t : Timers) → heardIn s clock i l rose d t .mode ≡ t .mode
 unfolding heardIn atT1 withT1s withT3
-heardIn-mode clock i l d t = refl
+heardIn-mode s clock i l rose d t = refl
 
 pub csnpIn-mode : (i : ℕ) (l n : Levels) (t : Timers) → csnpIn i l n t .mode ≡ t .mode
 unfolding csnpIn atT1 withT1s
@@ -130,3 +162,32 @@ csnpIn-mode i l n t = refl
 pub noticeT2s-mode : (n : Levels) (t : Timers) → noticeT2s n t .mode ≡ t .mode
 unfolding noticeT2s withT2s
 noticeT2s-mode n t = refl
+
+-- ---- and leaves a T3 alone that does not run
+
+tickT3-idle : (clock : ℕ) (t : Timers) → t .t3 ≡ Idle → tickT3 clock t .t3 ≡ Idle
+unfolding tickT3 withT1s withT3 expiresT3
+tickT3-idle clock t e = rw e refl
+
+pub toT3-idle : (s : Lengths) (clock : ℕ) (t : Timers) → t .t3 ≡ Idle → toT3 s clock t .t3 ≡ Idle
+unfolding toT3 cancelT2s expireT2s tickT1s withT1s withT2s
+toT3-idle s clock t e = tickT3-idle clock (cancelT2s (expireT2s clock (tickT1s s clock t))) e
+
+heardT3-idle : (clock : ℕ) (d : Heard) → heardT3 clock d Idle ≡ Idle
+unfolding heardT3 lowerT3
+heardT3-idle clock (WithoutTlv ours) = refl
+heardT3-idle clock (Acknowledged true remaining) = refl
+heardT3-idle clock (Acknowledged false remaining) = refl
+heardT3-idle clock Plain = refl
+
+pub heardIn-idle : (s : Lengths) (clock i : ℕ) (l : Levels) (rose : Bool) (d : Heard) (t : Timers) → t .t3 ≡ Idle → heardIn s clock i l rose d t .t3 ≡ Idle
+unfolding heardIn atT1 withT1s withT3
+heardIn-idle s clock i l rose d t e = ap (heardT3 clock d) e ∙ heardT3-idle clock d
+
+pub csnpIn-idle : (i : ℕ) (l n : Levels) (t : Timers) → t .t3 ≡ Idle → csnpIn i l n t .t3 ≡ Idle
+unfolding csnpIn atT1 withT1s
+csnpIn-idle i l n t e = e
+
+pub noticeT2s-idle : (n : Levels) (t : Timers) → t .t3 ≡ Idle → noticeT2s n t .t3 ≡ Idle
+unfolding noticeT2s withT2s
+noticeT2s-idle n t e = e

@@ -4,7 +4,7 @@ use Prim.Native.Nat.{ℕ, zero, suc, _+_, _/_, _^_, _<_, _≤_}
 use native.Mathlib.Omega.{arith}
 use native.Mathlib.Nat.{pow-suc}
 use mathlib.Core.Path.{_≡_, refl}
-use mathlib.Core.Bool.{Bool, true, false}
+use mathlib.Core.Bool.{Bool, true, false, cond}
 use mathlib.Core.List.{List, [], _∷_, map}
 use lib.ListN.{getD, set}
 use lib.Dec.{leb, ltb}
@@ -17,9 +17,9 @@ use Rattle.basics.proofs.BoolLaws.{and-left, by-test}
 use Rattle.settings.specs.Mode.{isRunning}
 use Rattle.settings.specs.Settings.{circuitsOf, enabledLevels}
 use Rattle.settings.specs.declared.mode.Mode.{Mode}
-use Rattle.settings.specs.declared.mode.Mode.the-variants.{Running, Restarting}
+use Rattle.settings.specs.declared.mode.Mode.the-variants.{Running, Restarting, Starting}
 use Rattle.settings.specs.declared.setup.Settings.{Settings}
-use Rattle.timer_parts.specs.T1.{startEntry, stopT1, due, helloDue, again, tickT1, done, satisfied, acknowledged, noted, heardT1}
+use Rattle.timer_parts.specs.T1.{startEntry, begins, begin, begunBy, stopT1, due, helloDue, again, tickT1, done, satisfied, acknowledged, noted, heardT1}
 use Rattle.timer_parts.specs.T2.{t2At, t2sOf, anyT2, startTimer, startT2s, cancelT2, cancelBoth, expireTimer, expireT2, expireBoth, noticeT2, noticeBoth}
 use Rattle.timer_parts.specs.T3.{lowerT3, heardT3, expiresT3}
 use Rattle.timer_parts.specs.declared.heard.Heard.{Heard}
@@ -32,8 +32,8 @@ use Rattle.timer_parts.specs.declared.t2.T2s.{T2s}
 use Rattle.timer_parts.specs.declared.t3.T3.{T3}
 use Rattle.timer_parts.specs.declared.t3.T3.the-variants.{Idle, Runs, Expired}
 use Rattle.timer_parts.proofs.T1Laws.{hello-tries}
-use Rattle.timers.specs.Timers.{Timers, withT1s, withT2s, withT3, noT1, atT1, tickT1s, expireT2s, waits, cancelT2s, tickT3, over, finish, closed, settled, toT3, heardIn, csnpIn, noticeT2s}
-use Rattle.timers.specs.Events.{startHead, startT1, started}
+use Rattle.timers.specs.Timers.{Timers, withT1s, withT2s, withT3, noT1, atT1, tickT1s, expireT2s, waits, cancelT2s, tickT3, over, finish, closed, settled, toT3, firstT1, heardIn, csnpIn, noticeT2s}
+use Rattle.timers.specs.Events.{headIn, startHead, startT1, started}
 use Rattle.timers.specs.Memory.{t1Bits}
 use Rattle.timers.specs.declared.head.Head.{Head}
 use Rattle.control.specs.Common.{presentOf, startOf}
@@ -41,12 +41,15 @@ use Rattle.model.specs.Gateway.{numbered, renew}
 use Rattle.invariants.specs.Invariants.{T1Ends, T1Fits, T2Ends, t3Ends, SetupTimers}
 use Rattle.invariants.proofs.NumberedLaws.{renew-all, map-all}
 
--- ---- T1: no step of a T1 starts one
+-- ---- T1: no step of a T1 starts one, but on a circuit that is there
 
 module _ (s : Settings) (clock : ℕ) where
   -- a step of the T1 of circuit n keeps what is said of it
+  abbrev FittingAt : ℕ → (T1 → T1) → Type 0
+  FittingAt n f = (x : T1) → T1Fits s clock n x → T1Fits s clock n (f x)
+
   abbrev Fitting : (T1 → T1) → Type 0
-  Fitting f = (n : ℕ) (x : T1) → T1Fits s clock n x → T1Fits s clock n (f x)
+  Fitting f = (n : ℕ) → FittingAt n f
 
   stop-fits : Fitting stopT1
   unfolding stopT1
@@ -65,11 +68,21 @@ module _ (s : Settings) (clock : ℕ) where
   unfolding satisfied
   satisfied-fits l n x h = by-test (done l (x .entry)) (λ a. rw a (stop-fits n x h)) (λ a. rw a h)
 
+  either-fits : (n : ℕ) (b : Bool) (x y : T1) → T1Fits s clock n x → T1Fits s clock n y → T1Fits s clock n (cond b x y)
+  either-fits n true x y h k = h
+  either-fits n false x y h k = k
+
   heard-fits : (l : Levels) (d : Heard) → Fitting (heardT1 l d)
   unfolding heardT1 acknowledged
   heard-fits l (WithoutTlv ours) n x h = stop-fits n x h
   heard-fits l (Acknowledged up remaining) n x h = satisfied-fits l n (acknowledged x) h
   heard-fits l Plain n x h = h
+
+  -- one that begins, on a circuit that is there
+  first-fits : (mode : Mode) (rose : Bool) (n : ℕ) → n ≤ s .count → 0 < s .lengths .tries → FittingAt n (firstT1 (s .lengths) clock mode rose)
+  unfolding begunBy begin
+  first-fits mode rose n there tries x h =
+      either-fits n (begins _ x) (begin (clock + s .lengths .t1) x) x (λ e. record { there = there; fewer = tries; due = omega arith }) h
 
   csnp-fits : (l m : Levels) → Fitting (λ x. satisfied l (noted m x))
   unfolding noted
@@ -79,13 +92,13 @@ module _ (s : Settings) (clock : ℕ) where
   abbrev AllFitting : List T1 → Type 0
   AllFitting l = (n : ℕ) → T1Fits s clock n (numbered l n noT1)
 
-  module _ (f : T1 → T1) (fits : Fitting f) (l : List T1) (h : AllFitting l) where
-    all-fit : AllFitting (map f l)
-    all-fit = map-all noT1 (T1Fits s clock) f fits l h
+  module _ (f : T1 → T1) (l : List T1) (h : AllFitting l) where
+    all-fit : Fitting f → AllFitting (map f l)
+    all-fit fits = map-all noT1 (T1Fits s clock) f fits l h
 
-    one-fits : (i : ℕ) → AllFitting (set l i (f (getD l i noT1)))
+    one-fits : (i : ℕ) → FittingAt (suc i) f → AllFitting (set l i (f (getD l i noT1)))
     unfolding numbered renew
-    one-fits i = renew-all noT1 (T1Fits s clock) l (suc i) (f (getD l i noT1)) h (fits (suc i) (getD l i noT1) (h (suc i)))
+    one-fits i fits = renew-all noT1 (T1Fits s clock) l (suc i) (f (getD l i noT1)) h (fits (getD l i noT1) (h (suc i)))
 
 -- ---- T2: no step starts one or moves its deadline
 
@@ -159,7 +172,7 @@ module _ (s : Settings) (clock : ℕ) (t : Timers) (h : SetupTimers s clock t) w
       → SetupTimers s clock (record { mode = mode; t1s = map stopT1 (t .t1s); t2s = t .t2s; t3 = x })
   ended mode x k =
       record {
-        t1s = all-fit s clock stopT1 (stop-fits s clock) (t .t1s) (h .t1s);
+        t1s = all-fit s clock stopT1 (t .t1s) (h .t1s) (stop-fits s clock);
         t2s = h .t2s;
         t3 = λ deadline e. absurd (k deadline e);
       }
@@ -180,7 +193,7 @@ module _ (s : Settings) (clock : ℕ) (t : Timers) (h : SetupTimers s clock t) w
 
   tickT1s-kept : SetupTimers s clock (tickT1s (s .lengths) clock t)
   unfolding tickT1s
-  tickT1s-kept = t1s-kept _ (all-fit s clock (tickT1 (s .lengths) clock) (tick-fits s clock) (t .t1s) (h .t1s))
+  tickT1s-kept = t1s-kept _ (all-fit s clock (tickT1 (s .lengths) clock) (t .t1s) (h .t1s) (tick-fits s clock))
 
   expireT2s-kept : SetupTimers s clock (expireT2s clock t)
   unfolding expireT2s expireBoth
@@ -192,13 +205,13 @@ module _ (s : Settings) (clock : ℕ) (t : Timers) (h : SetupTimers s clock t) w
       by-test (expiresT3 clock (t .t2s) (t .t3))
       (λ a. rw a (ended (t .mode) Expired (λ deadline e. let z : _≡_ {A = ℕ} 0 1 = cc in omega arith))) (λ a. rw a h)
 
-  atT1-kept : (i : ℕ) (f : T1 → T1) → Fitting s clock f → SetupTimers s clock (atT1 i f t)
+  atT1-kept : (i : ℕ) (f : T1 → T1) → FittingAt s clock (suc i) f → SetupTimers s clock (atT1 i f t)
   unfolding atT1
-  atT1-kept i f fits = t1s-kept _ (one-fits s clock f fits (t .t1s) (h .t1s) i)
+  atT1-kept i f fits = t1s-kept _ (one-fits s clock f (t .t1s) (h .t1s) i fits)
 
   pub csnpIn-kept : (i : ℕ) (l n : Levels) → SetupTimers s clock (csnpIn i l n t)
   unfolding csnpIn
-  csnpIn-kept i l n = atT1-kept i (λ x. satisfied l (noted n x)) (csnp-fits s clock l n)
+  csnpIn-kept i l n = atT1-kept i (λ x. satisfied l (noted n x)) (csnp-fits s clock l n (suc i))
 
   pub noticeT2s-kept : (n : Levels) → SetupTimers s clock (noticeT2s n t)
   unfolding noticeT2s noticeBoth
@@ -212,11 +225,13 @@ module _ (s : Settings) (clock : ℕ) (t : Timers) (h : SetupTimers s clock t) w
       let b = expireT2s-kept s clock (tickT1s (s .lengths) clock t) a in
       tickT3-kept s clock _ (cancelT2s-kept s clock (expireT2s clock (tickT1s (s .lengths) clock t)) b)
 
-  pub heardIn-kept : (i : ℕ) (l : Levels) (d : Heard) → SetupTimers s clock (heardIn clock i l d t)
+  pub heardIn-kept : (i : ℕ) (l : Levels) (rose : Bool) (d : Heard) → suc i ≤ s .count → 0 < s .lengths .tries
+      → SetupTimers s clock (heardIn (s .lengths) clock i l rose d t)
   unfolding heardIn
-  heardIn-kept i l d =
-      t3-kept s clock _ (atT1-kept s clock t h i (heardT1 l d) (heard-fits s clock l d)) (heardT3 clock d (t .t3))
-      (heard-due (t3Ends s) clock d (t .t3) (h .t3))
+  heardIn-kept i l rose d there tries =
+      t3-kept s clock _
+      (atT1-kept s clock t h i _ (λ x k. heard-fits s clock l d (suc i) _ (first-fits s clock (t .mode) rose (suc i) there tries x k)))
+      (heardT3 clock d (t .t3)) (heard-due (t3Ends s) clock d (t .t3) (h .t3))
 
   pub settled-kept : (f : Timers → Timers) → SetupTimers s clock (f t) → SetupTimers s clock (settled f t)
   unfolding settled closed
@@ -244,20 +259,20 @@ below (suc n) (suc w) m zero h e = omega arith
 below (suc n) (suc w) m (suc i) h e = let p = pow-suc 2 n in let k = below n w (m / 2) i (omega arith) e in omega arith
 
 -- a T1 of a mask's digits runs where the digit says so
-started-fits : (P : ℕ → ℕ → ℕ → Type 0) (deadline : ℕ) (bs : List Bool) → ((i : ℕ) → getD bs i false ≡ true → P i 0 deadline) → (i : ℕ)
-    → getD (map (startT1 deadline) bs) i noT1 .runs ≡ true
-    → P i (getD (map (startT1 deadline) bs) i noT1 .entry .tries) (getD (map (startT1 deadline) bs) i noT1 .entry .deadline)
+started-fits : (P : ℕ → ℕ → ℕ → Type 0) (begun : Bool) (deadline : ℕ) (bs : List Bool) → ((i : ℕ) → getD bs i false ≡ true → P i 0 deadline) → (i : ℕ)
+    → getD (map (startT1 begun deadline) bs) i noT1 .runs ≡ true
+    → P i (getD (map (startT1 begun deadline) bs) i noT1 .entry .tries) (getD (map (startT1 begun deadline) bs) i noT1 .entry .deadline)
 unfolding startT1 startEntry noT1
-started-fits P deadline [] k i e = absurd (let z : _≡_ {A = ℕ} 0 1 = cc in omega arith)
-started-fits P deadline (b ∷ bs) k zero e = k zero e
-started-fits P deadline (b ∷ bs) k (suc i) e = started-fits (λ j. P (suc j)) deadline bs (λ j. k (suc j)) i e
+started-fits P begun deadline [] k i e = absurd (let z : _≡_ {A = ℕ} 0 1 = cc in omega arith)
+started-fits P begun deadline (b ∷ bs) k zero e = k zero e
+started-fits P begun deadline (b ∷ bs) k (suc i) e = started-fits (λ j. P (suc j)) begun deadline bs (λ j. k (suc j)) i e
 
 module _ (s : Settings) (tries : 0 < s .lengths .tries) where
-  started-on : (m : ℕ) → m < 2 ^ s .count → AllFitting s (s .clock) (map (startT1 (s .clock + s .lengths .t1)) (t1Bits m))
+  started-on : (begun : Bool) (m : ℕ) → m < 2 ^ s .count → AllFitting s (s .clock) (map (startT1 begun (s .clock + s .lengths .t1)) (t1Bits m))
   unfolding numbered noT1
-  started-on m h zero e = absurd (let z : _≡_ {A = ℕ} 0 1 = cc in omega arith)
-  started-on m h (suc i) e =
-      started-fits (λ j. T1Ends s (s .clock) (suc j)) (s .clock + s .lengths .t1) (t1Bits m)
+  started-on begun m h zero e = absurd (let z : _≡_ {A = ℕ} 0 1 = cc in omega arith)
+  started-on begun m h (suc i) e =
+      started-fits (λ j. T1Ends s (s .clock) (suc j)) begun (s .clock + s .lengths .t1) (t1Bits m)
       (λ j d. record { there = below (s .count) _ m j h d; fewer = tries; due = omega arith }) i e
 
 start-timer : (on : Bool) (at deadline : ℕ) → startTimer on at ≡ Until deadline → (on ≡ true) × (deadline ≡ at)
@@ -280,10 +295,10 @@ module _ (s : Settings) (tries : 0 < s .lengths .tries) where
   started-with : (h : Head) → startHead (startOf s) ≡ h → h .mask < 2 ^ s .count → DueAt (T2Ends s) (h .t2s) → DueBy (t3Ends s) (h .t3)
       → SetupTimers s (s .clock) (started (startOf s))
   unfolding started
-  started-with h e m two three = rw e (record { t1s = started-on s tries (h .mask) m; t2s = two; t3 = three })
+  started-with h e m two three = rw e (record { t1s = started-on s tries _ (h .mask) m; t2s = two; t3 = three })
 
   started-by : (m : Mode) → s .mode ≡ m → SetupTimers s (s .clock) (started (startOf s))
-  unfolding startHead
+  unfolding headIn
   started-by Running p =
       started-with (record { mode = Running; mask = 0; t2s = startT2s (record { one = false; two = false }) 0; t3 = Idle }) (rw p refl)
       (pow-pos (s .count)) (none-due (T2Ends s) 0)
@@ -295,6 +310,12 @@ module _ (s : Settings) (tries : 0 < s .lengths .tries) where
       started-with (record { mode = Restarting; mask = presentOf (s .count); t2s = startT2s l at; t3 = Runs (s .clock + 65535) }) (rw p refl)
       (omega arith) (λ k deadline e. let z = start-due l at k deadline e in record { enabled = z .0; due = z .1 })
       (λ deadline e. let z : s .clock + 65535 ≡ deadline = cc in omega arith)
+  started-by Starting p =
+      let l = enabledLevels (circuitsOf s) in
+      let at = s .clock + s .lengths .t2 in
+      started-with (record { mode = Starting; mask = 0; t2s = startT2s l at; t3 = Idle }) (rw p refl)
+      (pow-pos (s .count)) (λ k deadline e. let z = start-due l at k deadline e in record { enabled = z .0; due = z .1 })
+      (λ deadline e. absurd (let z : _≡_ {A = ℕ} 0 1 = cc in omega arith))
 
   pub started-kept : SetupTimers s (s .clock) (started (startOf s))
   started-kept = started-by (s .mode) refl

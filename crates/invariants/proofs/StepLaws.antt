@@ -11,7 +11,7 @@ use Rattle.adjacency.specs.Record.{expiryOf}
 use Rattle.adjacency.specs.declared.record.Key.{Key}
 use Rattle.adjacency.specs.declared.record.State.{State}
 use Rattle.adjacency.specs.Place.{plannedState, expiredBy}
-use Rattle.settings.specs.Mode.{isRestarting}
+use Rattle.settings.specs.Mode.{isRunning}
 use Rattle.settings.specs.declared.circuit.Circuit.{Circuit}
 use Rattle.settings.specs.declared.setup.Settings.{Settings}
 use Rattle.control.specs.Common.{Common, withClock, circuitOf}
@@ -33,7 +33,7 @@ module _ (n : ℕ) (c : Common) (s : Circuit) (r : Room) (hold : s .hold ≤ 655
   unfolding csnpComplete refuse
   csnp-ok level =
       by-test (hasLevel (s .levels) level)
-      (λ e. by-test (isRestarting (c .timers .mode)) (λ m. rw (e, m) ok) (λ m. rw (e, m) ok)) (λ e. rw e ok)
+      (λ e. by-test (isRunning (c .timers .mode)) (λ m. rw (e, m) ok) (λ m. rw (e, m) ok)) (λ e. rw e ok)
 
   look-ok : (k : Key) → ActOk c s (lookUp s k c r)
   unfolding lookUp refuse
@@ -80,7 +80,7 @@ module _ (g : Gateway) (h : RoomsOk g) where
       let a : Acted = act n s l (g .common) (roomOf g n) in
       let done : ActOk (g .common) s a =
       act-ok n (g .common) s (roomOf g n) (h .hold n s e) ok l (λ mac frame b q. f .frame n mac frame b (ap (At n) q)) in
-      keeps-rooms (a .common) (g .common .clock) (renew (g .rooms) n (a .room)) (act-keeps n s (g .common) (roomOf g n) l)
+      keeps-rooms (a .common) (g .common .clock) (renew (g .rooms) n (a .room)) (act-keeps n s (g .common) (roomOf g n) e l)
       (renew-all noRoom (λ m r. RoomOk (g .common .system) (circuitOf (g .common) m) (g .common .clock) (r .slots)) (g .rooms) n (a .room) (h .rooms) (rw e done))
 
   -- ---- a call that names no circuit

@@ -26,7 +26,9 @@ use Rattle.timer_parts.specs.declared.t1.T1.{T1}
 use Rattle.timer_parts.specs.declared.t2.Timer.the-variants.{Until}
 use Rattle.timer_parts.specs.declared.t3.T3.the-variants.{Idle, Runs}
 use Rattle.timers.specs.Timers.{Timers, anyRuns, noT1}
-use Rattle.settings.specs.declared.mode.Mode.the-variants.{Running, Restarting}
+use Rattle.timers.specs.Hellos.{Hellos}
+use Rattle.settings.specs.Mode.{isRunning}
+use Rattle.settings.specs.declared.mode.Mode.the-variants.{Running, Starting}
 use Rattle.settings.specs.declared.circuit.Circuit.{Circuit}
 use Rattle.settings.specs.declared.setup.Settings.{Settings}
 use Rattle.settings.specs.Settings.{circuitsOf, enabledLevels}
@@ -97,7 +99,7 @@ pub record AboveClock (g : Gateway) : Type 0 where
 
 -- .. after every accepted tick
 pub record TickSweeps (g : Gateway) : Type 0 where
-  pub sweeps : (clock : ℕ) (lost hellos : List Bool) (t : TimersAnswer) → step g (Over (Tick clock)) .answer ≡ Ticked lost hellos t
+  pub sweeps : (clock : ℕ) (lost : List Bool) (hellos : Hellos) (t : TimersAnswer) → step g (Over (Tick clock)) .answer ≡ Ticked lost hellos t
       → AboveClock (step g (Over (Tick clock)) .next)
 
 -- ---- document 01, "What the gateway holds": "A LAN circuit has room for 16 records over both levels, a P2P circuit for 1."
@@ -145,7 +147,7 @@ pub record SetupSettings (s : Settings) (c : Common) : Type 0 where
   pub lengths : c .lengths ≡ s .lengths
   pub circuits : c .circuits ≡ circuitsOf s
 
--- ---- document 01, "Timers while Restarting"
+-- ---- document 01, "Timers while Restarting"; document 02, W-201
 
 -- "When no T2 runs, T3 is cancelled .., all T1 stop (house) and the mode is Running.": in that mode no timer runs
 pub record Quiet (t : Timers) : Type 0 where
@@ -153,12 +155,17 @@ pub record Quiet (t : Timers) : Type 0 where
   pub t2s : t .mode ≡ Running → anyT2 (t .t2s) ≡ false
   pub t3 : t .mode ≡ Running → t .t3 ≡ Idle
 
--- .. and in the other some T2 runs, where there is a circuit
+-- .. and in the others some T2 runs, where there is a circuit
 pub record Restarts (s : Settings) (t : Timers) : Type 0 where
-  pub some : 0 < length (circuitsOf s) → t .mode ≡ Restarting → anyT2 (t .t2s) ≡ true
+  pub some : 0 < length (circuitsOf s) → isRunning (t .mode) ≡ false → anyT2 (t .t2s) ≡ true
 
--- "Setup .. starts T1 on each [circuit] .. T1 at its deadline: order the hello again and run from this clock, or stop at the Nth expiry": where a
--- T1 runs its circuit is there, it expired fewer than N times, and its length is all that it waits
+-- document 02, W-201: in the mode Starting "T3 isn't used"
+pub record NoT3 (t : Timers) : Type 0 where
+  pub idle : t .mode ≡ Starting → t .t3 ≡ Idle
+
+-- "Setup .. starts T1 on each [circuit] .. T1 at its deadline: order the hello again and run from this clock, or stop at the Nth expiry"; document
+-- 02, W-201: T1 "begins when a record there first becomes UP". Where a T1 runs its circuit is there, it expired fewer than N times, and its length
+-- is all that it waits.
 pub record T1Ends (s : Settings) (clock n tries deadline : ℕ) : Type 0 where
   pub there : n ≤ s .count
   pub fewer : tries < s .lengths .tries
@@ -184,10 +191,11 @@ pub record SetupTimers (s : Settings) (clock : ℕ) (t : Timers) : Type 0 where
 
 -- ---- from one call to the next
 
--- document 01, "Refusals by number": "10: tick: clock lower than the held clock". The mode Running has no end: setup alone gives Restarting.
+-- document 01, "Refusals by number": "10: tick: clock lower than the held clock". The mode Running has no end: setup alone gives Restarting or
+-- Starting, and a call only ends them.
 pub record Onward (c next : Common) : Type 0 where
   pub clock : c .clock ≤ next .clock
-  pub running : c .timers .mode ≡ Running → next .timers .mode ≡ Running
+  pub mode : isRunning (next .timers .mode) ≡ false → next .timers .mode ≡ c .timers .mode
 
 -- ---- all of them
 
@@ -201,10 +209,11 @@ pub record Invariant (s : Settings) (g : Gateway) : Type 0 where
   pub settings : SetupSettings s (g .common)
   pub quiet : Quiet (g .common .timers)
   pub restarts : Restarts s (g .common .timers)
+  pub no-t3 : NoT3 (g .common .timers)
   pub timers : SetupTimers s (g .common .clock) (g .common .timers)
   pub onward : (c : Call) → Onward (g .common) (step g c .next .common)
 
--- Any gateway that setup returned, in either mode, and any list of calls, refused ones included.
+-- Any gateway that setup returned, in any mode, and any list of calls, refused ones included.
 abbrev pub Invariants : Type 0
 Invariants =
-    (s : Settings) (g : Gateway) (hellos : List Bool) → setup s ≡ Started g hellos → (cs : List Call) → AllFit cs → Invariant s (after g cs)
+    (s : Settings) (g : Gateway) (hellos : Hellos) → setup s ≡ Started g hellos → (cs : List Call) → AllFit cs → Invariant s (after g cs)

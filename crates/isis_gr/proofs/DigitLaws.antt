@@ -27,6 +27,7 @@ use Rattle.adjacency.specs.declared.record.Phase.the-variants.{Gone, Init as In
 use Rattle.adjacency.specs.declared.record.State.{State}
 use Rattle.timer_parts.specs.declared.t1.Freed.{Freed}
 use Rattle.timer_parts.specs.declared.t1.Freed.the-variants.{Kept, Stopped, Reinitialise}
+use Rattle.timers.specs.Hellos.{Hellos}
 use Rattle.timers.specs.declared.outcome.TimerOutcome.{TimerOutcome}
 use Rattle.timers.specs.declared.outcome.TimerOutcome.the-variants.{Idle, Goes, Ended}
 use Rattle.timers.specs.declared.outcome.Overload.{Overload}
@@ -135,14 +136,16 @@ module _ (o : Orders) where
   abbrev word : ℕ
   word = answerNo (Received told)
 
-  pub received-parts : (word / 2 ^ 8 % 256 ≡ told .reply) × (word / 2 ^ 16 % 256 ≡ told .csnps) × (word / 2 ^ 24 % 256 ≡ told .freed)
-      × (word / 2 ^ 32 % 256 ≡ timersNo (told .timers)) × (word / 2 ^ 40 ≡ told .time)
-  received-parts =
+  -- a Remaining Time is two octets
+  pub received-parts : told .time < 2 ^ 16 → (word / 2 ^ 8 % 256 ≡ told .reply) × (word / 2 ^ 16 % 256 ≡ told .csnps)
+      × (word / 2 ^ 24 % 256 ≡ told .freed) × (word / 2 ^ 32 % 256 ≡ timersNo (told .timers)) × (word / 2 ^ 40 % 2 ^ 16 ≡ told .time)
+      × (word / 2 ^ 56 ≡ told .hello)
+  received-parts h =
       let a = flags-below (o .reply) in
       let b = csnps-below (o .csnps) in
       let c = freed-below (o .freed) in
       let d : timersNo (told .timers) < 256 = timers-parts (o .outcome) .below in
-      (omega arith, omega arith, omega arith, omega arith, omega arith)
+      (omega arith, omega arith, omega arith, omega arith, omega arith, omega arith)
 
 -- the frame's second word
 pub change-parts : (x : Change) → x .system < 2 ^ 48 → x .level ≤ 2
@@ -163,20 +166,22 @@ mask-below (b ∷ l) = omega (arith, pow-suc 2 (length l), bit-le b, mask-below 
 mask-octet : (l : List Bool) → length l ≡ circuits → maskNo l < 256
 mask-octet l e = subst (λ (n : ℕ). maskNo l < 2 ^ n) e (mask-below l)
 
-module _ (lost hellos : List Bool) (o : TimerOutcome) (lm : length lost ≡ circuits) (lh : length hellos ≡ circuits) where
+module _ (lost : List Bool) (hellos : Hellos) (o : TimerOutcome) (lm : length lost ≡ circuits) (lh : length (hellos .circuits) ≡ circuits) where
   abbrev ticked : ℕ
   ticked = answerNo (Ticked lost hellos (timersAnswer o))
 
-  pub ticked-parts : (ticked / 2 ^ 8 % 256 ≡ maskNo lost) × (ticked / 2 ^ 16 % 256 ≡ maskNo hellos) × (ticked / 2 ^ 32 ≡ timersNo (timersAnswer o))
+  pub ticked-parts : (ticked / 2 ^ 8 % 256 ≡ maskNo lost) × (ticked / 2 ^ 16 % 256 ≡ maskNo (hellos .circuits))
+      × (ticked / 2 ^ 32 % 256 ≡ timersNo (timersAnswer o)) × (ticked / 2 ^ 40 ≡ hellos .flags)
   ticked-parts =
       let a = mask-octet lost lm in
-      let b = mask-octet hellos lh in
-      (omega arith, omega arith, omega arith)
+      let b = mask-octet (hellos .circuits) lh in
+      let c : timersNo (timersAnswer o) < 256 = timers-parts o .below in
+      (omega arith, omega arith, omega arith, omega arith)
 
 -- setup's word
-pub set-up-parts : (hellos : List Bool) → length hellos ≡ circuits
-    → (reportNo (Begun hellos) % 256 ≡ 0) × (reportNo (Begun hellos) / 2 ^ 8 ≡ maskNo hellos) × (maskNo hellos < 256)
-set-up-parts hellos e = let a = mask-octet hellos e in (omega arith, omega arith, a)
+pub set-up-parts : (hellos : Hellos) → length (hellos .circuits) ≡ circuits
+    → (reportNo (Begun hellos) % 256 ≡ 0) × (reportNo (Begun hellos) / 2 ^ 8 % 256 ≡ maskNo (hellos .circuits)) × (reportNo (Begun hellos) / 2 ^ 16 ≡ hellos .flags)
+set-up-parts hellos e = let a = mask-octet (hellos .circuits) e in (omega arith, omega arith, omega arith)
 
 -- a look up's word, and the second of the two words that it writes (the first is the expiry)
 module _ (s : State) (shown : Bool) (low : lastOf s .priority < 256) where

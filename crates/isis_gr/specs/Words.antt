@@ -9,7 +9,7 @@ use Rattle.basics.specs.declared.kind.CircuitKind.{CircuitKind}
 use Rattle.basics.specs.declared.kind.CircuitKind.the-variants.{Lan, P2p}
 use Rattle.basics.specs.declared.levels.Levels.{Levels}
 use Rattle.settings.specs.declared.mode.Mode.{Mode}
-use Rattle.settings.specs.declared.mode.Mode.the-variants.{Running, Restarting}
+use Rattle.settings.specs.declared.mode.Mode.the-variants.{Running, Restarting, Starting}
 use Rattle.model.specs.Answers.{Answer, Refused, Received, Ticked, Told, Fact, Done, Noticed, Looked, Metric, HelloFlags, Waits, TimersAnswer, ChangeAnswer, FrameAnswer, RecordAnswer}
 use Rattle.gateway.specs.Setup.{Report, Refused as RefusedReport, Begun}
 
@@ -26,7 +26,7 @@ timersNo t = t .restart + 4 * t .spf + 16 * t .overload
 
 -- an accepted frame; levels 0 tell that there is nothing to order, whether or not line 1 gave an order
 abbrev pub frameNo : FrameAnswer → ℕ
-frameNo f = 2 ^ 8 * f .reply + 2 ^ 16 * f .csnps + 2 ^ 24 * f .freed + 2 ^ 32 * timersNo (f .timers) + 2 ^ 40 * f .time
+frameNo f = 2 ^ 8 * f .reply + 2 ^ 16 * f .csnps + 2 ^ 24 * f .freed + 2 ^ 32 * timersNo (f .timers) + 2 ^ 40 * f .time + 2 ^ 56 * f .hello
 
 abbrev pub factNo : Fact → ℕ
 factNo Done = 0
@@ -42,7 +42,7 @@ factNo (Waits count some lowest) = 2 ^ 8 * count + 2 ^ 16 * lowest
 abbrev pub answerNo : Answer → ℕ
 answerNo (Refused n) = n
 answerNo (Received f) = frameNo f
-answerNo (Ticked lost hellos t) = 2 ^ 8 * maskNo lost + 2 ^ 16 * maskNo hellos + 2 ^ 32 * timersNo t
+answerNo (Ticked lost hellos t) = 2 ^ 8 * maskNo lost + 2 ^ 16 * maskNo (hellos .circuits) + 2 ^ 32 * timersNo t + 2 ^ 40 * hellos .flags
 answerNo (Told f) = factNo f
 
 -- the second word of an accepted frame: the System ID of the frame's record, its level, its state before and after, whether it is advertised
@@ -58,7 +58,7 @@ changedNo (Told f) = 0
 -- setup
 abbrev pub reportNo : Report → ℕ
 reportNo (RefusedReport n) = n
-reportNo (Begun hellos) = 2 ^ 8 * maskNo hellos
+reportNo (Begun hellos) = 2 ^ 8 * maskNo (hellos .circuits) + 2 ^ 16 * hellos .flags
 
 -- ---- what a look up writes
 
@@ -89,12 +89,12 @@ foundWords (Told (Waits count some lowest)) ws = ws
 
 -- ---- what is given to setup
 
--- 0 Running, 1 Restarting
+-- 0 Running, 1 Restarting, 2 Starting
 abbrev pub modeOf : ℕ → Mode
-modeOf n = cond (eqb n 1) Restarting Running
+modeOf n = cond (eqb n 1) Restarting (cond (eqb n 2) Starting Running)
 
 abbrev pub modeKnown : ℕ → Bool
-modeKnown n = ltb n 2
+modeKnown n = ltb n 3
 
 -- 0 LAN, 1 P2P; a number that is not known counts as a LAN where it is not looked at
 abbrev pub kindOf : ℕ → CircuitKind

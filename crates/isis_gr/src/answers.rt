@@ -1,4 +1,5 @@
 // Each answer as one word; specs/Words.antt gives it, case by case. A refusal's word is its number.
+use crate::numbers::EIGHTH;
 use crate::numbers::FIFTH;
 use crate::numbers::FOURTH;
 use crate::numbers::SECOND;
@@ -8,6 +9,7 @@ use crate::numbers::THIRD;
 use crate::numbers::csnps_number;
 use crate::numbers::data_number;
 use crate::numbers::freed_number;
+use crate::numbers::hello_number;
 use crate::numbers::lowest_number;
 use crate::numbers::outcome_number;
 use crate::numbers::phase_number;
@@ -44,11 +46,15 @@ fn orders_word(o: Orders) -> u64
     let reply = o.reply;
     let csnps = o.csnps;
     let freed = o.freed;
+    let hello = o.hello;
     let outcome = o.outcome;
     let first = SECOND * reply_flags(reply) as u64
         + THIRD * csnps_number(csnps) as u64
         + FOURTH * freed_number(freed) as u64;
-    first + FIFTH * outcome_number(outcome) as u64 + SIXTH * reply_time(reply) as u64
+    first
+        + FIFTH * outcome_number(outcome) as u64
+        + SIXTH * reply_time(reply) as u64
+        + EIGHTH * hello_number(hello) as u64
 }
 
 // The two words of a frame's answer.
@@ -108,7 +114,13 @@ pub(crate) fn ticked_word(a: Ticked) -> u64
             lost,
             hellos,
             outcome,
-        } => SECOND * lost as u64 + THIRD * hellos as u64 + FIFTH * outcome_number(outcome) as u64,
+        } => {
+            let flags = hellos.flags;
+            SECOND * lost as u64
+                + THIRD * hellos.circuits as u64
+                + FIFTH * outcome_number(outcome) as u64
+                + SIXTH * flags.bits as u64
+        }
     }
 }
 
@@ -173,7 +185,10 @@ pub(crate) fn set_up_word(a: SetUp) -> u32
 {
     match a {
         SetUp::Refused(x) => number_of(x) as u32,
-        SetUp::Done(hellos) => 256 * hellos as u32,
+        SetUp::Done(hellos) => {
+            let flags = hellos.flags;
+            256 * hellos.circuits as u32 + 65536 * flags.bits as u32
+        }
     }
 }
 

@@ -22,7 +22,7 @@ ghost use Rattle.isis_gr.specs.Settings.{settingsOctets, circuitPlaces, 
 pub const SETTINGS_OCTETS: usize = FIRST_CIRCUIT + CIRCUIT_OCTETS * CIRCUITS;
 
 // The version of the layout of these octets and of the answers' words.
-pub const LAYOUT: u32 = 6;
+pub const LAYOUT: u32 = 7;
 
 // Where the settings stand.
 const SYSTEM: usize = 0;
@@ -61,6 +61,9 @@ fn mode_of(n: u8) -> Mode
 {
     if n == 1 {
         return Mode::Restarting;
+    }
+    if n == 2 {
+        return Mode::Starting;
     }
     Mode::Running
 }
@@ -152,7 +155,7 @@ pub(crate) fn are_settings_known(s: &[u8]) -> bool
     ensures { λ r. ⌜ r ≡ settingsKnown (now (s .entry)) ⌝ }
 {
     let count = wide(s[COUNT]);
-    if s[MODE] < 2 {
+    if s[MODE] < 3 {
         if count < CIRCUITS {
             return are_circuits_known(s, count);
         }

@@ -89,7 +89,7 @@ fn whole_fault(s: &[u8]) -> u32
     let one = is_between(1, wide_two(two(s, T1)), MAX_LENGTH);
     let other = is_between(1, wide_two(two(s, T2)), MAX_LENGTH);
     let tries = is_between(1, wide_of(s[TRIES]), MAX_TRIES);
-    let mode = s[MODE] < 2;
+    let mode = s[MODE] < 3;
     let count = is_between(1, wide_of(s[COUNT]), CIRCUITS as u32);
     let fifth = or_else(count, 6, 0);
     let fourth = or_else(mode, 5, fifth);

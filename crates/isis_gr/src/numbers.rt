@@ -12,12 +12,13 @@ use hello::reverse::ReverseMetric;
 use restart_tlv::flags::Flags;
 use restart_tlv::writer::Ack;
 use timer_parts::t1::Freed;
+use timers::hellos::HelloOrder;
 use timers::outcome::Overload;
 use timers::outcome::TimerOutcome;
 ghost use mathlib.Core.Path.{_≡_};
 ghost use Prim.Native.Nat.{_+_, _^_, _≤_, _<_};
 ghost use Rattle.restart_tlv.specs.Restart.{ackFlag};
-ghost use Rattle.model.specs.Numbers.{replyFlags, replyTime, lowestNo, levelsNo, csnpsNo, freedNo, overloadNo, markNo, phaseNo, stateNo};
+ghost use Rattle.model.specs.Numbers.{replyFlags, replyTime, lowestNo, levelsNo, csnpsNo, freedNo, helloNo, overloadNo, markNo, phaseNo, stateNo};
 ghost use Rattle.model.specs.Answers.{timersAnswer, recordAnswer, isReversed, offsetOf, wholeOf, unreachableOf};
 ghost use Rattle.adjacency.specs.declared.record.Adjacency.the-variants.{Present};
 ghost use Rattle.adjacency.specs.declared.record.State.the-variants.{Up};
@@ -35,6 +36,8 @@ pub const FIFTH: u64 = 4294967296;
 pub const SIXTH: u64 = 1099511627776;
 
 pub const SEVENTH: u64 = 281474976710656;
+
+pub const EIGHTH: u64 = 72057594037927936;
 
 fn levels_number(l: Levels) -> u8
     ensures { λ r. ⌜ (r ≡ levelsNo l) × (r ≤ 3) ⌝ }
@@ -58,6 +61,15 @@ pub(crate) fn freed_number(f: Freed) -> u8
         Freed::Kept => 0,
         Freed::Stopped => 1,
         Freed::Reinitialise => 2,
+    }
+}
+
+pub(crate) fn hello_number(h: HelloOrder) -> u8
+    ensures { λ r. ⌜ r ≡ helloNo h ⌝ }
+{
+    match h {
+        HelloOrder::Nothing => 0,
+        HelloOrder::Send(f) => f.bits,
     }
 }
 

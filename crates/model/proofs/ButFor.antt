@@ -223,7 +223,7 @@ module _ (n : ℕ) (s : Circuit) (c : Common) (r : Room) (run : c .timers .mode 
   unfolding reacted refuse accepted
   reacted-common h k buf (RefusedReaction x) = refl
   reacted-common h k buf (Accepted after reply line) =
-      ap (λ (t : Timers). withTimers t c) (heard-running (c .timers) run (c .clock) (n - 1) (s .levels) (saidOf c s h) .0)
+      ap (λ (t : Timers). withTimers t c) (heard-running (c .timers) run (c .lengths) (c .clock) (n - 1) (s .levels) _ (saidOf c s h) .0)
 
   read-common : (mac : ℕ) (buf : List ℕ) (d : Read) → readIn n s mac buf d c r .common ≡ c
   unfolding readIn checked decidedIn refuse

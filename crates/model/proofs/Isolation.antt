@@ -5,7 +5,8 @@ use mathlib.Core.Bool.{Bool, true, false}
 use mathlib.Core.List.{List, [], _∷_}
 use native.Mathlib.Omega.{arith}
 use Rattle.basics.proofs.BoolLaws.{by-test}
-use Rattle.timers.specs.Events.{startHead, started}
+use Rattle.timers.specs.Hellos.{Hellos}
+use Rattle.timers.specs.Events.{headIn, started}
 use Rattle.settings.specs.declared.mode.Mode.the-variants.{Running}
 use Rattle.settings.specs.Settings.{settingsOk}
 use Rattle.settings.specs.declared.setup.Settings.{Settings}
@@ -54,12 +55,12 @@ agreeing {b} (first c e r) s₁ s₂ g₁ g₂ n = rw e (agreeing r _ _ _ _ (its
 agreeing {b} (second c e r) s₁ s₂ g₁ g₂ n = rw e (agreeing r _ _ _ _ (near-sym (its-near b s₂ s₁ g₂ g₁ (near-sym n) c e)))
 
 -- what setup returned
-setup-is : (s : Settings) (g : Gateway) (hellos : List Bool) → setup s ≡ Started g hellos → g ≡ newGateway s
+setup-is : (s : Settings) (g : Gateway) (hellos : Hellos) → setup s ≡ Started g hellos → g ≡ newGateway s
 unfolding setup
 setup-is s g hellos e = by-test (settingsOk s) (λ h. cc) (λ h. cc)
 
 setup-running : (s : Settings) → s .mode ≡ Running → newGateway s .common .timers .mode ≡ Running
-unfolding newGateway setupCommon started startHead
+unfolding newGateway setupCommon started headIn
 setup-running s h = rw h
 
 pub isolation : Isolation

@@ -15,6 +15,7 @@ use Rattle.basics.specs.Levels.{hasLevel}
 use Rattle.adjacency.specs.Place.{expiredBy}
 use Rattle.room.specs.Table.{find, sweep}
 use Rattle.basics.specs.Lists.{some}
+use Rattle.timers.specs.Hellos.{Hellos}
 use Rattle.timers.specs.Timers.{toT3}
 use Rattle.settings.specs.declared.mode.Mode.the-variants.{Running}
 use Rattle.timers.proofs.TimersLaws.{mode-running}
@@ -100,7 +101,7 @@ kept-of-near b s₁ s₂ c x y n away there =
 
 data Steady (c : Common) : Judged → Type 0 where
   refusing : {x : Refusal} → Steady c (RefusedCall x)
-  sweeping : {clock : ℕ} {d : Common} {hellos : List Bool} {o : TimersAnswer} → d .timers .mode ≡ Running → d .circuits ≡ c .circuits
+  sweeping : {clock : ℕ} {d : Common} {hellos : Hellos} {o : TimersAnswer} → d .timers .mode ≡ Running → d .circuits ≡ c .circuits
       → Steady c (Sweep clock d hellos o)
   telling : {d : Common} {a : Answer} → d .timers .mode ≡ Running → d .circuits ≡ c .circuits → Steady c (Tell d a)
 

@@ -16,7 +16,7 @@ use Rattle.basics.specs.Levels.{hasLevel}
 use Rattle.adjacency.specs.declared.react.Reaction.{Reaction}
 use Rattle.adjacency.specs.declared.react.Reaction.the-variants.{Refused as RefusedReaction, Accepted}
 use Rattle.adjacency.specs.declared.record.Key.{Key}
-use Rattle.settings.specs.Mode.{isRestarting}
+use Rattle.settings.specs.Mode.{isRunning}
 use Rattle.settings.specs.Settings.{enabledLevels}
 use Rattle.settings.specs.declared.circuit.Circuit.{Circuit}
 use Rattle.control.specs.Common.{Common, circuitOf}
@@ -24,6 +24,7 @@ use Rattle.settings.specs.declared.circuit.Chosen.{Chosen}
 use Rattle.settings.specs.declared.circuit.Chosen.the-variants.{Known, Unknown}
 use Rattle.adjacency.specs.Keys.{keyIn}
 use Rattle.room.specs.Accept.{decided}
+use Rattle.timers.specs.Hellos.{Hellos}
 use Rattle.model.specs.Answers.{Refused, Told, Fact, TimersAnswer}
 use Rattle.model.specs.Gateway.{Gateway, Room, withRooms, renew, noRoom, roomOf}
 use Rattle.model.specs.Receive.{Acted, refuse, hereOf, accepted, reacted, decidedIn, checked, readIn, isShort, receive}
@@ -77,7 +78,7 @@ act-keeps n s (Receive mac frame b) c r = receive-keeps b c r n s mac frame
 act-keeps n s Release c r = told-keeps [] c _ r _ _
 act-keeps n s Clear c r = told-keeps [] c _ r _ _
 act-keeps n s (CsnpComplete level) c r =
-    cond-keeps [] c r (hasLevel (s .levels) level) _ _ (cond-keeps [] c r (isRestarting (c .timers .mode)) _ _ (told-keeps [] c _ r _ _) (refuse-keeps [] c r NotRestarting))
+    cond-keeps [] c r (hasLevel (s .levels) level) _ _ (cond-keeps [] c r (isRunning (c .timers .mode)) _ _ (refuse-keeps [] c r NotRestarting) (told-keeps [] c _ r _ _))
     (refuse-keeps [] c r NoCircuit)
 act-keeps n s (LookUp k) c r =
     cond-keeps [] c r (asksLevel (s .kind) (s .levels) (k .level)) _ _ (told-keeps [] c _ r _ _) (refuse-keeps [] c r NoCircuit)
@@ -109,7 +110,7 @@ module _ (g : Gateway) where
   unfolding carry
   refusing x = λ y e. (refl, refl)
 
-  swept-carried : (clock : ℕ) (c : Common) (hellos : List Bool) (o : TimersAnswer) → Carried (Sweep clock c hellos o)
+  swept-carried : (clock : ℕ) (c : Common) (hellos : Hellos) (o : TimersAnswer) → Carried (Sweep clock c hellos o)
   unfolding carry
   swept-carried clock c hellos o = λ y e. absurd (let z : _≡_ {A = ℕ} 0 1 = cc in omega arith)
 
@@ -127,7 +128,7 @@ module _ (g : Gateway) where
       cond-carried (noneOf (c .circuits)) _ _ (quiet-carried c)
       (cond-carried (isBack clock c) _ _ (refusing ClockBack) (swept-carried clock _ _ _))
   judged c (DatabaseComplete level) =
-      cond-carried (hasLevel (enabledLevels (c .circuits)) level) _ _ (cond-carried (isRestarting (c .timers .mode)) _ _ (told-carried _ _) (refusing NotRestarting)) (refusing NoCircuit)
+      cond-carried (hasLevel (enabledLevels (c .circuits)) level) _ _ (cond-carried (isRunning (c .timers .mode)) _ _ (refusing NotRestarting) (told-carried _ _)) (refusing NoCircuit)
   judged c Waiting = told-carried c _
 
 pub refusals-keep : RefusalsKeep

@@ -12,12 +12,18 @@ use Rattle.hello.specs.declared.read.Hello.{Hello}
 use Rattle.hello.specs.declared.read.Read.{Read}
 use Rattle.hello.specs.declared.read.Read.the-variants.{Refused as RefusedRead, Accepted as ReadAs}
 use Rattle.adjacency.specs.Keys.{keyIn}
-use Rattle.adjacency.specs.Step.{wrongSource}
+use lib.Dec.{eqb}
+use Rattle.adjacency.specs.Record.{isUp, phaseOf}
+use Rattle.adjacency.specs.Step.{wrongSource, rises}
+use Rattle.adjacency.specs.declared.record.Phase.{Phase}
+use Rattle.adjacency.specs.declared.record.Phase.the-variants.{Gone, Init, Up}
 use Rattle.adjacency.specs.declared.react.Reaction.{Reaction}
 use Rattle.adjacency.specs.declared.react.Reaction.the-variants.{Refused as RefusedReaction, Accepted}
 use Rattle.adjacency.specs.declared.record.Key.{Key}
 use Rattle.room.specs.Accept.{decided}
-use Rattle.settings.specs.Mode.{isRestarting}
+use Rattle.room.specs.Table.{find}
+use Rattle.model.specs.Numbers.{phaseNo}
+use Rattle.settings.specs.Mode.{isRunning}
 use Rattle.settings.specs.Settings.{enabledLevels}
 use Rattle.settings.specs.declared.circuit.Circuit.{Circuit}
 use Rattle.settings.specs.declared.circuit.Chosen.{Chosen}
@@ -30,62 +36,68 @@ use Rattle.model.specs.Step.{Local, Receive, Release, Clear, CsnpComplet
 use Rattle.model.specs.Trace.{trace, leftBy, after}
 use Rattle.model.specs.TimerEvents.{TimerEvent, Nothing, Hello as Heard, moved, movedAll, heardFrom, offeredOn, offeredOver, offered, whereDone, eventOf, eventsOf}
 
+-- 2 is the number of UP
+up-number : (p : Phase) → eqb (phaseNo p) (phaseNo Up) ≡ isUp p
+up-number Gone = refl
+up-number Init = refl
+up-number Up = refl
+
 module _ (n : ℕ) (s : Circuit) (c : Common) (r : Room) where
-  -- what a stage leaves, where the call is the event e if it is not refused
-  abbrev Moves : TimerEvent → Acted → Type 0
+  -- what a stage leaves, where the call is the event e if it is not refused, given that a record became UP or not
+  abbrev Moves : (Bool → TimerEvent) → Acted → Type 0
   Moves e a = a .common .timers ≡ moved (whereDone (a .answer) e) (c .timers)
 
-  refuse-moves : (e : TimerEvent) (b : List ℕ) (x : Refusal) → Moves e (refuse b x c r)
+  refuse-moves : (e : Bool → TimerEvent) (b : List ℕ) (x : Refusal) → Moves e (refuse b x c r)
   unfolding refuse moved whereDone
   refuse-moves e b x = refl
 
   reacted-moves : (h : Hello) (k : Key) (b : List ℕ) (d : Reaction)
-      → Moves (Heard (c .clock) (n - 1) (s .levels) (saidOf c s h)) (reacted n s h k b d c r)
-  unfolding reacted accepted moved whereDone
+      → Moves (λ rose. Heard (c .lengths) (c .clock) (n - 1) (s .levels) rose (saidOf c s h)) (reacted n s h k b d c r)
+  unfolding reacted accepted moved whereDone rises
   reacted-moves h k b (RefusedReaction x) = refuse-moves _ b x
-  reacted-moves h k b (Accepted after reply line) = refl
+  reacted-moves h k b (Accepted after reply line) = rw (up-number (phaseOf after), up-number (phaseOf (find k (r .slots)))) refl
 
-  read-moves : (mac : ℕ) (b : List ℕ) (d : Read) → Moves (heardFrom n s c d) (readIn n s mac b d c r)
+  read-moves : (mac : ℕ) (b : List ℕ) (d : Read) → Moves (λ rose. heardFrom n s c rose d) (readIn n s mac b d c r)
   unfolding readIn checked decidedIn heardFrom
   read-moves mac b (RefusedRead x) = refuse-moves _ b x
   read-moves mac b (ReadAs h) =
       by-test (wrongSource (s .levels) (c .system) h) (λ e. rw e (refuse-moves _ b WrongSource))
       (λ e. rw e (reacted-moves h _ b _))
 
-  receive-moves : (mac : ℕ) (frame b : List ℕ) → Moves (heardFrom n s c (helloRead (s .kind) (s .mac) frame)) (receive n s mac frame b c r)
+  receive-moves : (mac : ℕ) (frame b : List ℕ) → Moves (λ rose. heardFrom n s c rose (helloRead (s .kind) (s .mac) frame)) (receive n s mac frame b c r)
   unfolding receive
   receive-moves mac frame b =
       by-test (isShort b) (λ e. rw e (refuse-moves _ b ReplyRoom)) (λ e. rw e (read-moves mac b (helloRead (s .kind) (s .mac) frame)))
 
-  act-moves : (l : Local) → Moves (offeredOn n c l (Known s)) (act n s l c r)
+  act-moves : (l : Local) → Moves (λ rose. offeredOn n c rose l (Known s)) (act n s l c r)
   unfolding act csnpComplete lookUp linkMetricOf nextHello refuse offeredOn moved whereDone
   act-moves (Receive mac frame b) = receive-moves mac frame b
   act-moves Release = refl
   act-moves Clear = refl
   act-moves (CsnpComplete level) =
       by-test (hasLevel (s .levels) level)
-      (λ e. by-test (isRestarting (c .timers .mode)) (λ m. rw (e, m) refl) (λ m. rw (e, m) refl))
+      (λ e. by-test (isRunning (c .timers .mode)) (λ m. rw (e, m) refl) (λ m. rw (e, m) refl))
       (λ e. rw e refl)
   act-moves (LookUp k) = by-test (asksLevel (s .kind) (s .levels) (k .level)) (λ e. rw e refl) (λ e. rw e refl)
   act-moves LinkMetric = refl
   act-moves NextHello = refl
 
 on-moves : (g : Gateway) (n : ℕ) (l : Local) (q : Chosen)
-    → on g n l q .next .common .timers ≡ moved (whereDone (on g n l q .answer) (offeredOn n (g .common) l q)) (g .common .timers)
+    → on g n l q .next .common .timers ≡ moved (whereDone (on g n l q .answer) (λ rose. offeredOn n (g .common) rose l q)) (g .common .timers)
 unfolding on lift moved whereDone
 on-moves g n l Unknown = refl
 on-moves g n l (Known s) = act-moves n s (g .common) (roomOf g n) l
 
 over-moves : (g : Gateway) (w : Global)
     → carry g (judge (g .common) w) .next .common .timers
-    ≡ moved (whereDone (carry g (judge (g .common) w) .answer) (offeredOver (g .common) w)) (g .common .timers)
+    ≡ moved (whereDone (carry g (judge (g .common) w) .answer) (λ rose. offeredOver (g .common) w)) (g .common .timers)
 unfolding judge tickOf databaseOf carry offeredOver moved whereDone
 over-moves g (Tick clock) =
     by-test (noneOf (g .common .circuits)) (λ e. rw e refl)
     (λ e. by-test (isBack clock (g .common)) (λ q. rw (e, q) refl) (λ q. rw (e, q) refl))
 over-moves g (DatabaseComplete level) =
     by-test (hasLevel (enabledLevels (g .common .circuits)) level)
-    (λ e. by-test (isRestarting (g .common .timers .mode)) (λ m. rw (e, m) refl) (λ m. rw (e, m) refl))
+    (λ e. by-test (isRunning (g .common .timers .mode)) (λ m. rw (e, m) refl) (λ m. rw (e, m) refl))
     (λ e. rw e refl)
 over-moves g Waiting = refl
 

@@ -1,5 +1,5 @@
--- What calls answer, in numbers (document 01, "What the gateway holds" and "Refusals by number"), and for each answer of the code, case by
--- case, which one it is.
+-- What calls answer, in numbers (document 01, "What the gateway holds" and "Refusals by number"; document 02, W-201), and for each answer of
+-- the code, case by case, which one it is.
 use Prim.Native.Nat.{ℕ}
 use mathlib.Core.Bool.{Bool, true, false}
 use mathlib.Core.List.{List}
@@ -16,11 +16,11 @@ use Rattle.adjacency.specs.declared.record.Phase.{Phase}
 use Rattle.adjacency.specs.declared.record.Phase.the-variants.{Gone}
 use Rattle.adjacency.specs.declared.record.State.{State}
 use Rattle.adjacency.specs.declared.record.State.the-variants.{Init, Up}
-use Rattle.timers.specs.Events.{helloBits}
+use Rattle.timers.specs.Hellos.{Hellos, hellosOf}
 use Rattle.timers.specs.declared.outcome.Overload.the-variants.{Quiet}
 use Rattle.timers.specs.declared.outcome.TimerOutcome.{TimerOutcome}
 use Rattle.timers.specs.declared.outcome.TimerOutcome.the-variants.{Idle, Goes, Ended}
-use Rattle.model.specs.Numbers.{refusalNo, replyFlags, replyTime, someWaits, lowestNo, levelsNo, isOrdered, csnpsNo, freedNo, overloadNo, restartNo, markNo, phaseNo, stateNo}
+use Rattle.model.specs.Numbers.{refusalNo, replyFlags, replyTime, someWaits, lowestNo, levelsNo, isOrdered, csnpsNo, freedNo, helloNo, overloadNo, restartNo, markNo, phaseNo, stateNo}
 use Rattle.model.specs.declared.answers.Change.{Change}
 use Rattle.model.specs.declared.answers.Orders.{Orders}
 use Rattle.model.specs.declared.answers.Received.{Received as ReceivedCode}
@@ -56,13 +56,14 @@ pub record ChangeAnswer : Type 0 where
   pub advertised : Bool
 
 -- an accepted frame: the reply's flags and Remaining Time, whether line 1 orders CSNPs and the levels of its order, T1's end for want of a
--- Restart TLV, the timers, and the frame's record
+-- Restart TLV, the flags of the hello that is ordered on its circuit, the timers, and the frame's record
 pub record FrameAnswer : Type 0 where
   pub reply : ℕ
   pub time : ℕ
   pub ordered : Bool
   pub csnps : ℕ
   pub freed : ℕ
+  pub hello : ℕ
   pub timers : TimersAnswer
   pub change : ChangeAnswer
 
@@ -89,12 +90,11 @@ pub data Fact : Type 0 where
   HelloFlags : (flags : ℕ) → Fact
   Waits : (count : ℕ) (some : Bool) (lowest : ℕ) → Fact
 
--- "A refusal returns its number only". Of a tick, lost: the circuits that lost a record; hellos: those whose hello is ordered; circuit 1
--- first.
+-- "A refusal returns its number only". Of a tick, lost: the circuits that lost a record, circuit 1 first; and the hellos that are ordered.
 pub data Answer : Type 0 where
   Refused : (number : ℕ) → Answer
   Received : FrameAnswer → Answer
-  Ticked : (lost hellos : List Bool) → TimersAnswer → Answer
+  Ticked : (lost : List Bool) → Hellos → TimersAnswer → Answer
   Told : Fact → Answer
 
 -- the number of a refusal; 0 where the call was done
@@ -123,6 +123,7 @@ frameAnswer o =
       ordered = isOrdered (o .csnps);
       csnps = csnpsNo (o .csnps);
       freed = freedNo (o .freed);
+      hello = helloNo (o .hello);
       timers = timersAnswer (o .outcome);
       change = changeAnswer (o .change);
     }
@@ -207,7 +208,7 @@ receivedOf (DoneFrame o) = Received (frameAnswer o)
 
 abbrev pub tickedOf : TickedCode → Answer
 tickedOf (RefusedTick x) = Refused (refusalNo x)
-tickedOf (DoneTick lost hellos o) = Ticked (lostBits lost) (helloBits hellos) (timersAnswer o)
+tickedOf (DoneTick lost hellos o) = Ticked (lostBits lost) (hellosOf hellos) (timersAnswer o)
 
 abbrev pub releasedOf : Released → Answer
 releasedOf (RefusedRelease x) = Refused (refusalNo x)

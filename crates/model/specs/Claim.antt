@@ -3,6 +3,7 @@ use Prim.Native.Nat.{ℕ}
 use mathlib.Core.Path.{_≡_}
 use mathlib.Core.Logic.{_≢_}
 use mathlib.Core.Bool.{Bool, true, false, cond, not, _&&_}
+use Rattle.timers.specs.Hellos.{Hellos}
 use mathlib.Core.List.{List, [], _∷_}
 use lib.Dec.{eqb}
 use Rattle.basics.specs.declared.kind.CircuitKind.{CircuitKind}
@@ -95,7 +96,7 @@ withoutLost n (Told f) = Told f
 
 -- ".. but for line 1's orders"
 abbrev pub withoutCsnps : FrameAnswer → FrameAnswer
-withoutCsnps f = record { reply = f .reply; time = f .time; ordered = false; csnps = 0; freed = f .freed; timers = f .timers; change = f .change }
+withoutCsnps f = record { reply = f .reply; time = f .time; ordered = false; csnps = 0; freed = f .freed; hello = f .hello; timers = f .timers; change = f .change }
 
 unfoldable pub unordered : Answer → Answer
 unordered (Received f) = Received (withoutCsnps f)
@@ -143,6 +144,6 @@ observedFrom b g ts = observed b (isLan (circuitOf (g .common) (b .circuit))) ts
 -- Any gateway that setup returned in the mode Running, any bad neighbour, any two lists whose calls are equal without its frames.
 abbrev pub Isolation : Type 0
 Isolation =
-    (s : Settings) (g : Gateway) (hellos : List Bool) → s .mode ≡ Running → setup s ≡ Started g hellos
+    (s : Settings) (g : Gateway) (hellos : Hellos) → s .mode ≡ Running → setup s ≡ Started g hellos
     → (b : Neighbour) (xs ys : List Call) → shared b xs ≡ shared b ys
     → Agreeing b (observedFrom b g (trace g xs)) (observedFrom b g (trace g ys))

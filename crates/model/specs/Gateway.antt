@@ -1,6 +1,6 @@
 -- What the gateway holds (document 01, "What the gateway holds"): the common part, and each circuit's own.
 use Prim.Native.Nat.{ℕ, zero, suc}
-use mathlib.Core.Bool.{Bool, cond}
+use mathlib.Core.Bool.{cond}
 use mathlib.Core.List.{List, [], map}
 use lib.ListN.{getD, set}
 use Rattle.basics.specs.declared.refusal.Refusal.the-variants.{BadSetting}
@@ -8,6 +8,7 @@ use Rattle.adjacency.specs.declared.record.Adjacency.{Adjacency}
 use Rattle.adjacency.specs.declared.record.Key.{Key}
 use Rattle.adjacency.specs.declared.place.Slot.{Slot}
 use Rattle.room.specs.Table.{find, emptyRoom}
+use Rattle.timers.specs.Hellos.{Hellos}
 use Rattle.timers.specs.Events.{startHellos}
 use Rattle.settings.specs.Settings.{settingsOk}
 use Rattle.settings.specs.declared.circuit.Circuit.{Circuit}
@@ -64,10 +65,10 @@ newRoom s = record { slots = emptyRoom (s .kind) }
 unfoldable pub newGateway : Settings → Gateway
 newGateway s = record { common = setupCommon s; rooms = map newRoom (s .circuits) }
 
--- the gateway, and the circuits whose hello with RR is ordered
+-- the gateway, and the hellos that are ordered
 pub data Setup : Type 0 where
   Refused : (number : ℕ) → Setup
-  Started : Gateway → (hellos : List Bool) → Setup
+  Started : Gateway → Hellos → Setup
 
 -- "A setting outside its range is refused (12) and no gateway results."
 unfoldable pub setup : Settings → Setup

@@ -10,3 +10,4 @@ pub mod Claim
 pub mod SampleFrames
 pub mod SampleRuns
 pub mod SampleCalls
+pub mod SampleStarts

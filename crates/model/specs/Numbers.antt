@@ -24,6 +24,8 @@ use Rattle.adjacency.specs.declared.record.Phase.the-variants.{Gone, Init as In
 use Rattle.adjacency.specs.declared.record.State.{State}
 use Rattle.timer_parts.specs.declared.t1.Freed.{Freed}
 use Rattle.timer_parts.specs.declared.t1.Freed.the-variants.{Kept, Stopped, Reinitialise}
+use Rattle.timers.specs.declared.hellos.HelloOrder.{HelloOrder}
+use Rattle.timers.specs.declared.hellos.HelloOrder.the-variants.{Nothing as NoHello, Send as SendHello}
 use Rattle.timers.specs.declared.outcome.TimerOutcome.{TimerOutcome}
 use Rattle.timers.specs.declared.outcome.TimerOutcome.the-variants.{Idle, Goes, Ended}
 use Rattle.timers.specs.declared.outcome.Overload.{Overload}
@@ -79,6 +81,11 @@ abbrev pub csnpsNo : Csnps → ℕ
 csnpsNo NoCsnps = 0
 csnpsNo (Ordered l) = levelsNo l
 
+-- the flags of the hello that a frame orders on its circuit (SA, 4: document 02, W-201), 0 without one
+abbrev pub helloNo : HelloOrder → ℕ
+helloNo NoHello = 0
+helloNo (SendHello f) = f .bits
+
 -- whether the frame stopped T1 for want of a Restart TLV, and whether the adjacency is to reinitialise (RFC 8706, 3.3.1)
 abbrev pub freedNo : Freed → ℕ
 freedNo Kept = 0
@@ -92,7 +99,7 @@ overloadNo Set = 1
 overloadNo Clear = 2
 overloadNo Both = 3
 
--- how the timers ended: in the mode Running before the call; the restart goes on; it ended in this call
+-- how the timers ended: in the mode Running before the call; the restart or the start goes on; it ended in this call
 abbrev pub restartNo : TimerOutcome → ℕ
 restartNo Idle = 0
 restartNo (Goes spf overload) = 1

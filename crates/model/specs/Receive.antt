@@ -1,5 +1,5 @@
--- Receive on a circuit, by stages in the order of the refusals (document 01, "Refusals by number"). A stage is a function of the common
--- part and of the circuit's own; n is the circuit's number, s its settings, b the lent reply buffer.
+-- Receive on a circuit, by stages in the order of the refusals (document 01, "Refusals by number"; document 02, W-201). A stage is a
+-- function of the common part and of the circuit's own; n is the circuit's number, s its settings, b the lent reply buffer.
 use Prim.Native.Nat.{ℕ, _-_}
 use mathlib.Core.Bool.{Bool, cond}
 use mathlib.Core.List.{List}
@@ -12,7 +12,7 @@ use Rattle.hello.specs.declared.read.Read.the-variants.{Refused as RefusedRead,
 use Rattle.basics.specs.declared.refusal.Refusal.{Refusal}
 use Rattle.basics.specs.declared.refusal.Refusal.the-variants.{ReplyRoom, WrongSource}
 use Rattle.adjacency.specs.Record.{phaseOf}
-use Rattle.adjacency.specs.Step.{wrongSource}
+use Rattle.adjacency.specs.Step.{wrongSource, rises}
 use Rattle.adjacency.specs.declared.duty.Rank.{Rank}
 use Rattle.adjacency.specs.declared.marks.Acknowledgement.{Acknowledgement}
 use Rattle.adjacency.specs.declared.marks.Line.{Line}
@@ -23,9 +23,10 @@ use Rattle.adjacency.specs.declared.record.Key.{Key}
 use Rattle.adjacency.specs.declared.step.Here.{Here}
 use Rattle.timer_parts.specs.Heard.{heardOf}
 use Rattle.timer_parts.specs.declared.heard.Heard.{Heard}
-use Rattle.timers.specs.Timers.{heardIn, heard}
+use Rattle.timers.specs.Timers.{Timers, heard}
 use Rattle.settings.specs.Mode.{isRestarting}
-use Rattle.timers.specs.Outcome.{ordered, heardFreed}
+use Rattle.timers.specs.Outcome.{heardOrders}
+use Rattle.timers.specs.declared.events.HeardOrders.{HeardOrders}
 use Rattle.settings.specs.declared.circuit.Circuit.{Circuit}
 use Rattle.control.specs.Common.{Common, withTimers}
 use Rattle.adjacency.specs.Keys.{levelIn, keyIn}
@@ -62,24 +63,39 @@ rankOf s h = record { level = levelIn (h .link); priority = s .priority; mac = s
 abbrev pub saidOf : Common → Circuit → Hello → Heard
 saidOf c s h = heardOf (c .system) (s .id) h
 
+-- the record that changed so became UP
+abbrev pub hasRisen : Change → Bool
+hasRisen x = rises (x .before) (x .after)
+
+-- the timers that the frame leaves, and what it orders of them; circuits' timers count from 0
+abbrev pub timersAfter : ℕ → Circuit → Hello → Change → Common → Timers
+timersAfter n s h x c = heard (c .lengths) (c .clock) (n - 1) (s .levels) (hasRisen x) (saidOf c s h) (c .timers)
+
+abbrev pub timersOrders : ℕ → Circuit → Hello → Change → Common → HeardOrders
+timersOrders n s h x c = heardOrders (c .lengths) (c .clock) (n - 1) (s .levels) (hasRisen x) (saidOf c s h) (c .timers)
+
 abbrev pub ordersOf : ℕ → Circuit → Hello → Acknowledgement → Line → Change → Common → Room → Orders
 ordersOf n s h reply line change c r =
+    let o : HeardOrders = timersOrders n s h change c in
     record {
       reply = reply;
       csnps = csnpsIn (rankOf s h) line (s .levels) (h .link) (r .slots);
-      outcome = ordered (heardIn (c .clock) (n - 1) (s .levels) (saidOf c s h)) (c .timers);
-      freed = heardFreed (n - 1) (saidOf c s h) (c .timers);
+      outcome = o .outcome;
+      freed = o .freed;
+      hello = o .hello;
       change = change;
     }
 
--- The record, then line 1's order, then the timers, then the reply. Circuits' timers count from 0.
+-- The record, then line 1's order, then the timers, then the reply.
 unfoldable pub accepted : ℕ → Circuit → Hello → Key → List ℕ → Adjacency → Acknowledgement → Line → Common → Room → Acted
 accepted n s h k b after reply line c r =
+    let change : Change = changeOf k (phaseOf (find k (r .slots))) after in
+    let room : Room = withSlots r (kept k after (r .slots)) in
     record {
-      answer = Received (frameAnswer (ordersOf n s h reply line (changeOf k (phaseOf (find k (r .slots))) after) c (withSlots r (kept k after (r .slots)))));
+      answer = Received (frameAnswer (ordersOf n s h reply line change c room));
       reply = written (h .system) reply b;
-      common = withTimers (heard (c .clock) (n - 1) (s .levels) (saidOf c s h) (c .timers)) c;
-      room = withSlots r (kept k after (r .slots));
+      common = withTimers (timersAfter n s h change c) c;
+      room = room;
     }
 
 -- refusals 8 and 9, or the frame's effect

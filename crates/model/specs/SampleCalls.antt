@@ -111,7 +111,7 @@ Twelve = setup (settings Running 16_777_215 80) ≡ RefusedSetup 12
 
 -- a tick without orders that marks circuit 1, or none
 abbrev pub marking : Bool → Answer
-marking first = Ticked (first ∷ replicate 7 false) (replicate 8 false) (record { restart = 0; spf = 0; overload = 0 })
+marking first = Ticked (first ∷ replicate 7 false) (record { circuits = replicate 8 false; flags = 0 }) (record { restart = 0; spf = 0; overload = 0 })
 
 -- "A tick removes each record with expiry at or below the clock, and marks its circuit in the answer": the record's expiry is 83 + 27
 abbrev pub Ticks : Type 0

@@ -61,6 +61,7 @@ accepted flags time csnps before after restart =
       ordered = ltb 0 csnps;
       csnps = csnps;
       freed = 0;
+      hello = 0;
       timers = record { restart = restart; spf = 0; overload = 0 };
       change = record { level = 0; system = 0x192168001002; before = before; after = after; advertised = eqb after 2 };
     })

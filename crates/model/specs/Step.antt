@@ -16,8 +16,9 @@ use Rattle.room.specs.Table.{find, released, expired, anyExpired, firstState, e
 use Rattle.metric.specs.Metric.{linkMetric}
 use Rattle.basics.specs.Mask.{circuits}
 use Rattle.timer_parts.specs.T1.{helloFlags}
+use Rattle.timers.specs.Hellos.{Hellos, noHellos}
 use Rattle.timers.specs.Timers.{Timers, settled, ticked, toT3, csnpIn, noticeT2s, noT1, countRuns, firstRuns}
-use Rattle.settings.specs.Mode.{isRestarting}
+use Rattle.settings.specs.Mode.{isRunning}
 use Rattle.timers.specs.Outcome.{ordered, tickHellos}
 use Rattle.timers.specs.declared.outcome.TimerOutcome.the-variants.{Idle}
 use Rattle.settings.specs.Settings.{enabledLevels}
@@ -63,7 +64,7 @@ pub record Outcome : Type 0 where
 abbrev pub told : Fact → Common → Room → Acted
 told f c r = record { answer = Told f; reply = []; common = c; room = r }
 
--- a notice whose own step is f: "11: CSNP or database notice outside Restarting mode"
+-- a notice whose own step is f. Document 02, W-201: "11 is now given outside Restarting and Starting": in the mode Running.
 abbrev pub noticeOf : (Timers → Timers) → Common → Fact
 noticeOf f c = Noticed (timersAnswer (ordered f (c .timers)))
 
@@ -74,9 +75,8 @@ settledBy f c = withTimers (settled f (c .timers)) c
 unfoldable pub csnpComplete : ℕ → Circuit → ℕ → Common → Room → Acted
 csnpComplete n s level c r =
     cond (hasLevel (s .levels) level)
-    (cond (isRestarting (c .timers .mode))
-    (told (noticeOf (csnpIn (n - 1) (s .levels) (onlyLevel level)) c) (settledBy (csnpIn (n - 1) (s .levels) (onlyLevel level)) c) r)
-    (refuse [] NotRestarting c r))
+    (cond (isRunning (c .timers .mode)) (refuse [] NotRestarting c r)
+    (told (noticeOf (csnpIn (n - 1) (s .levels) (onlyLevel level)) c) (settledBy (csnpIn (n - 1) (s .levels) (onlyLevel level)) c) r))
     (refuse [] NoCircuit c r)
 
 -- the level of a key counts on a LAN alone
@@ -93,9 +93,9 @@ lookUp s k c r =
 unfoldable pub linkMetricOf : Circuit → Common → Room → Acted
 linkMetricOf s c r = told (Metric (linkMetric (s .kind) (s .metric) (firstState (r .slots)))) c r
 
--- "The next hello carries RR exactly while T1 runs"
+-- "The next hello carries RR exactly while T1 runs"; document 02, W-201: "every hello carries SA"
 unfoldable pub nextHello : ℕ → Common → Room → Acted
-nextHello n c r = told (HelloFlags (helloFlags (getD (c .timers .t1s) (n - 1) noT1) .bits)) c r
+nextHello n c r = told (HelloFlags (helloFlags (c .timers .mode) (getD (c .timers .t1s) (n - 1) noT1) .bits)) c r
 
 -- Clear (house, beside the calls of document 01): the link went down, and all records of its circuit go; no timer is touched
 unfoldable pub act : ℕ → Circuit → Local → Common → Room → Acted
@@ -136,7 +136,7 @@ on g n l (Known s) = lift g n (act n s l)
 -- what such a call comes to, by the common part alone
 pub data Judged : Type 0 where
   Refused : Refusal → Judged
-  Sweep : (clock : ℕ) (next : Common) (hellos : List Bool) → TimersAnswer → Judged
+  Sweep : (clock : ℕ) (next : Common) → Hellos → TimersAnswer → Judged
   Tell : (next : Common) → Answer → Judged
 
 unfoldable pub noneOf : {A : Type 0} → List A → Bool
@@ -144,7 +144,7 @@ noneOf [] = true
 noneOf (x ∷ xs) = false
 
 abbrev pub quiet : Answer
-quiet = Ticked (replicate circuits false) (replicate circuits false) (timersAnswer Idle)
+quiet = Ticked (replicate circuits false) noHellos (timersAnswer Idle)
 
 -- 10: "clock lower than the held clock"
 abbrev pub isBack : ℕ → Common → Bool
@@ -162,9 +162,8 @@ tickOf clock c =
 unfoldable pub databaseOf : ℕ → Common → Judged
 databaseOf level c =
     cond (hasLevel (enabledLevels (c .circuits)) level)
-    (cond (isRestarting (c .timers .mode))
-    (Tell (settledBy (noticeT2s (onlyLevel level)) c) (Told (noticeOf (noticeT2s (onlyLevel level)) c)))
-    (Refused NotRestarting))
+    (cond (isRunning (c .timers .mode)) (Refused NotRestarting)
+    (Tell (settledBy (noticeT2s (onlyLevel level)) c) (Told (noticeOf (noticeT2s (onlyLevel level)) c))))
     (Refused NoCircuit)
 
 -- "how many circuits still wait for T1, and the lowest such circuit (or none)"

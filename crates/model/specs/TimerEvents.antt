@@ -1,7 +1,8 @@
--- What a call is to the timers (document 01, "Timers while Restarting"): one event. The timers after a call are those that its event leaves
+-- What a call is to the timers (document 01, "Timers while Restarting"; document 02, W-201): one event. The timers after a call are those that its event leaves
 -- (proofs/TimerEventLaws), so that a claim about the timers over lists of calls is one about lists of events.
 use Prim.Native.Nat.{ℕ, _-_}
-use mathlib.Core.Bool.{cond}
+use mathlib.Core.Bool.{Bool, false, cond, not, _&&_}
+use lib.Dec.{eqb}
 use mathlib.Core.List.{List, [], _∷_, map}
 use Rattle.basics.specs.Levels.{onlyLevel}
 use Rattle.basics.specs.declared.levels.Levels.{Levels}
@@ -15,17 +16,19 @@ use Rattle.settings.specs.declared.circuit.Chosen.the-variants.{Known, Unknown}
 use Rattle.timer_parts.specs.declared.heard.Heard.{Heard}
 use Rattle.timers.specs.Timers.{Timers, ticked, heard, csnpNoticed, databaseNoticed}
 use Rattle.control.specs.Common.{Common, circuitOf}
-use Rattle.model.specs.Answers.{Answer, Refused, Received, Ticked, Told}
+use Rattle.adjacency.specs.declared.record.Phase.the-variants.{Up}
+use Rattle.model.specs.Numbers.{phaseNo}
+use Rattle.model.specs.Answers.{Answer, ChangeAnswer, Refused, Received, Ticked, Told}
 use Rattle.model.specs.Gateway.{Gateway}
 use Rattle.model.specs.Receive.{saidOf}
 use Rattle.model.specs.Step.{Local, Receive, Release, Clear, CsnpComplete, LookUp, LinkMetric, NextHello, Global, Tick, DatabaseComplete, Waiting, Call, At, Over, noneOf, step}
 use Rattle.model.specs.Trace.{Turn}
 
--- Circuits' places count from 0. A hello: the clock at its arrival, the circuit's levels, and what the frame says. A CSNP notice: the circuit's
--- levels, then the notice's.
+-- Circuits' places count from 0. A hello: the clock at its arrival, the circuit's levels, whether its record became UP, and what the frame says. A
+-- CSNP notice: the circuit's levels, then the notice's.
 pub data TimerEvent : Type 0 where
   Nothing : TimerEvent
-  Hello : (clock place : ℕ) → Levels → Heard → TimerEvent
+  Hello : Lengths → (clock place : ℕ) → Levels → (rose : Bool) → Heard → TimerEvent
   Clock : Lengths → (clock : ℕ) → TimerEvent
   CsnpSet : (place : ℕ) (levels notice : Levels) → TimerEvent
   Database : (notice : Levels) → TimerEvent
@@ -33,7 +36,7 @@ pub data TimerEvent : Type 0 where
 -- the timers that an event leaves
 unfoldable pub moved : TimerEvent → Timers → Timers
 moved Nothing t = t
-moved (Hello clock i l d) t = heard clock i l d t
+moved (Hello s clock i l rose d) t = heard s clock i l rose d t
 moved (Clock s clock) t = ticked s clock t
 moved (CsnpSet i l n) t = csnpNoticed i l n t
 moved (Database n) t = databaseNoticed n t
@@ -44,20 +47,20 @@ movedAll (e ∷ es) t = movedAll es (moved e t)
 
 -- ---- of a call
 
-unfoldable pub heardFrom : ℕ → Circuit → Common → Read → TimerEvent
-heardFrom n s c (RefusedRead x) = Nothing
-heardFrom n s c (ReadAs h) = Hello (c .clock) (n - 1) (s .levels) (saidOf c s h)
+unfoldable pub heardFrom : ℕ → Circuit → Common → Bool → Read → TimerEvent
+heardFrom n s c rose (RefusedRead x) = Nothing
+heardFrom n s c rose (ReadAs h) = Hello (c .lengths) (c .clock) (n - 1) (s .levels) rose (saidOf c s h)
 
--- what it is if it is not refused
-unfoldable pub offeredOn : ℕ → Common → Local → Chosen → TimerEvent
-offeredOn n c l Unknown = Nothing
-offeredOn n c (Receive mac frame b) (Known s) = heardFrom n s c (helloRead (s .kind) (s .mac) frame)
-offeredOn n c Release (Known s) = Nothing
-offeredOn n c Clear (Known s) = Nothing
-offeredOn n c (CsnpComplete level) (Known s) = CsnpSet (n - 1) (s .levels) (onlyLevel level)
-offeredOn n c (LookUp k) (Known s) = Nothing
-offeredOn n c LinkMetric (Known s) = Nothing
-offeredOn n c NextHello (Known s) = Nothing
+-- what it is if it is not refused; rose: a frame's record became UP
+unfoldable pub offeredOn : ℕ → Common → Bool → Local → Chosen → TimerEvent
+offeredOn n c rose l Unknown = Nothing
+offeredOn n c rose (Receive mac frame b) (Known s) = heardFrom n s c rose (helloRead (s .kind) (s .mac) frame)
+offeredOn n c rose Release (Known s) = Nothing
+offeredOn n c rose Clear (Known s) = Nothing
+offeredOn n c rose (CsnpComplete level) (Known s) = CsnpSet (n - 1) (s .levels) (onlyLevel level)
+offeredOn n c rose (LookUp k) (Known s) = Nothing
+offeredOn n c rose LinkMetric (Known s) = Nothing
+offeredOn n c rose NextHello (Known s) = Nothing
 
 -- memory that was never set up holds no timer for a tick
 unfoldable pub offeredOver : Common → Global → TimerEvent
@@ -65,16 +68,20 @@ offeredOver c (Tick clock) = cond (noneOf (c .circuits)) Nothing (Clock (c .leng
 offeredOver c (DatabaseComplete level) = Database (onlyLevel level)
 offeredOver c Waiting = Nothing
 
-unfoldable pub offered : Gateway → Call → TimerEvent
-offered g (At n l) = offeredOn n (g .common) l (circuitOf (g .common) n)
-offered g (Over w) = offeredOver (g .common) w
+unfoldable pub offered : Gateway → Call → Bool → TimerEvent
+offered g (At n l) rose = offeredOn n (g .common) rose l (circuitOf (g .common) n)
+offered g (Over w) rose = offeredOver (g .common) w
+
+-- the record was not UP before the frame, and is UP after it
+abbrev pub isRise : ChangeAnswer → Bool
+isRise x = eqb (x .after) (phaseNo Up) && not (eqb (x .before) (phaseNo Up))
 
 -- a refused call is nothing to the timers
-unfoldable pub whereDone : Answer → TimerEvent → TimerEvent
+unfoldable pub whereDone : Answer → (Bool → TimerEvent) → TimerEvent
 whereDone (Refused n) e = Nothing
-whereDone (Received f) e = e
-whereDone (Ticked lost hellos t) e = e
-whereDone (Told f) e = e
+whereDone (Received f) e = e (isRise (f .change))
+whereDone (Ticked lost hellos t) e = e false
+whereDone (Told f) e = e false
 
 unfoldable pub eventOf : Gateway → Call → TimerEvent
 eventOf g c = whereDone (step g c .answer) (offered g c)

@@ -8,6 +8,8 @@ use basics::mask::Lowest;
 use basics::refusal::Refusal;
 use restart_tlv::flags::Flags;
 use timer_parts::t1::Freed;
+use timers::hellos::HelloOrder;
+use timers::hellos::HelloOrders;
 use timers::outcome::TimerOutcome;
 
 // What became of the record of a frame: its key's level (0 on P2P) and System ID, its state before and after, and whether it is advertised
@@ -21,12 +23,13 @@ pub struct Change {
 }
 
 // Of an accepted frame: the reply that was written, line 1's order, how the timers ended and what they order, whether the circuit's T1 was
-// stopped for want of a Restart TLV, and what became of the record.
+// stopped for want of a Restart TLV, the hello that is ordered on the circuit, and what became of the record.
 pub struct Orders {
     pub reply: Acknowledgement,
     pub csnps: Csnps,
     pub outcome: TimerOutcome,
     pub freed: Freed,
+    pub hello: HelloOrder,
     pub change: Change,
 }
 
@@ -35,12 +38,12 @@ pub enum Received {
     Done(Orders),
 }
 
-// Of a tick: the circuits that lost a record, the circuits whose hello is ordered, and how the timers ended.
+// Of a tick: the circuits that lost a record, the hellos that are ordered, and how the timers ended.
 pub enum Ticked {
     Refused(Refusal),
     Done {
         lost: u8,
-        hellos: u8,
+        hellos: HelloOrders,
         outcome: TimerOutcome,
     },
 }
@@ -80,8 +83,8 @@ pub struct Waiting {
     pub lowest: Lowest,
 }
 
-// Of setup: the circuits whose hello is ordered.
+// Of setup: the hellos that are ordered.
 pub enum SetUp {
     Refused(Refusal),
-    Done(u8),
+    Done(HelloOrders),
 }

@@ -5,6 +5,7 @@ use mathlib.Core.Path.{_≡_, refl, ap, sym, _∙_, subst₂}
 use mathlib.Core.Bool.{Bool}
 use mathlib.Core.List.{List, [], _∷_}
 use Rattle.settings.specs.declared.setup.Settings.{Settings}
+use Rattle.timers.specs.Hellos.{Hellos}
 use Rattle.model.specs.Answers.{Answer}
 use Rattle.model.specs.Gateway.{Gateway, Setup, Refused, Started, setup}
 use Rattle.model.specs.Step.{Call, Outcome, step}
@@ -49,10 +50,10 @@ code-keeps ws ws′ cs ms (also {ws1 = ws1} {cs = cs1} {ms = ms1} m r) = more (k
 -- ---- from a set-up
 
 pub record Stands (s : Settings) (ws : List ℕ) : Type 0 where
-  pub hellos : List Bool
+  pub hellos : Hellos
   pub is : setup s ≡ Started (gatewayOf ws) hellos
 
-started : (ws0 ws : List ℕ) (o : Setup) (hellos : List Bool) → reportIn o ≡ Begun hellos → gatewayOf ws ≡ startedIn (gatewayOf ws0) o
+started : (ws0 ws : List ℕ) (o : Setup) (hellos : Hellos) → reportIn o ≡ Begun hellos → gatewayOf ws ≡ startedIn (gatewayOf ws0) o
     → o ≡ Started (gatewayOf ws) hellos
 started ws0 ws (Refused n) hellos e q = absurd (let z : _≡_ {A = ℕ} 0 1 = cc in omega arith)
 started ws0 ws (Started g h) hellos e q = let w : h ≡ hellos = cc in cc

@@ -36,7 +36,7 @@ CodeIsolation =
     → (ms₁ ms₂ : List Made) → Ran ws₁ xs ms₁ ws₁′ → Ran ws₂ ys ms₂ ws₂′
     → Agreeing b (observedFrom b (gatewayOf ws₁) (turnsOf ms₁)) (observedFrom b (gatewayOf ws₂) (turnsOf ms₂))
 
--- What always holds, of the memory after any run from a set-up in either mode.
+-- What always holds, of the memory after any run from a set-up in any mode.
 abbrev pub CodeInvariants : Type 0
 CodeInvariants =
     (s : Settings) (ws ws′ : List ℕ) → Begins s ws → (cs : List Call) (ms : List Made) → AllFit cs → Ran ws cs ms ws′ → Invariant s (gatewayOf ws′)

@@ -2,9 +2,9 @@
 -- "Each call gets the gateway that the last one returned or left; nobody else writes it meanwhile").
 use Prim.Native.Nat.{ℕ}
 use mathlib.Core.Path.{_≡_}
-use mathlib.Core.Bool.{Bool}
 use mathlib.Core.List.{List, [], _∷_, map}
 use Rattle.settings.specs.declared.setup.Settings.{Settings}
+use Rattle.timers.specs.Hellos.{Hellos}
 use Rattle.model.specs.declared.answers.SetUp.{SetUp}
 use Rattle.model.specs.Answers.{Answer}
 use Rattle.model.specs.Gateway.{setup}
@@ -29,7 +29,7 @@ pub data Ran : List ℕ → List Call → List Made → List ℕ → Type 0 wher
 
 -- words that a set-up with these settings left, where it was not refused
 pub data Begins (s : Settings) : List ℕ → Type 0 where
-  begins : {ws0 ws : List ℕ} {r : SetUp} {hellos : List Bool} → SetsUp (setup s) ws0 ws r → reportOf r ≡ Begun hellos → Begins s ws
+  begins : {ws0 ws : List ℕ} {r : SetUp} {hellos : Hellos} → SetsUp (setup s) ws0 ws r → reportOf r ≡ Begun hellos → Begins s ws
 
 -- the same as a turn of the gateway that the words mean
 abbrev pub turnOf : Made → Turn

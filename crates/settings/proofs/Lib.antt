@@ -1,2 +1,1 @@
-pub mod ModeLaws
 pub mod SettingsLaws

@@ -20,7 +20,7 @@ between low n high = leb low n && leb n high
 unfoldable pub circuitOk : Circuit → Bool
 circuitOk c = someOn (c .levels) && (between 0 (c .priority) 127 && (between 1 (c .hold) 65535 && between 0 (c .metric) 16777214))
 
--- "T1 and T2 lengths (1 to 65,535 s), T1 tries N (1 to 255)", in either mode
+-- "T1 and T2 lengths (1 to 65,535 s), T1 tries N (1 to 255)", in any mode
 unfoldable pub lengthsOk : Lengths → Bool
 lengthsOk s = between 1 (s .t1) 65535 && (between 1 (s .t2) 65535 && between 1 (s .tries) 255)
 

@@ -1,10 +1,11 @@
-// The mode of a gateway (document 01, "What the gateway holds").
+// The mode of a gateway (document 01, "What the gateway holds"; document 02, W-201).
 ghost use mathlib.Core.Path.{_≡_};
-ghost use Rattle.settings.specs.Mode.{isRunning, isRestarting};
+ghost use Rattle.settings.specs.Mode.{isRunning, isRestarting, isStarting};
 
 pub enum Mode {
     Running,
     Restarting,
+    Starting,
 }
 
 // Whether no timer runs.
@@ -14,6 +15,7 @@ pub fn is_running(mode: Mode) -> bool
     match mode {
         Mode::Running => true,
         Mode::Restarting => false,
+        Mode::Starting => false,
     }
 }
 
@@ -24,5 +26,17 @@ pub fn is_restarting(mode: Mode) -> bool
     match mode {
         Mode::Running => false,
         Mode::Restarting => true,
+        Mode::Starting => false,
+    }
+}
+
+// Whether the router starts without forwarding tables (RFC 8706, 3.3.2).
+pub fn is_starting(mode: Mode) -> bool
+    ensures { λ r. ⌜ r ≡ isStarting mode ⌝ }
+{
+    match mode {
+        Mode::Running => false,
+        Mode::Restarting => false,
+        Mode::Starting => true,
     }
 }

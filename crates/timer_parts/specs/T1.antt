@@ -1,22 +1,41 @@
--- The T1 of one circuit (document 01, "Timers while Restarting"; RFC 8706, 3.1 and 3.3.1). N is the tries of the lengths s.
+-- The T1 of one circuit (document 01, "Timers while Restarting"; document 02, W-201; RFC 8706, 3.1, 3.3.1 and 3.3.2). N is the tries of
+-- the lengths s.
 use Prim.Native.Nat.{ℕ, _+_}
-use mathlib.Core.Bool.{Bool, true, false, cond, _&&_}
+use mathlib.Core.Bool.{Bool, true, false, cond, not, _&&_}
 use lib.Dec.{leb, ltb}
-use Rattle.restart_tlv.specs.Flags.{RR}
+use lib.Bits.{bitOr}
+use Rattle.restart_tlv.specs.Flags.{RR, SA}
 use Rattle.restart_tlv.specs.declared.flags.Flags.{Flags}
 use Rattle.basics.specs.declared.levels.Levels.{Levels}
 use Rattle.basics.specs.Levels.{within, union}
 use Rattle.timer_parts.specs.declared.heard.Heard.{Heard}
 use Rattle.timer_parts.specs.declared.heard.Heard.the-variants.{WithoutTlv, Acknowledged, Plain}
 use Rattle.settings.specs.declared.lengths.Lengths.{Lengths}
+use Rattle.settings.specs.declared.mode.Mode.{Mode}
+use Rattle.settings.specs.declared.mode.Mode.the-variants.{Running, Restarting, Starting}
 use Rattle.timer_parts.specs.declared.t1.Entry.{Entry}
 use Rattle.timer_parts.specs.declared.t1.T1.{T1}
 use Rattle.timer_parts.specs.declared.t1.Freed.{Freed}
 use Rattle.timer_parts.specs.declared.t1.Freed.the-variants.{Kept, Stopped, Reinitialise}
 
--- a T1 that has just begun has no expiry, no acknowledgement and no CSNP set
-unfoldable pub startEntry : ℕ → Entry
-startEntry deadline = record { deadline = deadline; tries = 0; acked = false; sets = record { one = false; two = false } }
+-- a T1 at setup, which begins it or not, has no expiry, no acknowledgement and no CSNP set
+unfoldable pub startEntry : Bool → ℕ → Entry
+startEntry begun deadline =
+    record { begun = begun; deadline = deadline; tries = 0; acked = false; sets = record { one = false; two = false } }
+
+-- Document 02, W-201: "T1 of a circuit begins when a record there first becomes UP"; up says that one becomes UP, in the mode Starting. House:
+-- it begins once, and not again after it stopped or for another record.
+unfoldable pub begins : Bool → T1 → Bool
+begins up t = up && not (t .entry .begun)
+
+-- Document 02, W-201: "Acknowledgements .. count from that first UP frame on": one that came before does not. House: the CSNP sets that were
+-- complete before do.
+unfoldable pub begin : ℕ → T1 → T1
+begin deadline t =
+    record { runs = true; entry = record { begun = true; deadline = deadline; tries = 0; acked = false; sets = t .entry .sets } }
+
+unfoldable pub begunBy : Bool → ℕ → T1 → T1
+begunBy up deadline t = cond (begins up t) (begin deadline t) t
 
 -- what was told of a T1 stays when it stops
 unfoldable pub stopT1 : T1 → T1
@@ -33,7 +52,14 @@ unfoldable pub again : Lengths → ℕ → T1 → T1
 again s clock t =
     record {
       runs = true;
-      entry = record { deadline = clock + s .t1; tries = t .entry .tries + 1; acked = t .entry .acked; sets = t .entry .sets };
+      entry =
+          record {
+            begun = t .entry .begun;
+            deadline = clock + s .t1;
+            tries = t .entry .tries + 1;
+            acked = t .entry .acked;
+            sets = t .entry .sets;
+          };
     }
 
 unfoldable pub tickT1 : Lengths → ℕ → T1 → T1
@@ -51,7 +77,14 @@ unfoldable pub acknowledged : T1 → T1
 acknowledged t =
     record {
       runs = t .runs;
-      entry = record { deadline = t .entry .deadline; tries = t .entry .tries; acked = true; sets = t .entry .sets };
+      entry =
+          record {
+            begun = t .entry .begun;
+            deadline = t .entry .deadline;
+            tries = t .entry .tries;
+            acked = true;
+            sets = t .entry .sets;
+          };
     }
 
 -- the CSNP sets of the levels n are complete
@@ -61,6 +94,7 @@ noted n t =
       runs = t .runs;
       entry =
           record {
+            begun = t .entry .begun;
             deadline = t .entry .deadline;
             tries = t .entry .tries;
             acked = t .entry .acked;
@@ -75,12 +109,19 @@ heardT1 l (Acknowledged up remaining) t = satisfied l (acknowledged t)
 heardT1 l Plain t = t
 
 -- such a frame stopped a running T1. RFC 8706, 3.3.1: with the three-way state Up and our own extended circuit ID, the adjacency
--- must be made to reinitialise; the three-way state is the daemon's to send.
-unfoldable pub freedBy : Heard → T1 → Freed
-freedBy (WithoutTlv ours) t = cond (t .runs) (cond ours Reinitialise Stopped) Kept
-freedBy (Acknowledged up remaining) t = Kept
-freedBy Plain t = Kept
+-- must be made to reinitialise; the three-way state is the daemon's to send. 3.3.2, for a router that starts, does not say so.
+unfoldable pub freedBy : Bool → Heard → T1 → Freed
+freedBy restarting (WithoutTlv ours) t = cond (t .runs) (cond (restarting && ours) Reinitialise Stopped) Kept
+freedBy restarting (Acknowledged up remaining) t = Kept
+freedBy restarting Plain t = Kept
 
--- "The next hello carries RR exactly while T1 runs, and no other flag."
-unfoldable pub helloFlags : T1 → Flags
-helloFlags t = record { bits = cond (t .runs) RR 0 }
+-- both flags, which may stand together (RFC 8706, 3.2)
+abbrev pub RRandSA : ℕ
+RRandSA = bitOr RR SA
+
+-- "The next hello carries RR exactly while T1 runs, and no other flag." Document 02, W-201: "every hello carries SA until all T2 are done",
+-- and "from its first expiry while it runs hellos carry RR and SA".
+unfoldable pub helloFlags : Mode → T1 → Flags
+helloFlags Running t = record { bits = 0 }
+helloFlags Restarting t = record { bits = cond (t .runs) RR 0 }
+helloFlags Starting t = record { bits = cond (t .runs && ltb 0 (t .entry .tries)) RRandSA SA }

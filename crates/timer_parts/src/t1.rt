@@ -1,18 +1,21 @@
-// The T1 of one circuit (document 01, "Timers while Restarting"; RFC 8706, 3.1 and 3.3.1).
+// The T1 of one circuit (document 01, "Timers while Restarting"; document 02, W-201; RFC 8706, 3.1, 3.3.1 and 3.3.2).
 use crate::heard::Heard;
 use basics::levels::Levels;
 use basics::levels::is_within;
 use basics::levels::join_levels;
 use restart_tlv::flags::Flags;
 use settings::lengths::Lengths;
+use settings::mode::Mode;
 ghost use mathlib.Core.Path.{_≡_};
-ghost use mathlib.Core.Bool.{true, cond};
-ghost use Rattle.timer_parts.specs.T1.{startEntry, stopT1, due, helloDue, again, tickT1, done, satisfied, acknowledged, noted, heardT1, freedBy, helloFlags};
+ghost use lib.Dec.{ltb};
+ghost use mathlib.Core.Bool.{true, cond, _&&_};
+ghost use Rattle.timer_parts.specs.T1.{startEntry, begins, begin, begunBy, stopT1, due, helloDue, again, tickT1, done, satisfied, acknowledged, noted, heardT1, freedBy, helloFlags};
 ghost use Rattle.timer_parts.specs.declared.t1.Freed.the-variants.{Stopped, Reinitialise};
 
-// What is kept of a T1: its deadline, its expiries so far, whether an acknowledgement came, and the levels whose CSNP set is
-// complete.
+// What is kept of a T1: whether it ever began, its deadline, its expiries so far, whether an acknowledgement came, and the levels whose CSNP set
+// is complete.
 pub struct Entry {
+    pub begun: bool,
     pub deadline: u64,
     pub tries: u8,
     pub acked: bool,
@@ -31,11 +34,12 @@ pub enum Freed {
     Reinitialise,
 }
 
-// The entry of a T1 that has just begun.
-pub fn start_entry(deadline: u64) -> Entry
-    ensures { λ r. ⌜ r ≡ startEntry deadline ⌝ }
+// The entry of a T1 at setup.
+pub fn start_entry(begun: bool, deadline: u64) -> Entry
+    ensures { λ r. ⌜ r ≡ startEntry begun deadline ⌝ }
 {
     Entry {
+        begun,
         deadline,
         tries: 0,
         acked: false,
@@ -44,6 +48,45 @@ pub fn start_entry(deadline: u64) -> Entry
             two: false,
         },
     }
+}
+
+// Whether a T1 begins; `up`: in the mode Starting a record of the circuit becomes UP.
+pub fn does_begin(up: bool, t: T1) -> bool
+    ensures { λ r. ⌜ r ≡ begins up t ⌝ }
+{
+    let begun = t.entry.begun;
+    if up {
+        return !begun;
+    }
+    false
+}
+
+// It runs, with no expiry and no acknowledgement so far.
+fn begin_t1(deadline: u64, t: T1) -> T1
+    ensures { λ r. ⌜ r ≡ begin deadline t ⌝ }
+{
+    let e = t.entry;
+    let sets = e.sets;
+    T1 {
+        runs: true,
+        entry: Entry {
+            begun: true,
+            deadline,
+            tries: 0,
+            acked: false,
+            sets,
+        },
+    }
+}
+
+// It begins, or is as it was.
+pub fn begun_by(up: bool, deadline: u64, t: T1) -> T1
+    ensures { λ r. ⌜ r ≡ begunBy up deadline t ⌝ }
+{
+    if does_begin(up, t) {
+        return begin_t1(deadline, t);
+    }
+    t
 }
 
 // Whether a running T1 is at its deadline.
@@ -81,6 +124,7 @@ fn run_again(s: Lengths, clock: u32, t: T1) -> T1
     T1 {
         runs: true,
         entry: Entry {
+            begun: e.begun,
             deadline: clock as u64 + s.t1 as u64,
             tries: tries + 1,
             acked: e.acked,
@@ -158,6 +202,7 @@ pub fn note(n: Levels, t: T1) -> T1
     T1 {
         runs: t.runs,
         entry: Entry {
+            begun: e.begun,
             deadline: e.deadline,
             tries: e.tries,
             acked: e.acked,
@@ -180,10 +225,10 @@ pub fn hear_t1(l: Levels, h: Heard, t: T1) -> T1
     }
 }
 
-fn freed_from(ours: bool) -> Freed
-    ensures { λ r. ⌜ r ≡ cond ours Reinitialise Stopped ⌝ }
+fn freed_from(restarting: bool, ours: bool) -> Freed
+    ensures { λ r. ⌜ r ≡ cond (restarting && ours) Reinitialise Stopped ⌝ }
 {
-    if ours {
+    if restarting & ours {
         Freed::Reinitialise
     } else {
         Freed::Stopped
@@ -191,12 +236,16 @@ fn freed_from(ours: bool) -> Freed
 }
 
 // Whether a frame with no Restart TLV stopped a running T1.
-pub fn freed_by(h: Heard, t: T1) -> Freed
-    ensures { λ r. ⌜ r ≡ freedBy h t ⌝ }
+pub fn freed_by(restarting: bool, h: Heard, t: T1) -> Freed
+    ensures { λ r. ⌜ r ≡ freedBy restarting h t ⌝ }
 {
     let runs = t.runs;
     match h {
-        Heard::WithoutTlv(ours) => if runs { freed_from(ours) } else { Freed::Kept },
+        Heard::WithoutTlv(ours) => if runs {
+            freed_from(restarting, ours)
+        } else {
+            Freed::Kept
+        },
         Heard::Acknowledged {
             up: _,
             remaining: _,
@@ -205,10 +254,29 @@ pub fn freed_by(h: Heard, t: T1) -> Freed
     }
 }
 
+// Whether T1 runs and has expired.
+fn is_late(t: T1) -> bool
+    ensures { λ r. ⌜ r ≡ t .runs && ltb 0 (t .entry .tries) ⌝ }
+{
+    let tries = t.entry.tries;
+    if t.runs {
+        return 0 < tries;
+    }
+    false
+}
+
 // The flags of the circuit's next hello.
-pub fn hello_flags(t: T1) -> Flags
-    ensures { λ r. ⌜ r ≡ helloFlags t ⌝ }
+pub fn hello_flags(mode: Mode, t: T1) -> Flags
+    ensures { λ r. ⌜ r ≡ helloFlags mode t ⌝ }
 {
     let runs = t.runs;
-    if runs { Flags::RR } else { Flags::NONE }
+    match mode {
+        Mode::Running => Flags::NONE,
+        Mode::Restarting => if runs { Flags::RR } else { Flags::NONE },
+        Mode::Starting => if is_late(t) {
+            Flags::RR.with(Flags::SA)
+        } else {
+            Flags::SA
+        },
+    }
 }

@@ -16,7 +16,8 @@ use Rattle.timer_parts.specs.declared.t1.T1.{T1}
 use Rattle.basics.proofs.MaskLaws.{length-bitsOf}
 use Rattle.timers.specs.Timers.{anyRuns, countRuns, firstRuns, noT1}
 use Rattle.timers.specs.Memory.{joined, t1Bits}
-use Rattle.timers.specs.Events.{startT1, helloBits}
+use Rattle.timers.specs.Hellos.{helloBits, noHellos}
+use Rattle.timers.specs.Events.{startT1}
 
 pub length-joined : (bs : List Bool) (e : ℕ → Entry) → length (joined bs e) ≡ length bs
 unfolding joined
@@ -83,19 +84,20 @@ unfolding bitsOf
 joined-stop m e = sym (none-run (t1Bits m) e)
 
 -- no hello is ordered: the mask 0
-pub bits-none : (m : ℕ) (e : ℕ → Entry) → helloBits 0 ≡ map (λ (t : T1). false) (joined (t1Bits m) e)
-unfolding bitsOf joined
-bits-none m e = refl
+pub bits-none : helloBits 0 ≡ noHellos .circuits
+unfolding bitsOf
+bits-none = refl
 
-joined-start : (bs : List Bool) (e : ℕ → Entry) (deadline : ℕ) → ((j : ℕ) → j < length bs → e j ≡ startEntry deadline)
-    → joined bs e ≡ map (startT1 deadline) bs
-unfolding joined startT1
-joined-start [] e deadline h = refl
-joined-start (b ∷ bs) e deadline h = rw (h zero (omega arith), joined-start bs (λ i. e (suc i)) deadline (λ j k. h (suc j) (omega arith)))
+module _ (begun : Bool) (deadline : ℕ) where
+  joined-start : (bs : List Bool) (e : ℕ → Entry) → ((j : ℕ) → j < length bs → e j ≡ startEntry begun deadline)
+      → joined bs e ≡ map (startT1 begun deadline) bs
+  unfolding joined startT1
+  joined-start [] e h = refl
+  joined-start (b ∷ bs) e h = rw (h zero (omega arith), joined-start bs (λ i. e (suc i)) (λ j k. h (suc j) (omega arith)))
 
-pub joined-started : (m : ℕ) (e : ℕ → Entry) (deadline : ℕ) → ((j : ℕ) → j < circuits → e j ≡ startEntry deadline)
-    → joined (t1Bits m) e ≡ map (startT1 deadline) (t1Bits m)
-joined-started m e deadline h = joined-start (t1Bits m) e deadline (λ j k. h j (rw length-bits at k))
+  pub joined-started : (m : ℕ) (e : ℕ → Entry) → ((j : ℕ) → j < circuits → e j ≡ startEntry begun deadline)
+      → joined (t1Bits m) e ≡ map (startT1 begun deadline) (t1Bits m)
+  joined-started m e h = joined-start (t1Bits m) e (λ j k. h j (rw length-bits at k))
 
 -- ---- a map done one place at a time: what is done, joined with the map of what is left. hs holds what is done (the list
 -- itself, or the hello mask's digits).

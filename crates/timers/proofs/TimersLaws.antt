@@ -7,7 +7,8 @@ use mathlib.Core.List.{List, map}
 use lib.ListN.{set, getD}
 use Rattle.basics.specs.declared.levels.Levels.{Levels}
 use Rattle.basics.specs.Mask.{circuits, countTrue, firstTrue}
-use Rattle.timer_parts.specs.T1.{startEntry, tickT1, helloDue, freedBy, satisfied, noted, heardT1}
+use Rattle.restart_tlv.specs.Flags.{RR}
+use Rattle.timer_parts.specs.T1.{startEntry, begins, tickT1, helloDue, satisfied, noted, heardT1}
 use Rattle.timer_parts.specs.T3.{heardT3}
 use Rattle.timer_parts.specs.declared.heard.Heard.{Heard}
 use Rattle.settings.specs.declared.lengths.Lengths.{Lengths}
@@ -17,20 +18,29 @@ use Rattle.timer_parts.specs.declared.t1.Freed.{Freed}
 use Rattle.timer_parts.specs.declared.t1.Freed.the-variants.{Kept}
 use Rattle.timer_parts.specs.declared.t3.T3.{T3}
 use Rattle.settings.specs.declared.mode.Mode.{Mode}
-use Rattle.settings.specs.declared.mode.Mode.the-variants.{Running, Restarting}
+use Rattle.settings.specs.declared.mode.Mode.the-variants.{Running, Restarting, Starting}
 use Rattle.timers.specs.declared.head.Head.{Head}
 use Rattle.timers.specs.declared.events.Start.{Start}
+use Rattle.timers.specs.declared.events.HeardOrders.{HeardOrders}
+use Rattle.timers.specs.declared.hellos.HelloOrder.{HelloOrder}
+use Rattle.timers.specs.declared.hellos.HelloOrder.the-variants.{Nothing}
 use Rattle.timers.specs.declared.outcome.TimerOutcome.{TimerOutcome}
 use Rattle.timers.specs.declared.outcome.TimerOutcome.the-variants.{Idle, Goes, Ended}
 use Rattle.timers.specs.declared.outcome.Overload.{Overload}
-use Rattle.timers.specs.Timers.{Timers, withT1s, withT3, countRuns, firstRuns, noT1, atT1, tickT1s, expireT2s, cancelT2s, tickT3, finish, closed, settled, toT3, ticked, heardIn, heard, csnpIn, csnpNoticed, noticeT2s, databaseNoticed}
-use Rattle.settings.specs.Mode.{isRunning}
+use Rattle.timers.specs.Timers.{Timers, withT1s, withT3, countRuns, firstRuns, noT1, atT1, tickT1s, expireT2s, cancelT2s, tickT3, finish, closed, settled, toT3, ticked, heardIn, heard, csnpIn, csnpNoticed, noticeT2s, databaseNoticed, upIn, firstT1}
+use Rattle.settings.specs.Mode.{isRunning, isRestarting, isStarting}
+use Rattle.timers.specs.Hellos.{Hellos, helloBits, ordering, noHellos, againFlags, beginHello}
 use Rattle.timers.specs.Memory.{joined, timersOf, t1Bits}
-use Rattle.timers.specs.Outcome.{outcomeWith, outcomeOf, ordered, tickHellos, heardFreed}
-use Rattle.timers.specs.Events.{startHead, startHellos, started, Starts, Closes, Ticks, Hears, helloBits}
+use Rattle.timers.specs.Outcome.{outcomeWith, outcomeOf, ordered, tickHellos, raised, freedIn, heardOrders}
+use Rattle.timers.specs.Events.{startHead, startHellos, started, Starts, Closes, Ticks, Hears}
 use Rattle.timers.proofs.T1sLaws.{countRuns-joined, firstRuns-joined, joined-started}
 
 -- ---- for the gateway
+
+not-starting : (m : Mode) → isRunning m ≡ true → isStarting m ≡ false
+not-starting Running e = refl
+not-starting Restarting e = cc
+not-starting Starting e = cc
 
 -- by the mode
 module _ (t : Timers) (on : isRunning (t .mode) ≡ false) where
@@ -42,13 +52,19 @@ module _ (t : Timers) (on : isRunning (t .mode) ≡ false) where
   unfolding ordered
   ordered-on f = rw on
 
-  pub hellos-on : (s : Lengths) (clock : ℕ) → map (helloDue s clock) (t .t1s) ≡ tickHellos s clock t
+  pub hellos-on : (s : Lengths) (clock : ℕ) → ordering (againFlags (t .mode)) (map (helloDue s clock) (t .t1s)) ≡ tickHellos s clock t
   unfolding tickHellos
   hellos-on s clock = rw on
 
-  pub freed-on : (i : ℕ) (d : Heard) → freedBy d (getD (t .t1s) i noT1) ≡ heardFreed i d t
-  unfolding heardFreed
-  freed-on i d = rw on
+  -- what an accepted hello orders, part by part
+  pub heard-on : (s : Lengths) (clock i : ℕ) (l : Levels) (rose : Bool) (d : Heard) (o : TimerOutcome) (r : Freed) (h : HelloOrder)
+      → o ≡ raised (upIn (t .mode) rose) (outcomeOf t (heardIn s clock i l rose d t) (closed (heardIn s clock i l rose d) t))
+      → r ≡ freedIn s clock (t .mode) rose d (getD (t .t1s) i noT1) → h ≡ beginHello (upIn (t .mode) rose) (getD (t .t1s) i noT1)
+      → record { outcome = o; freed = r; hello = h } ≡ heardOrders s clock i l rose d t
+  unfolding heardOrders
+  heard-on s clock i l rose d o r h p q e =
+      let f = heardIn s clock i l rose d in
+      rw (p, q, e, sym (ordered-on f), on)
 
 module _ (t : Timers) (off : isRunning (t .mode) ≡ true) where
   pub settled-off : (f : Timers → Timers) → t ≡ settled f t
@@ -59,13 +75,14 @@ module _ (t : Timers) (off : isRunning (t .mode) ≡ true) where
   unfolding ordered
   ordered-off f = rw off
 
-  pub hellos-off : (s : Lengths) (clock : ℕ) → map (λ x. false) (t .t1s) ≡ tickHellos s clock t
+  pub hellos-off : (s : Lengths) (clock : ℕ) → noHellos ≡ tickHellos s clock t
   unfolding tickHellos
   hellos-off s clock = rw off
 
-  pub freed-off : (i : ℕ) (d : Heard) → Kept ≡ heardFreed i d t
-  unfolding heardFreed
-  freed-off i d = rw off
+  pub heard-off : (s : Lengths) (clock i : ℕ) (l : Levels) (rose : Bool) (d : Heard)
+      → record { outcome = Idle; freed = Kept; hello = Nothing } ≡ heardOrders s clock i l rose d t
+  unfolding heardOrders raised beginHello begins
+  heard-off s clock i l rose d = rw (sym (ordered-off (heardIn s clock i l rose d)), off, not-starting (t .mode) off)
 
 module _ (t : Timers) (run : t .mode ≡ Running) where
   -- any call, by its own step
@@ -73,16 +90,15 @@ module _ (t : Timers) (run : t .mode ≡ Running) where
   settled-running f = (sym (settled-off t (ap isRunning run) f), sym (ordered-off t (ap isRunning run) f))
 
   pub ticked-running : (s : Lengths) (clock : ℕ)
-      → (ticked s clock t ≡ t) × (ordered (toT3 s clock) t ≡ Idle) × (tickHellos s clock t ≡ map (λ x. false) (t .t1s))
+      → (ticked s clock t ≡ t) × (ordered (toT3 s clock) t ≡ Idle) × (tickHellos s clock t ≡ noHellos)
   ticked-running s clock =
       let k = settled-running (toT3 s clock) in
       (k .0, k .1, sym (hellos-off t (ap isRunning run) s clock))
 
-  pub heard-running : (clock i : ℕ) (l : Levels) (d : Heard)
-      → (heard clock i l d t ≡ t) × (ordered (heardIn clock i l d) t ≡ Idle) × (heardFreed i d t ≡ Kept)
-  heard-running clock i l d =
-      let k = settled-running (heardIn clock i l d) in
-      (k .0, k .1, sym (freed-off t (ap isRunning run) i d))
+  pub heard-running : (s : Lengths) (clock i : ℕ) (l : Levels) (rose : Bool) (d : Heard)
+      → (heard s clock i l rose d t ≡ t) × (heardOrders s clock i l rose d t ≡ record { outcome = Idle; freed = Kept; hello = Nothing })
+  heard-running s clock i l rose d =
+      (settled-running (heardIn s clock i l rose d) .0, sym (heard-off t (ap isRunning run) s clock i l rose d))
 
   pub csnp-running : (i : ℕ) (l n : Levels) → (csnpNoticed i l n t ≡ t) × (ordered (csnpIn i l n) t ≡ Idle)
   csnp-running i l n = settled-running (csnpIn i l n)
@@ -109,6 +125,7 @@ by-mode : (m : Mode) (o : TimerOutcome) → isIdle o ≡ false → cond (isRunni
 unfolding isIdle
 by-mode Running o h e = refl
 by-mode Restarting o h e = absurd (true≢false (sym (ap isIdle e) ∙ h))
+by-mode Starting o h e = absurd (true≢false (sym (ap isIdle e) ∙ h))
 
 pub idle-running : (f : Timers → Timers) (t : Timers) → ordered f t ≡ Idle → t .mode ≡ Running
 unfolding ordered outcomeOf
@@ -125,17 +142,23 @@ closes f t mid after o p q =
       outcome = q .1 ∙ ap (λ (x : Timers). outcomeOf t x (finish (cancelT2s x))) p;
     }
 
-pub ticks : (s : Lengths) (clock : ℕ) (h : Head) (e : ℕ → Entry) (after : Timers) (o : TimerOutcome) (hs : List Bool)
-    → Closes (toT3 s clock) (timersOf h e) after o → hs ≡ map (helloDue s clock) (joined (t1Bits (h .mask)) e)
+pub ticks : (s : Lengths) (clock : ℕ) (h : Head) (e : ℕ → Entry) (after : Timers) (o : TimerOutcome) (hs : Hellos)
+    → Closes (toT3 s clock) (timersOf h e) after o → hs ≡ ordering (againFlags (h .mode)) (map (helloDue s clock) (joined (t1Bits (h .mask)) e))
     → Ticks s clock (timersOf h e) after o hs
 unfolding timersOf
 ticks s clock h e after o hs c d = record { closes = c; hellos = d }
 
-pub hears : (clock i : ℕ) (l : Levels) (d : Heard) (h : Head) (e : ℕ → Entry) (after : Timers) (o : TimerOutcome) (r : Freed)
-    → Closes (heardIn clock i l d) (timersOf h e) after o → r ≡ freedBy d (getD (joined (t1Bits (h .mask)) e) i noT1)
-    → Hears clock i l d (timersOf h e) after o r
+pub hears : (s : Lengths) (clock i : ℕ) (l : Levels) (rose : Bool) (d : Heard) (h : Head) (e : ℕ → Entry) (after : Timers) (o₀ o : TimerOutcome)
+    (r : Freed) (x : HelloOrder) → isRunning (h .mode) ≡ false → Closes (heardIn s clock i l rose d) (timersOf h e) after o₀
+    → o ≡ raised (upIn (h .mode) rose) o₀ → r ≡ freedIn s clock (h .mode) rose d (getD (joined (t1Bits (h .mask)) e) i noT1)
+    → x ≡ beginHello (upIn (h .mode) rose) (getD (joined (t1Bits (h .mask)) e) i noT1)
+    → Hears s clock i l rose d (timersOf h e) after (record { outcome = o; freed = r; hello = x })
 unfolding timersOf
-hears clock i l d h e after o r c f = record { closes = c; freed = f }
+hears s clock i l rose d h e after o₀ o r x on c p q k =
+    record {
+      timers = c .timers;
+      orders = heard-on (timersOf h e) on s clock i l rose d o r x (p ∙ ap (raised (upIn (h .mode) rose)) (c .outcome)) q k;
+    }
 
 pub count-of : (h : Head) (e : ℕ → Entry) → countTrue (t1Bits (h .mask)) ≡ countRuns (timersOf h e .t1s)
 unfolding timersOf
@@ -162,20 +185,22 @@ pub t1-stored : (h : Head) (m i : ℕ) (e f : ℕ → Entry) (g : T1 → T1) (t 
 unfolding withT1s timersOf atT1
 t1-stored h m i e f g t p q = rw (q, p)
 
-pub heardIn-is : (clock i : ℕ) (l : Levels) (d : Heard) (h : Head) (e : ℕ → Entry) (u : Timers) (x : T3)
-    → u ≡ atT1 i (heardT1 l d) (timersOf h e) → x ≡ heardT3 clock d (h .t3) → withT3 u x ≡ heardIn clock i l d (timersOf h e)
+pub heardIn-is : (s : Lengths) (clock i : ℕ) (l : Levels) (rose : Bool) (d : Heard) (h : Head) (e : ℕ → Entry) (u : Timers) (x : T3)
+    → u ≡ atT1 i (λ t. heardT1 l d (firstT1 s clock (h .mode) rose t)) (timersOf h e) → x ≡ heardT3 clock d (h .t3)
+    → withT3 u x ≡ heardIn s clock i l rose d (timersOf h e)
 unfolding heardIn timersOf
-heardIn-is clock i l d h e u x p q = rw (p, q)
+heardIn-is s clock i l rose d h e u x p q = rw (p, q)
 
 pub csnpIn-is : (i : ℕ) (l n : Levels) (t : Timers) → atT1 i (λ x. satisfied l (noted n x)) t ≡ csnpIn i l n t
 unfolding csnpIn
 csnpIn-is i l n t = refl
 
-pub starts : (s : Start) (h : Head) (e : ℕ → Entry) → h ≡ startHead s → ((j : ℕ) → j < circuits → e j ≡ startEntry (s .clock + s .lengths .t1))
-    → Starts s (timersOf h e) (helloBits (h .mask))
+pub starts : (s : Start) (h : Head) (e : ℕ → Entry) (hs : Hellos) → h ≡ startHead s
+    → ((j : ℕ) → j < circuits → e j ≡ startEntry (isRestarting (s .mode)) (s .clock + s .lengths .t1)) → hs ≡ ordering RR (helloBits (h .mask))
+    → Starts s (timersOf h e) hs
 unfolding timersOf started startHellos
-starts s h e p k =
+starts s h e hs p k q =
     record {
-      timers = rw (p, joined-started (startHead s .mask) e (s .clock + s .lengths .t1) k);
-      hellos = ap (λ (x : Head). helloBits (x .mask)) p;
+      timers = rw (p, joined-started (isRestarting (s .mode)) (s .clock + s .lengths .t1) (startHead s .mask) e k);
+      hellos = q ∙ ap (λ (x : Head). ordering RR (helloBits (x .mask))) p;
     }

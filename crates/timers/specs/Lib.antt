@@ -1,4 +1,5 @@
 pub mod Timers
 pub mod Memory
+pub mod Hellos
 pub mod Outcome
 pub mod Events

@@ -21,10 +21,11 @@ t1Bits m = bitsOf t1Count m
 abbrev pub wordCount : ℕ
 wordCount = 2 * t1Count
 
--- the deadline; the expiries, the acknowledgement and the CSNP sets
+-- the deadline; the expiries, the acknowledgement, the CSNP sets, and whether it ever began
 unfoldable pub entryOf : ℕ → ℕ → Entry
 entryOf a b =
     record {
+      begun = eqb (b / 2048 % 2) 1;
       deadline = a;
       tries = b % 256;
       acked = eqb (b / 256 % 2) 1;

@@ -1,8 +1,8 @@
 -- How a call ends, and what it orders, of the timers before it, after its own step, and after all of it (document 01, "Timers
--- while Restarting").
+-- while Restarting"; document 02, W-201).
 use Prim.Native.Nat.{ℕ}
-use mathlib.Core.Bool.{Bool, true, false, cond, not, _&&_}
-use mathlib.Core.List.{List, map}
+use mathlib.Core.Bool.{Bool, true, false, cond, not, _&&_, _||_}
+use mathlib.Core.List.{map}
 use lib.ListN.{getD}
 use Rattle.basics.specs.declared.levels.Levels.{Levels}
 use Rattle.timer_parts.specs.T1.{helloDue, freedBy}
@@ -10,14 +10,18 @@ use Rattle.timer_parts.specs.T2.{spfDue}
 use Rattle.timer_parts.specs.T3.{expiredT3}
 use Rattle.timer_parts.specs.declared.heard.Heard.{Heard}
 use Rattle.settings.specs.declared.lengths.Lengths.{Lengths}
+use Rattle.settings.specs.declared.mode.Mode.{Mode}
 use Rattle.timer_parts.specs.declared.t1.Freed.{Freed}
 use Rattle.timer_parts.specs.declared.t1.Freed.the-variants.{Kept}
+use Rattle.timer_parts.specs.declared.t1.T1.{T1}
 use Rattle.timers.specs.declared.outcome.Overload.{Overload}
 use Rattle.timers.specs.declared.outcome.Overload.the-variants.{Quiet, Set, Clear, Both}
 use Rattle.timers.specs.declared.outcome.TimerOutcome.{TimerOutcome}
 use Rattle.timers.specs.declared.outcome.TimerOutcome.the-variants.{Idle, Goes, Ended}
-use Rattle.settings.specs.Mode.{isRunning}
-use Rattle.timers.specs.Timers.{Timers, closed, noT1}
+use Rattle.timers.specs.declared.events.HeardOrders.{HeardOrders}
+use Rattle.settings.specs.Mode.{isRunning, isRestarting, isStarting}
+use Rattle.timers.specs.Hellos.{Hellos, ordering, noHellos, againFlags, beginHello}
+use Rattle.timers.specs.Timers.{Timers, closed, noT1, upIn, firstT1, heardIn}
 
 unfoldable pub overloadOf : Bool → Bool → Overload
 overloadOf false false = Quiet
@@ -25,9 +29,12 @@ overloadOf true false = Set
 overloadOf false true = Clear
 overloadOf true true = Both
 
--- overload is ordered where T3 expired in the call's own step, and "had it expired, overload is ordered clear" at the mode's end
+-- overload is ordered where T3 expired in the call's own step, and "had it expired, overload is ordered clear" at the mode's end; document 02,
+-- W-201: "the last T2 done orders it clear", in the mode Starting whether or not it was ordered set (house)
 unfoldable pub overloadDue : Timers → Timers → Timers → Overload
-overloadDue before mid after = overloadOf (not (expiredT3 (before .t3)) && expiredT3 (mid .t3)) (isRunning (after .mode) && expiredT3 (mid .t3))
+overloadDue before mid after =
+    overloadOf (not (expiredT3 (before .t3)) && expiredT3 (mid .t3))
+    (isRunning (after .mode) && (expiredT3 (mid .t3) || isStarting (before .mode)))
 
 unfoldable pub outcomeWith : Bool → Levels → Overload → TimerOutcome
 outcomeWith ended spf overload = cond ended (Ended spf overload) (Goes spf overload)
@@ -39,10 +46,33 @@ outcomeOf before mid after = outcomeWith (isRunning (after .mode)) (spfDue (befo
 unfoldable pub ordered : (Timers → Timers) → Timers → TimerOutcome
 ordered f t = cond (isRunning (t .mode)) Idle (outcomeOf t (f t) (closed f t))
 
--- the hellos that a tick orders, circuit by circuit
-unfoldable pub tickHellos : Lengths → ℕ → Timers → List Bool
-tickHellos s clock t = cond (isRunning (t .mode)) (map (λ x. false) (t .t1s)) (map (helloDue s clock) (t .t1s))
+-- the hellos that a tick orders
+unfoldable pub tickHellos : Lengths → ℕ → Timers → Hellos
+tickHellos s clock t = cond (isRunning (t .mode)) noHellos (ordering (againFlags (t .mode)) (map (helloDue s clock) (t .t1s)))
 
--- whether a hello on circuit i stopped its T1 for want of a Restart TLV
-unfoldable pub heardFreed : ℕ → Heard → Timers → Freed
-heardFreed i d t = cond (isRunning (t .mode)) Kept (freedBy d (getD (t .t1s) i noT1))
+-- ---- an accepted hello
+
+-- document 02, W-201: "each record becoming UP orders the zeroth LSP with overload"; where it is ordered clear too, it is set first
+abbrev pub alsoSet : Overload → Overload
+alsoSet Quiet = Set
+alsoSet Set = Set
+alsoSet Clear = Both
+alsoSet Both = Both
+
+unfoldable pub raised : Bool → TimerOutcome → TimerOutcome
+raised up Idle = Idle
+raised up (Goes spf overload) = Goes spf (cond up (alsoSet overload) overload)
+raised up (Ended spf overload) = Ended spf (cond up (alsoSet overload) overload)
+
+-- whether it stopped its circuit's T1, here x, for want of a Restart TLV
+unfoldable pub freedIn : Lengths → ℕ → Mode → Bool → Heard → T1 → Freed
+freedIn s clock mode rose d x = freedBy (isRestarting mode) d (firstT1 s clock mode rose x)
+
+-- all that it orders of the timers; circuit i's T1 begins, is kept or is stopped
+unfoldable pub heardOrders : Lengths → ℕ → ℕ → Levels → Bool → Heard → Timers → HeardOrders
+heardOrders s clock i l rose d t =
+    record {
+      outcome = raised (upIn (t .mode) rose) (ordered (heardIn s clock i l rose d) t);
+      freed = cond (isRunning (t .mode)) Kept (freedIn s clock (t .mode) rose d (getD (t .t1s) i noT1));
+      hello = beginHello (upIn (t .mode) rose) (getD (t .t1s) i noT1);
+    }

@@ -1,13 +1,13 @@
--- All timers of a gateway that restarts, and what each call does to them (document 01, "Timers while Restarting"; RFC 8706, 3.1
--- and 3.3.1). A step is a function from Timers to Timers; what a call orders is read off the timers before and after (Outcome).
+-- All timers of a gateway that restarts or starts, and what each call does to them (document 01, "Timers while Restarting"; document 02,
+-- W-201; RFC 8706, 3.1, 3.3.1 and 3.3.2). A step is a function from Timers to Timers; what a call orders is read off the timers before and after (Outcome).
 use Prim.Native.Nat.{ℕ, suc, _+_}
-use mathlib.Core.Bool.{Bool, false, cond, _||_}
+use mathlib.Core.Bool.{Bool, false, cond, _&&_, _||_}
 use mathlib.Core.List.{List, [], _∷_, map}
 use lib.ListN.{getD, set}
-use Rattle.settings.specs.Mode.{isRunning}
+use Rattle.settings.specs.Mode.{isRunning, isStarting}
 use Rattle.basics.specs.declared.levels.Levels.{Levels}
 use Rattle.basics.specs.Levels.{Level, levelsWith}
-use Rattle.timer_parts.specs.T1.{startEntry, stopT1, tickT1, satisfied, noted, heardT1}
+use Rattle.timer_parts.specs.T1.{startEntry, begunBy, stopT1, tickT1, satisfied, noted, heardT1}
 use Rattle.timer_parts.specs.T2.{anyT2, expireBoth, cancelBoth, noticeBoth}
 use Rattle.timer_parts.specs.T3.{expiresT3, heardT3}
 use Rattle.basics.specs.declared.mask.Lowest.{Lowest}
@@ -55,7 +55,7 @@ firstRuns (t ∷ ts) k = cond (t .runs) (Circuit k) (firstRuns ts (suc k))
 
 -- what stands past the list's end
 unfoldable pub noT1 : T1
-noT1 = record { runs = false; entry = startEntry 0 }
+noT1 = record { runs = false; entry = startEntry false 0 }
 
 -- the T1 of circuit i (from 0) changes
 unfoldable pub atT1 : ℕ → (T1 → T1) → Timers → Timers
@@ -80,8 +80,8 @@ cancelT2s t = withT2s t (cancelBoth (levelsWith (λ k. waits k t)) (t .t2s))
 unfoldable pub tickT3 : ℕ → Timers → Timers
 tickT3 clock t = cond (expiresT3 clock (t .t2s) (t .t3)) (withT3 (withT1s t (map stopT1 (t .t1s))) Expired) t
 
--- "When no T2 runs, T3 is cancelled .., all T1 stop (house) and the mode is Running." House, over RFC 8706, 3.3.1, which ends T1 by
--- other conditions alone.
+-- "When no T2 runs, T3 is cancelled .., all T1 stop (house) and the mode is Running." House, over RFC 8706, 3.3.1 and 3.3.2, which end T1
+-- by other conditions alone.
 unfoldable pub over : Timers → Timers
 over t = record { mode = Running; t1s = map stopT1 (t .t1s); t2s = t .t2s; t3 = Idle }
 
@@ -106,12 +106,20 @@ toT3 s clock t = tickT3 clock (cancelT2s (expireT2s clock (tickT1s s clock t)))
 abbrev pub ticked : Lengths → ℕ → Timers → Timers
 ticked s clock t = settled (toT3 s clock) t
 
--- an accepted hello on circuit i, which has the levels l
-unfoldable pub heardIn : ℕ → ℕ → Levels → Heard → Timers → Timers
-heardIn clock i l d t = withT3 (atT1 i (heardT1 l d) t) (heardT3 clock d (t .t3))
+-- Document 02, W-201: a record becomes UP while the mode is Starting; rose says that the frame's record becomes UP.
+abbrev pub upIn : Mode → Bool → Bool
+upIn mode rose = isStarting mode && rose
 
-abbrev pub heard : ℕ → ℕ → Levels → Heard → Timers → Timers
-heard clock i l d t = settled (heardIn clock i l d) t
+-- T1 begins before the frame is heard: "Acknowledgements and the P2P frame without the TLV count from that first UP frame on"
+abbrev pub firstT1 : Lengths → ℕ → Mode → Bool → T1 → T1
+firstT1 s clock mode rose x = begunBy (upIn mode rose) (clock + s .t1) x
+
+-- an accepted hello on circuit i, which has the levels l
+unfoldable pub heardIn : Lengths → ℕ → ℕ → Levels → Bool → Heard → Timers → Timers
+heardIn s clock i l rose d t = withT3 (atT1 i (λ x. heardT1 l d (firstT1 s clock (t .mode) rose x)) t) (heardT3 clock d (t .t3))
+
+abbrev pub heard : Lengths → ℕ → ℕ → Levels → Bool → Heard → Timers → Timers
+heard s clock i l rose d t = settled (heardIn s clock i l rose d) t
 
 -- the CSNP sets of the levels n are complete on circuit i, which has the levels l
 unfoldable pub csnpIn : ℕ → Levels → Levels → Timers → Timers

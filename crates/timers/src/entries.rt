@@ -1,7 +1,7 @@
 // The T1s of all circuits: a mask of those that run, and an entry for each circuit in two lent words. Circuits count from 0 here.
 //
 //   word  2 i       2 i + 1
-//         deadline  expiries + 256 acknowledged + 512 CSNP set of level 1 + 1024 CSNP set of level 2
+//         deadline  expiries + 256 acknowledged + 512 CSNP set of level 1 + 1024 CSNP set of level 2 + 2048 begun
 use basics::bits::digit;
 use basics::levels::Levels;
 use basics::mask::CIRCUITS;
@@ -19,7 +19,7 @@ ghost use mathlib.Core.Logic.{_≢_};
 ghost use mathlib.Core.List.{map};
 ghost use Prim.Native.Nat.{ℕ, _<_};
 ghost use lib.ListN.{set, getD, length};
-ghost use Rattle.timers.specs.Events.{helloBits};
+ghost use Rattle.timers.specs.Hellos.{helloBits};
 ghost use Rattle.basics.specs.Mask.{circuits};
 ghost use Rattle.timer_parts.specs.T1.{tickT1, helloDue, startEntry};
 ghost use Rattle.timers.specs.Timers.{noT1};
@@ -39,7 +39,8 @@ fn second_word(e: Entry) -> u64
     let a = digit(e.acked);
     let b = digit(sets.one);
     let d = digit(sets.two);
-    tries as u64 + 256 * a + 512 * b + 1024 * d
+    let g = digit(e.begun);
+    tries as u64 + 256 * a + 512 * b + 1024 * d + 2048 * g
 }
 
 fn load_entry(words: &[u64], i: usize) -> Entry
@@ -49,6 +50,7 @@ fn load_entry(words: &[u64], i: usize) -> Entry
     let a = words[2 * i];
     let b = words[2 * i + 1];
     Entry {
+        begun: b / 2048 % 2 == 1,
         deadline: a,
         tries: (b % 256) as u8,
         acked: b / 256 % 2 == 1,
@@ -129,14 +131,14 @@ pub fn tick_t1s(words: &mut [u64], mask: u8, s: Lengths, clock: u32) -> Masks
     m
 }
 
-// Each circuit's entry as a T1 has it that has just begun.
-pub fn fill_entries(words: &mut [u64], deadline: u64)
+// Each circuit's entry as setup leaves it.
+pub fn fill_entries(words: &mut [u64], begun: bool, deadline: u64)
     requires { ⌜ length (now words) ≡ wordCount ⌝ }
-    ensures { λ _. ⌜ ((j : ℕ) → j < circuits → entryAt (now (words .exit)) j ≡ startEntry deadline) ⌝ }
+    ensures { λ _. ⌜ ((j : ℕ) → j < circuits → entryAt (now (words .exit)) j ≡ startEntry begun deadline) ⌝ }
 {
     let mut i = 0;
     while i < T1S {
-        store_entry(words, i, start_entry(deadline));
+        store_entry(words, i, start_entry(begun, deadline));
         i += 1;
     }
 }

@@ -9,14 +9,23 @@ use crate::head::notice_t2s;
 use crate::head::tick_head;
 use crate::head::with_mask;
 use crate::head::with_t3;
+use crate::hellos::HelloOrder;
+use crate::hellos::HelloOrders;
+use crate::hellos::again_flags;
+use crate::hellos::begin_hello;
+use crate::hellos::order_hellos;
 use crate::outcome::TimerOutcome;
+use crate::outcome::raise;
 use crate::outcome::settle;
 use basics::levels::Levels;
 use restart_tlv::flags::Flags;
 use settings::lengths::Lengths;
 use settings::mode::Mode;
+use settings::mode::is_restarting;
+use settings::mode::is_starting;
 use timer_parts::heard::Heard;
 use timer_parts::t1::Freed;
+use timer_parts::t1::begun_by;
 use timer_parts::t1::freed_by;
 use timer_parts::t1::hear_t1;
 use timer_parts::t1::hello_flags;
@@ -26,6 +35,8 @@ use timer_parts::t2::start_t2s;
 use timer_parts::t3::T3;
 use timer_parts::t3::hear_t3;
 ghost use mathlib.Core.Path.{_≡_};
+ghost use mathlib.Core.Bool.{false};
+ghost use Rattle.settings.specs.Mode.{isRunning};
 ghost use Prim.Native.Nat.{ℕ, _<_};
 ghost use lib.ListN.{length, getD};
 ghost use Rattle.basics.specs.Mask.{circuits};
@@ -33,7 +44,8 @@ ghost use Rattle.timer_parts.specs.T1.{helloFlags};
 ghost use Rattle.timer_parts.specs.declared.t1.Entry.{Entry};
 ghost use Rattle.timers.specs.Timers.{noT1, csnpIn, noticeT2s};
 ghost use Rattle.timers.specs.Memory.{wordCount, timersOf, timersAt};
-ghost use Rattle.timers.specs.Events.{startHead, Starts, Closes, Ticks, Hears, helloBits};
+ghost use Rattle.timers.specs.Events.{startHead, Starts, Closes, Ticks, Hears};
+ghost use Rattle.timers.specs.Hellos.{hellosOf};
 
 // What setup gives to the timers: the mode, the lengths, the clock, the mask of the circuits that are there, and the levels that
 // are enabled on some circuit.
@@ -47,19 +59,26 @@ pub struct Start {
 
 pub struct AfterStart {
     pub head: Head,
-    pub hellos: u8,
+    pub hellos: HelloOrders,
 }
 
 pub struct AfterTick {
     pub head: Head,
-    pub hellos: u8,
+    pub hellos: HelloOrders,
     pub outcome: TimerOutcome,
+}
+
+// What an accepted hello orders: how the timers ended, whether the circuit's T1 was stopped for want of a Restart TLV, and the hello that it
+// began with.
+pub struct HeardOrders {
+    pub outcome: TimerOutcome,
+    pub freed: Freed,
+    pub hello: HelloOrder,
 }
 
 pub struct AfterHello {
     pub head: Head,
-    pub outcome: TimerOutcome,
-    pub freed: Freed,
+    pub orders: HeardOrders,
 }
 
 pub struct AfterNotice {
@@ -97,32 +116,42 @@ fn start_head(s: Start) -> Head
                 t3: T3::Runs(clock as u64 + 65535),
             }
         }
+        Mode::Starting => {
+            let t2s = start_t2s(levels, clock as u64 + lengths.t2 as u64);
+            Head {
+                mode,
+                mask: 0,
+                t2s,
+                t3: T3::Idle,
+            }
+        }
     }
 }
 
 // The timers as setup leaves them, and the hellos that it orders.
 pub fn start_timers(words: &mut [u64], s: Start) -> AfterStart
     requires { ⌜ length (now words) ≡ wordCount ⌝ }
-    ensures { λ r. ⌜ Starts s (timersAt (r .head) (now (words .exit))) (helloBits (r .hellos)) ⌝ }
+    ensures { λ r. ⌜ Starts s (timersAt (r .head) (now (words .exit))) (hellosOf (r .hellos)) ⌝ }
 {
+    let mode = s.mode;
     let lengths = s.lengths;
     let clock = s.clock;
-    fill_entries(words, clock as u64 + lengths.t1 as u64);
+    let begun = is_restarting(mode);
+    fill_entries(words, begun, clock as u64 + lengths.t1 as u64);
     let head = start_head(s);
-    AfterStart {
-        head,
-        hellos: head.mask,
-    }
+    let hellos = order_hellos(head.mask, Flags::RR);
+    AfterStart { head, hellos }
 }
 
 // A tick, after its records.
 pub fn tick_timers(words: &mut [u64], h: Head, s: Lengths, clock: u32) -> AfterTick
     requires { ⌜ length (now words) ≡ wordCount ⌝ }
-    ensures { λ r. ⌜ Ticks s clock (timersAt h (now (words .entry))) (timersAt (r .head) (now (words .exit))) (r .outcome) (helloBits (r .hellos)) ⌝ }
+    ensures { λ r. ⌜ Ticks s clock (timersAt h (now (words .entry))) (timersAt (r .head) (now (words .exit))) (r .outcome) (hellosOf (r .hellos)) ⌝ }
 {
+    let mode = h.mode;
     let m = tick_t1s(words, h.mask, s, clock);
     let mask = m.mask;
-    let hellos = m.hellos;
+    let hellos = order_hellos(m.hellos, again_flags(mode));
     let mid = tick_head(clock, with_mask(h, mask));
     let end = settle(h, mid);
     let head = end.head;
@@ -134,33 +163,41 @@ pub fn tick_timers(words: &mut [u64], h: Head, s: Lengths, clock: u32) -> AfterT
     }
 }
 
-// An accepted hello on circuit i, which has the levels `l`.
+// An accepted hello on circuit i, which has the levels `l`; `rose`: its record becomes UP.
 pub fn hear_hello(
     words: &mut [u64],
     h: Head,
+    s: Lengths,
     clock: u32,
     i: usize,
     l: Levels,
+    rose: bool,
     d: Heard,
 ) -> AfterHello
-    requires { ⌜ (length (now words) ≡ wordCount) × (i < circuits) ⌝ }
-    ensures { λ r. ⌜ Hears clock i l d (timersAt h (now (words .entry))) (timersAt (r .head) (now (words .exit))) (r .outcome) (r .freed) ⌝ }
+    requires { ⌜ (length (now words) ≡ wordCount) × (i < circuits) × (isRunning (h .mode) ≡ false) ⌝ }
+    ensures { λ r. ⌜ Hears s clock i l rose d (timersAt h (now (words .entry))) (timersAt (r .head) (now (words .exit))) (r .orders) ⌝ }
 {
+    let mode = h.mode;
     let m = h.mask;
     let x = h.t3;
+    let up = is_starting(mode) & rose;
     let t = load_t1(words, m, i);
-    let freed = freed_by(d, t);
-    let next = hear_t1(l, d, t);
+    let hello = begin_hello(up, t);
+    let first = begun_by(up, clock as u64 + s.t1 as u64, t);
+    let freed = freed_by(is_restarting(mode), d, first);
+    let next = hear_t1(l, d, first);
     let mask = store_t1(words, m, i, next);
     let t3 = hear_t3(clock, d, x);
     let end = settle(h, with_t3(with_mask(h, mask), t3));
     let head = end.head;
-    let outcome = end.outcome;
-    AfterHello {
-        head,
+    let ended = end.outcome;
+    let outcome = raise(up, ended);
+    let orders = HeardOrders {
         outcome,
         freed,
-    }
+        hello,
+    };
+    AfterHello { head, orders }
 }
 
 // The CSNP sets of the levels `n` are complete on circuit i, which has the levels `l`.
@@ -191,7 +228,8 @@ pub fn notice_database(h: Head, n: Levels) -> AfterNotice
 // The flags of the next hello on circuit i.
 pub fn next_flags(words: &[u64], h: Head, i: usize) -> Flags
     requires { ⌜ (length (now words) ≡ wordCount) × (i < circuits) ⌝ }
-    ensures { λ r. ⌜ r ≡ helloFlags (getD (timersAt h (now (words .entry)) .t1s) i noT1) ⌝ }
+    ensures { λ r. ⌜ r ≡ helloFlags (h .mode) (getD (timersAt h (now (words .entry)) .t1s) i noT1) ⌝ }
 {
-    hello_flags(load_t1(words, h.mask, i))
+    let mode = h.mode;
+    hello_flags(mode, load_t1(words, h.mask, i))
 }

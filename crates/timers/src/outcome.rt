@@ -4,14 +4,16 @@ use crate::head::cancel_t2s;
 use crate::head::end_restart;
 use basics::levels::Levels;
 use settings::mode::is_running;
+use settings::mode::is_starting;
 use timer_parts::t2::spf_due;
 use timer_parts::t3::is_expired;
 ghost use mathlib.Core.Path.{_≡_};
+ghost use mathlib.Core.Bool.{cond};
 ghost use Prim.Native.Nat.{ℕ};
 ghost use Rattle.timer_parts.specs.declared.t1.Entry.{Entry};
 ghost use Rattle.timers.specs.Timers.{finish, cancelT2s};
 ghost use Rattle.timers.specs.Memory.{timersOf};
-ghost use Rattle.timers.specs.Outcome.{overloadOf, outcomeWith, outcomeOf};
+ghost use Rattle.timers.specs.Outcome.{overloadOf, outcomeWith, outcomeOf, alsoSet, raised};
 
 // Overload is ordered set, clear, both in this order, or not at all.
 pub enum Overload {
@@ -21,7 +23,7 @@ pub enum Overload {
     Both,
 }
 
-// Idle: the mode was Running. Goes: it is Restarting still. Ended: it is Running from this call on. With the levels whose SPF is
+// Idle: the mode was Running. Goes: it is Restarting or Starting still. Ended: it is Running from this call on. With the levels whose SPF is
 // ordered, and the overload order.
 pub enum TimerOutcome {
     Idle,
@@ -29,7 +31,7 @@ pub enum TimerOutcome {
     Ended { spf: Levels, overload: Overload },
 }
 
-// What a call leaves, where the mode was Restarting.
+// What a call leaves, where the mode was not Running.
 pub struct Settled {
     pub head: Head,
     pub outcome: TimerOutcome,
@@ -68,12 +70,47 @@ fn outcome_of(before: Head, mid: Head, after: Head) -> TimerOutcome
     let a = before.t2s;
     let b = after.t2s;
     let mode = after.mode;
+    let first = before.mode;
     let spf = spf_due(a, b);
     let was = is_expired(old);
     let is = is_expired(own);
     let ended = is_running(mode);
-    let overload = overload_of(!was & is, ended & is);
+    let overload = overload_of(!was & is, ended & (is | is_starting(first)));
     outcome_with(ended, spf, overload)
+}
+
+fn also_set(overload: Overload) -> Overload
+    ensures { λ r. ⌜ r ≡ alsoSet overload ⌝ }
+{
+    match overload {
+        Overload::Quiet => Overload::Set,
+        Overload::Set => Overload::Set,
+        Overload::Clear => Overload::Both,
+        Overload::Both => Overload::Both,
+    }
+}
+
+fn set_if(up: bool, overload: Overload) -> Overload
+    ensures { λ r. ⌜ r ≡ cond up (alsoSet overload) overload ⌝ }
+{
+    if up { also_set(overload) } else { overload }
+}
+
+// The outcome of an accepted hello; `up`: in the mode Starting its record becomes UP.
+pub fn raise(up: bool, o: TimerOutcome) -> TimerOutcome
+    ensures { λ r. ⌜ r ≡ raised up o ⌝ }
+{
+    match o {
+        TimerOutcome::Idle => TimerOutcome::Idle,
+        TimerOutcome::Goes { spf, overload } => {
+            let overload = set_if(up, overload);
+            TimerOutcome::Goes { spf, overload }
+        }
+        TimerOutcome::Ended { spf, overload } => {
+            let overload = set_if(up, overload);
+            TimerOutcome::Ended { spf, overload }
+        }
+    }
 }
 
 // The tail of every call: T2 cancelling, then the end of the mode. `mid` is what the call's own step left.

@@ -51,6 +51,7 @@ pub(crate) struct Own {
     /// The circuit's configured holding time.
     pub(crate) hold: u16,
     pub(crate) clock: u32,
+    /// The mode is Restarting; Starting steps as Running does (document 02, W-201).
     pub(crate) restarting: bool,
 }
 

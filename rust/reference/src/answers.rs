@@ -1,9 +1,27 @@
 //! What the calls answer.
 
 use crate::settings::{Levels, SystemId, MAX_CIRCUITS};
+use crate::tlvs::Flags;
 
-/// For each circuit, whether a hello is ordered on it; circuit 1 comes first.
-pub type Hellos = [bool; MAX_CIRCUITS];
+/// Orders for hellos.
+#[derive(Clone, Copy, Debug, PartialEq, Eq)]
+pub struct Hellos {
+    /// For each circuit, whether a hello is ordered on it; circuit 1 comes first.
+    pub circuits: [bool; MAX_CIRCUITS],
+    /// The flags of the Restart TLV in all of them; 0 where none is ordered.
+    pub flags: u8,
+}
+
+impl Hellos {
+    /// No order.
+    pub const NONE: Hellos = Hellos { circuits: [false; MAX_CIRCUITS], flags: 0 };
+
+    /// Orders a hello on the circuit at this place.
+    pub(crate) fn order(&mut self, at: usize, flags: Flags) {
+        self.circuits[at] = true;
+        self.flags = flags.octet();
+    }
+}
 
 /// The kind of a reply: the one flag that it carries.
 #[derive(Clone, Copy, Debug, PartialEq, Eq)]
@@ -23,7 +41,7 @@ pub struct Reply {
     pub remaining: u16,
 }
 
-/// An order about the overload bit of our own LSP.
+/// An order about the overload bit of our own LSP; in a start, of the zeroth one (RFC 8706, 3.4.1.2).
 #[derive(Clone, Copy, Debug, PartialEq, Eq)]
 pub enum Overload {
     /// No order.
@@ -32,7 +50,7 @@ pub enum Overload {
     Set,
     /// Clear it.
     Clear,
-    /// Set it and clear it: T3 expired in the very tick that ended the restart.
+    /// Set it, then clear it: the call that ordered it set also ended the mode.
     Both,
 }
 
@@ -41,14 +59,14 @@ pub enum Overload {
 pub enum TimerOutcome {
     /// The mode was Running already: no timer runs.
     Idle,
-    /// The restart goes on.
+    /// The restart or start goes on.
     Goes {
         /// The levels whose SPF is ordered.
         spf: Levels,
         /// The order about the overload bit.
         overload: Overload,
     },
-    /// The restart ended with this call; the mode is Running.
+    /// The restart or start ended with this call; the mode is Running.
     Ended {
         /// The levels whose SPF is ordered.
         spf: Levels,
@@ -57,15 +75,15 @@ pub enum TimerOutcome {
     },
 }
 
-/// What a frame without a Restart TLV did to T1 of a point-to-point circuit (RFC 8706, 3.3.1).
+/// What a frame without a Restart TLV did to T1 of a point-to-point circuit (RFC 8706, 3.3.1 and 3.3.2).
 #[derive(Clone, Copy, Debug, PartialEq, Eq)]
 pub enum Freed {
     /// No T1 was stopped for want of the TLV.
     Kept,
     /// It stopped a running T1.
     Stopped,
-    /// It stopped a running T1, and shows us Up with our own extended circuit ID: the adjacency must be made to
-    /// reinitialise, by a normal hello with three-way state Down.
+    /// It stopped a running T1 of a restart, and shows us Up with our own extended circuit ID: the adjacency must be made
+    /// to reinitialise, by a normal hello with three-way state Down. A start has no such case.
     Reinitialise,
 }
 
@@ -84,6 +102,13 @@ pub struct Change {
     pub advertised: bool,
 }
 
+impl Change {
+    /// The record becomes UP, from none or INIT.
+    pub(crate) fn rises(&self) -> bool {
+        self.before != Some(true) && self.after == Some(true)
+    }
+}
+
 /// The answer to an accepted frame.
 #[derive(Clone, Copy, Debug, PartialEq, Eq)]
 pub struct Received {
@@ -91,6 +116,8 @@ pub struct Received {
     pub reply: Option<Reply>,
     /// The levels for which CSNPs and flooding marks are ordered on this circuit, if they are.
     pub csnps: Option<Levels>,
+    /// The flags of the hello that is ordered on this circuit, if one is: T1 began (RFC 8706, 3.3.2).
+    pub hello: Option<u8>,
     /// What it did to the timers.
     pub timers: TimerOutcome,
     /// Whether it stopped T1 for want of a Restart TLV.
@@ -104,7 +131,7 @@ pub struct Received {
 pub struct Ticked {
     /// The circuits that lost a record.
     pub marks: [bool; MAX_CIRCUITS],
-    /// The circuits on which a hello is ordered.
+    /// The hellos that are ordered.
     pub hellos: Hellos,
     /// What it did to the timers.
     pub timers: TimerOutcome,

@@ -1,13 +1,13 @@
 //! The gateway and its calls (document 01, "What the gateway holds").
 
 use crate::adjacency::{self, Own, Record};
-use crate::answers::{Change, Freed, Hellos, Received, Reply, ReplyKind, Ticked, TimerOutcome};
-use crate::frame::{self, Link, RESTART};
+use crate::answers::{Change, Hellos, Received, Reply, ReplyKind, Ticked, TimerOutcome};
+use crate::frame::{self, Hello, Link, RESTART};
 use crate::metric;
 use crate::refusal::Refusal;
 use crate::settings::{CircuitSettings, Kind, Level, Levels, Mac, Mode, Settings, SystemId, MAX_CIRCUITS};
 use crate::table::{Key, Place, Room};
-use crate::timers::{self, Restart};
+use crate::timers::{Heard, Timers};
 use crate::tlvs::Flags;
 
 /// The octets of a reply: a whole Restart TLV.
@@ -25,20 +25,25 @@ pub struct Gateway {
     system: SystemId,
     clock: u32,
     circuits: Vec<Circuit>,
-    /// The restart under way; the mode is Restarting while there is one.
-    restart: Option<Restart>,
+    /// The timers of a restart or start; the mode is Running where there are none.
+    timers: Option<Timers>,
 }
 
 impl Gateway {
-    /// Makes a gateway, and orders a hello with RR on every circuit if it restarts. Refusal 12.
+    /// Makes a gateway, and orders a hello with RR on every circuit if it restarts. If it starts, no hello is ordered.
+    /// Refusal 12.
     pub fn set_up(settings: &Settings) -> Result<(Gateway, Hellos), Refusal> {
         settings.check()?;
         let circuits = settings.circuits.iter().map(|&own| Circuit { settings: own, room: Room::new(own.kind) });
-        let (restart, hellos) = match settings.mode {
-            Mode::Running => (None, [false; MAX_CIRCUITS]),
-            Mode::Restarting => (Some(Restart::start(settings)), timers::first_hellos(settings)),
+        let (timers, hellos) = match settings.mode {
+            Mode::Running => (None, Hellos::NONE),
+            Mode::Restarting => {
+                let (timers, hellos) = Timers::restart(settings);
+                (Some(timers), hellos)
+            }
+            Mode::Starting => (Some(Timers::start(settings)), Hellos::NONE),
         };
-        let gateway = Gateway { system: settings.system, clock: settings.clock, circuits: circuits.collect(), restart };
+        let gateway = Gateway { system: settings.system, clock: settings.clock, circuits: circuits.collect(), timers };
         Ok((gateway, hellos))
     }
 
@@ -62,7 +67,8 @@ impl Gateway {
         }
         let place = circuit.room.place(&key);
         let before = circuit.room.at(place);
-        let own = Own { system: self.system, id: settings.id, hold: settings.hold, clock: self.clock, restarting: self.restart.is_some() };
+        let restarting = self.timers.as_ref().is_some_and(Timers::restarting);
+        let own = Own { system: self.system, id: settings.id, hold: settings.hold, clock: self.clock, restarting };
         if let Link::PointToPoint(three) = &hello.link {
             if adjacency::names_another(three, &hello, before, &own) {
                 return Err(Refusal::OtherNeighbour);
@@ -71,31 +77,22 @@ impl Gateway {
         let (Place::Taken(slot) | Place::Free(slot)) = place else { return Err(Refusal::RoomFull) };
 
         let reaction = adjacency::react(&hello, before, &own);
-        let change = Change {
-            level: match hello.link {
-                Link::Lan { level, .. } => level.number(),
-                Link::PointToPoint(_) => 0,
-            },
-            system: hello.source,
-            before: before.map(|record| record.up),
-            after: reaction.record.map(|record| record.up),
-            advertised: reaction.record.is_some_and(|record| record.advertised()),
-        };
+        let change = change_of(&hello, before, reaction.record.as_ref());
         if let Some(record) = reaction.record {
             circuit.room.put(slot, key, record);
         }
         let csnps = if reaction.kept_up { csnp_order(circuit, &hello.link) } else { None };
-        let (freed, timers) = match &mut self.restart {
-            Some(restart) => restart.hear(at, &hello, own.id, own.system, own.clock),
-            None => (Freed::Kept, TimerOutcome::Idle),
+        let heard = match &mut self.timers {
+            Some(timers) => timers.hear(at, &hello, &own, change.rises()),
+            None => Heard::IDLE,
         };
-        self.follow(timers);
+        self.follow(heard.outcome);
         let reply = reaction.reply.map(|kind| {
             let remaining = reaction.record.map_or(0, |record| remaining(record.expiry, own.clock));
             write_reply(reply, kind, remaining, &hello.source);
             Reply { kind, remaining }
         });
-        Ok(Received { reply, csnps, timers, freed, change })
+        Ok(Received { reply, csnps, hello: heard.hello.map(Flags::octet), timers: heard.outcome, freed: heard.freed, change })
     }
 
     /// Moves the clock, removes the records that ended and runs the timers. An equal clock is a whole tick. Refusal 10.
@@ -108,12 +105,12 @@ impl Gateway {
         for (circuit, mark) in self.circuits.iter_mut().zip(&mut marks) {
             *mark = circuit.room.expire(u64::from(clock));
         }
-        let (hellos, timers) = match &mut self.restart {
-            Some(restart) => restart.tick(clock),
-            None => ([false; MAX_CIRCUITS], TimerOutcome::Idle),
+        let (hellos, outcome) = match &mut self.timers {
+            Some(timers) => timers.tick(clock),
+            None => (Hellos::NONE, TimerOutcome::Idle),
         };
-        self.follow(timers);
-        Ok(Ticked { marks, hellos, timers })
+        self.follow(outcome);
+        Ok(Ticked { marks, hellos, timers: outcome })
     }
 
     /// Removes a circuit's Planned records. Refusal 1.
@@ -134,20 +131,20 @@ impl Gateway {
     pub fn csnp_complete(&mut self, circuit: u8, level: u8) -> Result<TimerOutcome, Refusal> {
         let at = self.place(circuit)?;
         let level = enabled(level, self.circuits[at].settings.levels)?;
-        let restart = self.restart.as_mut().ok_or(Refusal::NotRestarting)?;
-        let timers = restart.csnp_complete(at, level);
-        self.follow(timers);
-        Ok(timers)
+        let timers = self.timers.as_mut().ok_or(Refusal::NotRestarting)?;
+        let outcome = timers.csnp_complete(at, level);
+        self.follow(outcome);
+        Ok(outcome)
     }
 
     /// The database of a level is complete. Refusals 1, for a level enabled on no circuit, and 11.
     pub fn database_complete(&mut self, level: u8) -> Result<TimerOutcome, Refusal> {
         let levels = self.circuits.iter().fold(Levels::NONE, |all, circuit| all.union(circuit.settings.levels));
         let level = enabled(level, levels)?;
-        let restart = self.restart.as_mut().ok_or(Refusal::NotRestarting)?;
-        let timers = restart.database_complete(level);
-        self.follow(timers);
-        Ok(timers)
+        let timers = self.timers.as_mut().ok_or(Refusal::NotRestarting)?;
+        let outcome = timers.database_complete(level);
+        self.follow(outcome);
+        Ok(outcome)
     }
 
     /// The record of a key, if it stands. A point-to-point record is known by its System ID; level and MAC are not looked
@@ -172,16 +169,16 @@ impl Gateway {
         Ok(reverse.map_or(settings.metric, |reverse| metric::with_reverse(settings.metric, reverse)))
     }
 
-    /// The flags of the next hello on a circuit: RR exactly while its T1 runs, and no other. Refusal 1.
+    /// The flags of the next hello on a circuit. While we restart: RR exactly while its T1 runs, and no other. While we
+    /// start: SA, and RR beside it while its T1 runs and has expired. While running: none. Refusal 1.
     pub fn next_hello_flags(&self, circuit: u8) -> Result<u8, Refusal> {
         let at = self.place(circuit)?;
-        let waits = self.restart.as_ref().is_some_and(|restart| restart.waits(at));
-        Ok(if waits { Flags::RR.octet() } else { 0 })
+        Ok(self.timers.as_ref().map_or(Flags::NONE, |timers| timers.flags(at)).octet())
     }
 
     /// How many circuits still wait for T1, and the lowest such circuit.
     pub fn waiting(&self) -> (u32, Option<u8>) {
-        let mask = self.restart.as_ref().map_or(0, Restart::waiting);
+        let mask = self.timers.as_ref().map_or(0, Timers::waiting);
         let lowest = (mask != 0).then(|| mask.trailing_zeros() as u8 + 1);
         (mask.count_ones(), lowest)
     }
@@ -194,10 +191,10 @@ impl Gateway {
         }
     }
 
-    /// Drops a restart that ended: the mode is Running.
-    fn follow(&mut self, timers: TimerOutcome) {
-        if matches!(timers, TimerOutcome::Ended { .. }) {
-            self.restart = None;
+    /// Drops the timers of a restart or start that ended: the mode is Running.
+    fn follow(&mut self, outcome: TimerOutcome) {
+        if matches!(outcome, TimerOutcome::Ended { .. }) {
+            self.timers = None;
         }
     }
 }
@@ -205,6 +202,20 @@ impl Gateway {
 /// A level by its number, refused (1) unless enabled.
 fn enabled(level: u8, levels: Levels) -> Result<Level, Refusal> {
     Level::from_number(level).filter(|&level| levels.has(level)).ok_or(Refusal::NoCircuit)
+}
+
+/// What becomes of the record of a frame.
+fn change_of(hello: &Hello, before: Option<&Record>, after: Option<&Record>) -> Change {
+    Change {
+        level: match hello.link {
+            Link::Lan { level, .. } => level.number(),
+            Link::PointToPoint(_) => 0,
+        },
+        system: hello.source,
+        before: before.map(|record| record.up),
+        after: after.map(|record| record.up),
+        advertised: after.is_some_and(Record::advertised),
+    }
 }
 
 /// The levels for which a restart request on this circuit orders CSNPs, if it does: always on point-to-point, and on a LAN

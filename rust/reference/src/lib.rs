@@ -1,6 +1,6 @@
 //! Restart signaling (RFC 8706) and reverse metric (RFC 8500) for an IS-IS gateway, in ordinary Rust.
 //!
-//! Written from document 01 and the RFCs alone, as an independent oracle and as a baseline of speed. It does no I/O and
+//! Written from documents 01 and 02 and the RFCs alone, as an independent oracle and as a baseline of speed. It does no I/O and
 //! reads no clock: hello frames and ticks go in; records, replies, orders and link metrics come out. Only [`Gateway::set_up`]
 //! allocates. An order is an action that the caller must take.
 //!

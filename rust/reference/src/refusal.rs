@@ -23,7 +23,7 @@ pub enum Refusal {
     RoomFull,
     /// No. 10: the clock is lower than the held clock.
     ClockBack,
-    /// No. 11: a notice outside Restarting mode.
+    /// No. 11: a notice outside the modes Restarting and Starting (document 02, W-201).
     NotRestarting,
     /// No. 12: a setting out of range.
     Setting,

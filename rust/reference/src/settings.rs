@@ -33,6 +33,8 @@ pub enum Mode {
     Running,
     /// Its control plane restarts (RFC 8706, 3.3.1).
     Restarting,
+    /// It starts without forwarding tables (RFC 8706, 3.3.2; document 02, W-201).
+    Starting,
 }
 
 /// One of the two levels.
@@ -133,7 +135,7 @@ pub struct Settings {
     pub tries: u8,
     /// The clock in seconds.
     pub clock: u32,
-    /// Running or Restarting.
+    /// Running, Restarting or Starting.
     pub mode: Mode,
     /// The circuits in the order of their numbers, 1 to 8 of them.
     pub circuits: Vec<CircuitSettings>,

@@ -1,27 +1,31 @@
-//! The timers of our own restart (document 01, "Timers while Restarting"; RFC 8706, 3.1, 3.3.1 and 3.4).
+//! The timers of our own restart or start (document 01, "Timers while Restarting"; document 02, W-201; RFC 8706, 3.1,
+//! 3.3.1, 3.3.2 and 3.4).
 
+use crate::adjacency::Own;
 use crate::answers::{Freed, Hellos, Overload, TimerOutcome};
 use crate::frame::{Hello, Link};
-use crate::settings::{Level, Levels, Settings, SystemId, MAX_CIRCUITS};
-use crate::tlvs::{Flags, RestartTlv, ThreeWayState};
+use crate::settings::{Level, Levels, Settings, MAX_CIRCUITS};
+use crate::tlvs::{Flags, RestartTlv, ThreeWay, ThreeWayState};
 
 /// The length of T3 at the start, in seconds.
 const T3_LENGTH: u64 = 65_535;
 
-/// What T1 of one circuit waits for. Whether it runs is a bit of [`Restart::waiting`].
+/// What T1 of one circuit waits for. Whether it runs is a bit of [`Timers::waiting`].
 #[derive(Clone, Copy, Debug, PartialEq, Eq)]
 struct T1 {
+    /// It runs or ran; it begins only once. Acknowledgements count from here on.
+    begun: bool,
     deadline: u64,
     expiries: u8,
     acknowledged: bool,
-    /// The levels whose CSNP set is complete.
+    /// The levels whose CSNP set is complete, noticed before it began or since.
     complete: Levels,
     /// The circuit's levels.
     levels: Levels,
 }
 
 impl T1 {
-    const UNUSED: T1 = T1 { deadline: 0, expiries: 0, acknowledged: false, complete: Levels::NONE, levels: Levels::NONE };
+    const UNUSED: T1 = T1 { begun: false, deadline: 0, expiries: 0, acknowledged: false, complete: Levels::NONE, levels: Levels::NONE };
 
     fn satisfied(&self) -> bool {
         self.acknowledged && self.complete == self.levels
@@ -41,9 +45,17 @@ enum T3 {
     Expired,
 }
 
-/// A restart under way. The gateway holds one exactly in Restarting mode.
+/// The mode, with the timer that only a restart has.
+#[derive(Clone, Copy, Debug, PartialEq, Eq)]
+enum Phase {
+    Restarting(T3),
+    Starting,
+}
+
+/// The timers of a restart or start. The gateway holds them exactly in the modes Restarting and Starting.
 #[derive(Clone, Debug, PartialEq, Eq)]
-pub(crate) struct Restart {
+pub(crate) struct Timers {
+    phase: Phase,
     /// The length of T1.
     interval: u16,
     tries: u8,
@@ -54,7 +66,19 @@ pub(crate) struct Restart {
     t2: [T2; 2],
     /// The levels whose database notice came.
     databases: Levels,
-    t3: T3,
+}
+
+/// What a frame does to the timers.
+pub(crate) struct Heard {
+    /// The flags of the hello that is ordered, if one is.
+    pub(crate) hello: Option<Flags>,
+    pub(crate) freed: Freed,
+    pub(crate) outcome: TimerOutcome,
+}
+
+impl Heard {
+    /// There are no timers.
+    pub(crate) const IDLE: Heard = Heard { hello: None, freed: Freed::Kept, outcome: TimerOutcome::Idle };
 }
 
 /// The place of a level's T2.
@@ -65,30 +89,50 @@ fn place(level: Level) -> usize {
     }
 }
 
-impl Restart {
-    /// Starts T1 on every circuit, T2 for every enabled level and T3. The settings are in range.
-    pub(crate) fn start(settings: &Settings) -> Restart {
-        let clock = u64::from(settings.clock);
-        let mut restart = Restart {
+impl Timers {
+    /// Starts T1 on every circuit, T2 for every enabled level and T3, and orders a hello on every circuit. The settings are
+    /// in range.
+    pub(crate) fn restart(settings: &Settings) -> (Timers, Hellos) {
+        let t3 = T3::Running(u64::from(settings.clock) + T3_LENGTH);
+        let mut timers = Timers::new(settings, Phase::Restarting(t3));
+        let mut hellos = Hellos::NONE;
+        for at in 0..settings.circuits.len() {
+            hellos.order(at, timers.begin_t1(at, settings.clock));
+        }
+        (timers, hellos)
+    }
+
+    /// Starts T2 for every enabled level. T1 of a circuit begins with its first UP record, and there is no T3. The settings
+    /// are in range.
+    pub(crate) fn start(settings: &Settings) -> Timers {
+        Timers::new(settings, Phase::Starting)
+    }
+
+    /// T2 runs for every enabled level, and no T1 has begun.
+    fn new(settings: &Settings, phase: Phase) -> Timers {
+        let mut timers = Timers {
+            phase,
             interval: settings.t1,
             tries: settings.tries,
             waiting: 0,
             t1: [T1::UNUSED; MAX_CIRCUITS],
             t2: [T2::Stopped; 2],
             databases: Levels::NONE,
-            t3: T3::Running(clock + T3_LENGTH),
         };
-        for (at, circuit) in settings.circuits.iter().enumerate() {
-            restart.waiting |= 1 << at;
-            let deadline = clock + u64::from(settings.t1);
-            restart.t1[at] = T1 { deadline, levels: circuit.levels, ..T1::UNUSED };
+        for (t1, circuit) in timers.t1.iter_mut().zip(&settings.circuits) {
+            t1.levels = circuit.levels;
             for level in [Level::One, Level::Two] {
                 if circuit.levels.has(level) {
-                    restart.t2[place(level)] = T2::Running(clock + u64::from(settings.t2));
+                    timers.t2[place(level)] = T2::Running(u64::from(settings.clock) + u64::from(settings.t2));
                 }
             }
         }
-        restart
+        timers
+    }
+
+    /// Whether the mode is Restarting; else it is Starting.
+    pub(crate) fn restarting(&self) -> bool {
+        matches!(self.phase, Phase::Restarting(_))
     }
 
     /// The circuits whose T1 runs, as a mask.
@@ -97,46 +141,75 @@ impl Restart {
     }
 
     /// Whether T1 of the circuit at this place runs.
-    pub(crate) fn waits(&self, at: usize) -> bool {
+    fn waits(&self, at: usize) -> bool {
         self.waiting & (1 << at) != 0
+    }
+
+    /// The flags of the next hello on the circuit at this place. A restart asks with RR while T1 runs. A start has SA in
+    /// every hello, and asks from the first expiry of T1 on, while it runs.
+    pub(crate) fn flags(&self, at: usize) -> Flags {
+        match self.phase {
+            Phase::Restarting(_) if self.waits(at) => Flags::RR,
+            Phase::Restarting(_) => Flags::NONE,
+            Phase::Starting if self.waits(at) && self.t1[at].expiries > 0 => Flags::RR.and(Flags::SA),
+            Phase::Starting => Flags::SA,
+        }
+    }
+
+    /// Begins T1 of the circuit at this place; answers the flags of the hello that goes with it.
+    fn begin_t1(&mut self, at: usize, clock: u32) -> Flags {
+        self.waiting |= 1 << at;
+        self.t1[at].begun = true;
+        self.t1[at].deadline = u64::from(clock) + u64::from(self.interval);
+        self.flags(at)
     }
 
     fn stop_t1(&mut self, at: usize) {
         self.waiting &= !(1 << at);
     }
 
-    /// An accepted frame on the circuit at this place, whose own extended circuit ID is `id`.
-    pub(crate) fn hear(&mut self, at: usize, hello: &Hello, id: u32, system: SystemId, clock: u32) -> (Freed, TimerOutcome) {
+    /// An accepted frame on the circuit at this place; `rises` tells that its record becomes UP with it. In a start this
+    /// orders overload set, and the first such record of a circuit begins T1 before anything else is looked at.
+    pub(crate) fn hear(&mut self, at: usize, hello: &Hello, own: &Own, rises: bool) -> Heard {
+        let set = rises && self.phase == Phase::Starting;
+        let order = (set && !self.t1[at].begun).then(|| self.begin_t1(at, own.clock));
         let freed = match (hello.restart, hello.link) {
             (RestartTlv::Present { flags, remaining, neighbour }, link) if flags.has(Flags::RA) => {
-                if matches!(link, Link::PointToPoint(_)) || neighbour == system {
-                    self.acknowledge(at, hello.shows_us_up(), u64::from(clock) + u64::from(remaining));
+                if matches!(link, Link::PointToPoint(_)) || neighbour == own.system {
+                    self.acknowledge(at, hello.shows_us_up(), u64::from(own.clock) + u64::from(remaining));
                 }
                 Freed::Kept
             }
-            (RestartTlv::Absent, Link::PointToPoint(three)) if self.waits(at) => {
-                self.stop_t1(at);
-                if three.state == ThreeWayState::Up && three.circuit == Some(id) {
-                    Freed::Reinitialise
-                } else {
-                    Freed::Stopped
-                }
-            }
+            (RestartTlv::Absent, Link::PointToPoint(three)) if self.waits(at) => self.free(at, &three, own.id),
             _ => Freed::Kept,
         };
-        (freed, self.settle(Levels::NONE, false))
+        Heard { hello: order, freed, outcome: self.settle(Levels::NONE, set) }
     }
 
-    /// An acknowledgement; one that shows us Up lowers a running T3 to `end`.
+    /// An acknowledgement. It counts only if T1 has begun; one that shows us Up lowers a running T3 to `end`.
     fn acknowledge(&mut self, at: usize, shown_up: bool, end: u64) {
+        if !self.t1[at].begun {
+            return;
+        }
         self.t1[at].acknowledged = true;
         if self.t1[at].satisfied() {
             self.stop_t1(at);
         }
-        if let T3::Running(deadline) = &mut self.t3 {
+        if let Phase::Restarting(T3::Running(deadline)) = &mut self.phase {
             if shown_up && end < *deadline {
                 *deadline = end;
             }
+        }
+    }
+
+    /// Stops a running T1 for want of the TLV. Only a restart makes the adjacency reinitialise (RFC 8706, 3.3.1): the
+    /// neighbour of a start has done so already (RFC 8706, 3.3.2).
+    fn free(&mut self, at: usize, three: &ThreeWay, id: u32) -> Freed {
+        self.stop_t1(at);
+        if self.restarting() && three.state == ThreeWayState::Up && three.circuit == Some(id) {
+            Freed::Reinitialise
+        } else {
+            Freed::Stopped
         }
     }
 
@@ -166,8 +239,8 @@ impl Restart {
 
     /// Each T1 at its deadline orders a hello and runs from this clock, or stops at its last expiry.
     fn expire_t1(&mut self, now: u64) -> Hellos {
-        let mut hellos = [false; MAX_CIRCUITS];
-        for (at, hello) in hellos.iter_mut().enumerate() {
+        let mut hellos = Hellos::NONE;
+        for at in 0..MAX_CIRCUITS {
             if !self.waits(at) || self.t1[at].deadline > now {
                 continue;
             }
@@ -176,7 +249,7 @@ impl Restart {
                 self.stop_t1(at);
             } else {
                 self.t1[at].deadline = now + u64::from(self.interval);
-                *hello = true;
+                hellos.order(at, self.flags(at));
             }
         }
         hellos
@@ -187,7 +260,8 @@ impl Restart {
         self.stop_t2(|_, deadline| deadline <= now)
     }
 
-    /// Cancels T2 of each level whose database notice came, if no T1 runs; answers the levels.
+    /// Cancels T2 of each level whose database notice came, if no T1 runs; answers the levels. A T1 that has not begun does
+    /// not run (RFC 8706, 3.4: "the interfaces that have an adjacency").
     fn cancel_t2(&mut self) -> Levels {
         let (databases, free) = (self.databases, self.waiting == 0);
         self.stop_t2(|level, _| free && databases.has(level))
@@ -207,34 +281,28 @@ impl Restart {
 
     /// T3 expires if the clock reached it and some running T2 has a later deadline; then all T1 stop.
     fn expire_t3(&mut self, now: u64) -> bool {
-        let reached = matches!(self.t3, T3::Running(deadline) if deadline <= now);
+        let reached = matches!(self.phase, Phase::Restarting(T3::Running(deadline)) if deadline <= now);
         let later = self.t2.iter().any(|t2| matches!(*t2, T2::Running(deadline) if deadline > now));
         if reached && later {
-            self.t3 = T3::Expired;
+            self.phase = Phase::Restarting(T3::Expired);
             self.waiting = 0;
         }
         reached && later
     }
 
-    /// Cancels what T2 can be cancelled, and ends the restart when none runs. `spf` and `set` are the orders already made
-    /// in this call. At an end the gateway drops the restart, which stops T3 and all T1.
+    /// Cancels what T2 can be cancelled, and ends the mode when none runs. `spf` and `set` are the orders already made in
+    /// this call. The end of a start orders overload clear, set before or not. At an end the gateway drops the timers, which
+    /// stops T3 and all T1.
     fn settle(&mut self, spf: Levels, set: bool) -> TimerOutcome {
         let spf = spf.union(self.cancel_t2());
         if self.t2 != [T2::Stopped; 2] {
             return TimerOutcome::Goes { spf, overload: if set { Overload::Set } else { Overload::Quiet } };
         }
-        let overload = match (set, self.t3) {
+        let overload = match (set, self.phase) {
             (true, _) => Overload::Both,
-            (false, T3::Expired) => Overload::Clear,
-            (false, T3::Running(_)) => Overload::Quiet,
+            (false, Phase::Restarting(T3::Expired) | Phase::Starting) => Overload::Clear,
+            (false, Phase::Restarting(T3::Running(_))) => Overload::Quiet,
         };
         TimerOutcome::Ended { spf, overload }
     }
-}
-
-/// The hellos that a setup in Restarting mode orders: one on every circuit.
-pub(crate) fn first_hellos(settings: &Settings) -> Hellos {
-    let mut hellos = [false; MAX_CIRCUITS];
-    hellos[..settings.circuits.len()].fill(true);
-    hellos
 }

@@ -8,6 +8,7 @@ use crate::settings::SystemId;
 pub(crate) struct Flags(u8);
 
 impl Flags {
+    pub(crate) const NONE: Flags = Flags(0);
     pub(crate) const RR: Flags = Flags(1);
     pub(crate) const RA: Flags = Flags(2);
     pub(crate) const SA: Flags = Flags(4);
@@ -22,7 +23,7 @@ impl Flags {
         self.0 & flag.0 != 0
     }
 
-    const fn and(self, other: Flags) -> Flags {
+    pub(crate) const fn and(self, other: Flags) -> Flags {
         Flags(self.0 | other.0)
     }
 

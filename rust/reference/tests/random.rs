@@ -27,7 +27,7 @@ fn some_settings(dice: &mut Dice) -> Settings {
         t2: dice.pick(&[10, 60, u16::MAX]),
         tries: dice.pick(&[1, 3, 255]),
         clock: dice.pick(&[0, 100, u32::MAX - 500]),
-        mode: dice.pick(&[Mode::Running, Mode::Restarting]),
+        mode: dice.pick(&[Mode::Running, Mode::Restarting, Mode::Starting]),
         circuits,
     }
 }
@@ -122,12 +122,14 @@ fn some_frame(dice: &mut Dice, kind: Kind) -> Vec<u8> {
 
 /// What must hold of every gateway, whatever calls were made.
 fn check(gateway: &Gateway, settings: &Settings, clock: u32) {
-    let mut waiting = Vec::new();
+    let mut asking = Vec::new();
+    let starts = gateway.next_hello_flags(1).unwrap() & SA != 0;
+    assert!(!starts || settings.mode == Mode::Starting);
     for (circuit, own) in (1..).zip(&settings.circuits) {
         let flags = gateway.next_hello_flags(circuit).unwrap();
-        assert!(flags == 0 || flags == RR);
-        if flags == RR {
-            waiting.push(circuit);
+        assert_eq!(flags & !RR, if starts { SA } else { 0 });
+        if flags & RR != 0 {
+            asking.push(circuit);
         }
         let metric = gateway.link_metric(circuit).unwrap();
         assert!((own.metric..=16_777_215).contains(&metric));
@@ -150,7 +152,14 @@ fn check(gateway: &Gateway, settings: &Settings, clock: u32) {
         }
         assert!(standing <= if own.kind == Kind::Lan { 16 } else { 1 });
     }
-    assert_eq!(gateway.waiting(), (waiting.len() as u32, waiting.first().copied()));
+    let (count, lowest) = gateway.waiting();
+    if starts {
+        // T1 runs to its first expiry without RR.
+        assert!(count >= asking.len() as u32 && lowest.is_some() == (count > 0));
+        assert!(asking.iter().all(|&circuit| lowest <= Some(circuit)));
+    } else {
+        assert_eq!((count, lowest), (asking.len() as u32, asking.first().copied()));
+    }
 }
 
 #[test]
@@ -213,12 +222,90 @@ fn random_calls_never_panic_and_refusals_change_nothing() {
     assert!(seen[0] > 15_000, "{seen:?}");
 }
 
+/// What every call of a start orders about the overload bit; `starts` is the mode before the call, `rises` tells that a
+/// record became UP in it.
+fn check_overload(timers: TimerOutcome, starts: bool, rises: bool) {
+    let due = match timers {
+        TimerOutcome::Idle => return assert!(!starts),
+        TimerOutcome::Goes { overload, .. } => (overload, if rises { Overload::Set } else { Overload::Quiet }),
+        TimerOutcome::Ended { overload, .. } => (overload, if rises { Overload::Both } else { Overload::Clear }),
+    };
+    assert!(starts && due.0 == due.1, "{due:?}");
+}
+
+/// Takes one frame in a start and in its twin; answers whether it ordered a hello.
+fn take_frame(dice: &mut Dice, pair: [&mut Gateway; 2], circuit: u8, kind: Kind, begun: bool) -> bool {
+    let [gateway, twin] = pair;
+    let starts = gateway.next_hello_flags(1) != Ok(0);
+    let (frame, source) = (some_frame(dice, kind), dice.pick(&MACS));
+    let mut replies = [[UNTOUCHED; 12]; 2];
+    let answer = gateway.receive(circuit, source, &frame, &mut replies[0]);
+    let other = twin.receive(circuit, source, &frame, &mut replies[1]);
+    assert_eq!(replies[0], replies[1]);
+    let (Ok(answer), Ok(other)) = (answer, other) else {
+        assert_eq!(answer, other, "both are refused");
+        return false;
+    };
+    assert_eq!((answer.reply, answer.csnps, answer.change), (other.reply, other.csnps, other.change));
+    let rises = answer.change.before != Some(true) && answer.change.after == Some(true);
+    check_overload(answer.timers, starts, rises);
+    assert_ne!(answer.freed, Freed::Reinitialise);
+    assert_eq!(answer.hello, (starts && rises && !begun).then_some(SA));
+    answer.hello.is_some()
+}
+
+#[test]
+fn a_start_treats_its_records_as_its_running_twin_does() {
+    let (mut begins, mut asks, mut ends) = (0, 0, 0);
+    for seed in 1..=150 {
+        let mut dice = Dice::new(seed);
+        let starting = Settings { mode: Mode::Starting, ..some_settings(&mut dice) };
+        let (mut gateway, hellos) = Gateway::set_up(&starting).unwrap();
+        assert_eq!(hellos, NO_HELLO);
+        let (mut twin, _) = Gateway::set_up(&Settings { mode: Mode::Running, ..starting.clone() }).unwrap();
+        let (mut clock, mut begun) = (starting.clock, [false; 8]);
+        for _ in 0..200 {
+            let at = dice.below(starting.circuits.len() as u64) as usize;
+            let (circuit, level) = (at as u8 + 1, 1 + dice.below(2) as u8);
+            let starts = gateway.next_hello_flags(1) != Ok(0);
+            let notice = match dice.below(12) {
+                0 | 1 => {
+                    clock = clock.saturating_add(dice.pick(&[0, 1, 4]));
+                    let (ticked, other) = (gateway.tick(clock).unwrap(), twin.tick(clock).unwrap());
+                    assert_eq!(ticked.marks, other.marks);
+                    let asked = ticked.hellos.circuits;
+                    assert!(asked.iter().zip(&begun).all(|(asked, begun)| !asked || *begun));
+                    assert_eq!(ticked.hellos.flags, if asked == [false; 8] { 0 } else { RR | SA });
+                    asks += u32::from(asked != [false; 8]);
+                    Ok(ticked.timers)
+                }
+                2 => gateway.csnp_complete(circuit, level),
+                3 if dice.chance(4) => gateway.database_complete(level),
+                _ => {
+                    let ordered = take_frame(&mut dice, [&mut gateway, &mut twin], circuit, starting.circuits[at].kind, begun[at]);
+                    begun[at] |= ordered;
+                    begins += u32::from(ordered);
+                    continue;
+                }
+            };
+            match notice {
+                Ok(timers) => {
+                    check_overload(timers, starts, false);
+                    ends += u32::from(matches!(timers, TimerOutcome::Ended { .. }));
+                }
+                Err(refusal) => assert!(refusal == Refusal::NoCircuit || !starts && refusal == Refusal::NotRestarting),
+            }
+        }
+    }
+    assert!(begins > 100 && asks > 100 && ends > 50, "{begins} {asks} {ends}");
+}
+
 #[test]
 fn every_frame_of_one_changed_octet_is_answered() {
     let hello = Hello::p2p(UP).restart(RR, 300).reverse(2, 5).octets();
     let listed = Hello::lan_up(2).restart(PR, 300).reverse(2, 5).octets();
     for (circuit, octets) in [(1, hello), (2, listed)] {
-        for mode in [Mode::Running, Mode::Restarting] {
+        for mode in [Mode::Running, Mode::Restarting, Mode::Starting] {
             let mut run = Run::new(&settings(mode, &[p2p(), lan()]));
             for at in 0..octets.len() {
                 for value in 0..=255 {

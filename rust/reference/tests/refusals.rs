@@ -292,7 +292,7 @@ fn no_11_notices_while_running() {
 fn no_12_each_setting_at_its_bounds() {
     let refused = |settings: Settings| assert_eq!(Gateway::set_up(&settings), Err(Refusal::Setting));
     let accepted = |settings: Settings| assert!(Gateway::set_up(&settings).is_ok());
-    for mode in [Mode::Running, Mode::Restarting] {
+    for mode in [Mode::Running, Mode::Restarting, Mode::Starting] {
         let good = settings(mode, &[p2p()]);
         accepted(good.clone());
         refused(Settings { t1: 0, ..good.clone() });

@@ -4,21 +4,9 @@ mod common;
 use common::*;
 use isis_gr_reference::*;
 
-fn goes(spf: Levels, overload: Overload) -> TimerOutcome {
-    TimerOutcome::Goes { spf, overload }
-}
-
-fn ended(spf: Levels, overload: Overload) -> TimerOutcome {
-    TimerOutcome::Ended { spf, overload }
-}
-
 /// Restarting with this T1, T2 and number of tries.
 fn restart(t1: u16, t2: u16, tries: u8, circuits: &[CircuitSettings]) -> Run {
     Run::new(&Settings { t1, t2, tries, ..settings(Mode::Restarting, circuits) })
-}
-
-fn circuits(numbers: &[usize]) -> [bool; 8] {
-    std::array::from_fn(|at| numbers.contains(&(at + 1)))
 }
 
 const ACK: fn() -> Hello = || Hello::p2p(UP).restart(RA, 1_000).hold(2_000);
@@ -26,7 +14,7 @@ const ACK: fn() -> Hello = || Hello::p2p(UP).restart(RA, 1_000).hold(2_000);
 #[test]
 fn setup_orders_hellos_and_starts_t1_on_every_circuit() {
     let run = Run::restarting(&[p2p(), lan(), p2p()]);
-    assert_eq!(run.hellos, circuits(&[1, 2, 3]));
+    assert_eq!(run.hellos, hellos(&[1, 2, 3], RR));
     assert_eq!(run.gateway.waiting(), (3, Some(1)));
     for circuit in 1..=3 {
         assert_eq!(run.gateway.next_hello_flags(circuit), Ok(RR));
@@ -36,7 +24,7 @@ fn setup_orders_hellos_and_starts_t1_on_every_circuit() {
 #[test]
 fn running_mode_has_no_timer() {
     let mut run = Run::running(&[p2p()]);
-    assert_eq!(run.hellos, [false; 8]);
+    assert_eq!(run.hellos, NO_HELLO);
     assert_eq!(run.gateway.waiting(), (0, None));
     assert_eq!(run.gateway.next_hello_flags(1), Ok(0));
     assert_eq!(run.tick(100_000).timers, TimerOutcome::Idle);
@@ -46,28 +34,28 @@ fn running_mode_has_no_timer() {
 #[test]
 fn t1_orders_hellos_and_stops_at_the_last_expiry_without_one() {
     let mut run = restart(3, 1_000, 3, &[p2p()]);
-    assert_eq!(run.tick(2).hellos, [false; 8]);
-    assert_eq!(run.tick(3).hellos, circuits(&[1]));
-    assert_eq!(run.tick(3).hellos, [false; 8]);
-    assert_eq!(run.tick(6).hellos, circuits(&[1]));
+    assert_eq!(run.tick(2).hellos, NO_HELLO);
+    assert_eq!(run.tick(3).hellos, hellos(&[1], RR));
+    assert_eq!(run.tick(3).hellos, NO_HELLO);
+    assert_eq!(run.tick(6).hellos, hellos(&[1], RR));
     assert_eq!(run.gateway.waiting(), (1, Some(1)));
     let last = run.tick(9);
-    assert_eq!((last.hellos, last.timers), ([false; 8], QUIET));
+    assert_eq!((last.hellos, last.timers), (NO_HELLO, QUIET));
     assert_eq!((run.gateway.waiting(), run.gateway.next_hello_flags(1)), ((0, None), Ok(0)));
 }
 
 #[test]
 fn one_tick_is_at_most_one_expiry_and_t1_runs_from_its_clock() {
     let mut run = restart(3, 1_000, 3, &[p2p()]);
-    assert_eq!(run.tick(100).hellos, circuits(&[1]));
-    assert_eq!(run.tick(102).hellos, [false; 8]);
-    assert_eq!(run.tick(103).hellos, circuits(&[1]));
+    assert_eq!(run.tick(100).hellos, hellos(&[1], RR));
+    assert_eq!(run.tick(102).hellos, NO_HELLO);
+    assert_eq!(run.tick(103).hellos, hellos(&[1], RR));
 }
 
 #[test]
 fn one_try_stops_at_the_first_expiry() {
     let mut run = restart(3, 1_000, 1, &[p2p(), lan()]);
-    assert_eq!(run.tick(3).hellos, [false; 8]);
+    assert_eq!(run.tick(3).hellos, NO_HELLO);
     assert_eq!(run.gateway.waiting(), (0, None));
 }
 
@@ -180,7 +168,7 @@ fn t2_expires_at_its_deadline_and_ends_the_mode() {
     let mut run = Run::restarting(&[p2p()]);
     assert_eq!(run.tick(59).timers, QUIET);
     let last = run.tick(60);
-    assert_eq!((last.timers, last.hellos), (ended(BOTH, Overload::Quiet), circuits(&[1])));
+    assert_eq!((last.timers, last.hellos), (ended(BOTH, Overload::Quiet), hellos(&[1], RR)));
     assert_eq!(run.gateway.waiting(), (0, None));
     assert_eq!(run.gateway.next_hello_flags(1), Ok(0));
     assert_eq!(run.tick(60).timers, TimerOutcome::Idle);
@@ -313,7 +301,7 @@ fn hello_order_stays_though_t3_stops_t1_in_the_same_tick() {
     let mut run = restart(20, 60, 9, &[p2p()]);
     run.accept(&Hello::p2p(UP).restart(RA, 20));
     let answer = run.tick(20);
-    assert_eq!((answer.hellos, answer.timers), (circuits(&[1]), goes(Levels::NONE, Overload::Set)));
+    assert_eq!((answer.hellos, answer.timers), (hellos(&[1], RR), goes(Levels::NONE, Overload::Set)));
     assert_eq!(run.gateway.next_hello_flags(1), Ok(0));
 }
 

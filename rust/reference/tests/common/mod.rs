@@ -28,6 +28,26 @@ pub const BOTH: Levels = Levels { one: true, two: true };
 
 pub const QUIET: TimerOutcome = TimerOutcome::Goes { spf: Levels::NONE, overload: Overload::Quiet };
 
+pub fn goes(spf: Levels, overload: Overload) -> TimerOutcome {
+    TimerOutcome::Goes { spf, overload }
+}
+
+pub fn ended(spf: Levels, overload: Overload) -> TimerOutcome {
+    TimerOutcome::Ended { spf, overload }
+}
+
+/// For each circuit, whether its number is listed.
+pub fn circuits(numbers: &[usize]) -> [bool; 8] {
+    std::array::from_fn(|at| numbers.contains(&(at + 1)))
+}
+
+/// Hellos with these flags, ordered on these circuits.
+pub fn hellos(numbers: &[usize], flags: u8) -> Hellos {
+    Hellos { circuits: circuits(numbers), flags }
+}
+
+pub const NO_HELLO: Hellos = Hellos { circuits: [false; 8], flags: 0 };
+
 pub fn p2p() -> CircuitSettings {
     CircuitSettings { kind: Kind::PointToPoint, levels: BOTH, mac: OWN_MAC, priority: 64, hold: 30, metric: 10, id: OWN_ID }
 }
@@ -229,6 +249,35 @@ pub fn p2p_up(clock: u32, hold: u16) -> Run {
     assert!(run.record().up);
     run
 }
+
+/// Overload is ordered set, and the start goes on.
+pub const SET: TimerOutcome = TimerOutcome::Goes { spf: Levels::NONE, overload: Overload::Set };
+
+/// Starting at clock 7 with T1 of 10 s, T2 of 100 s and three tries.
+pub fn start(circuits: &[CircuitSettings]) -> Run {
+    Run::new(&Settings { t1: 10, t2: 100, tries: 3, clock: 7, ..settings(Mode::Starting, circuits) })
+}
+
+/// A point-to-point hello with a Restart TLV of these flags that lasts beyond all timers.
+pub fn p2p_with(state: u8, flags: u8) -> Hello {
+    Hello::p2p(state).restart(flags, 20).hold(2_000)
+}
+
+/// The same on a LAN; lists us.
+pub fn lan_with(level: u8, flags: u8) -> Hello {
+    Hello::lan_up(level).restart(flags, 20).hold(2_000)
+}
+
+/// What a frame orders: the hello's flags and what it does to the timers.
+pub fn orders(answer: Received) -> (Option<u8>, TimerOutcome) {
+    (answer.hello, answer.timers)
+}
+
+/// The first UP record of a circuit: T1 begins with a hello of SA alone.
+pub const BEGINS: (Option<u8>, TimerOutcome) = (Some(SA), SET);
+/// A record that becomes UP later.
+pub const RISES: (Option<u8>, TimerOutcome) = (None, SET);
+pub const NOTHING: (Option<u8>, TimerOutcome) = (None, QUIET);
 
 /// A small pseudo-random source (xorshift), the same numbers for the same seed.
 pub struct Dice(u64);

@@ -34,9 +34,9 @@ start-timers-requires c κs = search needs
 
 store-head-requires : tie.Need-store-head-requires
 store-head-requires c κs =
-    let m = c .before .before .before .before .before .before .before .before .before .before .before .store-settings in
-    let len = m .kept .0 ∙ c .before .before .before .before .before .before .before .before .before .before .before .before .before .before .before .pre .0 in
-    let x = c .before .before .before .before .start-timers in
+    let m = c .before .before .before .before .before .before .before .before .before .before .before .before .store-settings in
+    let len = m .kept .0 ∙ c .before .before .before .before .before .before .before .before .before .before .before .before .before .before .before .before .pre .0 in
+    let x = c .before .before .before .before .before .start-timers in
     let t = x .kept .0 ∙ mid-len entriesPlace entriesEnd (m .last .0) (omega (arith, len)) in
     (length-put (m .last .0) (x .last .0) len t, seal-put (m .last .0) (x .last .0) len t (m .ensures .sealed))
 
@@ -45,7 +45,7 @@ same-length c = search needs
 
 returns : tie.Need-returns
 returns c =
-    let x = c .before .before .before .before .before .before .before in
+    let x = c .before .before .before .before .before .before .before .before in
     let m = x .before .before .before .before .before .before .before .store-settings in
     let s = x .before .before .before .before .before .before .before .before .before .before .before in
     let ws = s .args .words .now in

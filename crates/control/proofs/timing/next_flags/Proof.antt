@@ -1,6 +1,7 @@
 -- The flags of the T1 that the head and the entries mean.
 use Rattle.timers.specs.Timers.{Timers, noT1}
 use Rattle.timer_parts.specs.T1.{helloFlags}
+use Rattle.timers.specs.Memory.{timersOf}
 use lib.ListN.{getD}
 use mathlib.Core.Path.{ap, _∙_}
 use Rattle.control.proofs.TimingLaws.{timers-now}
@@ -24,7 +25,8 @@ next-flags-requires : tie.Need-next-flags-requires
 next-flags-requires c κs = search needs
 
 returns : tie.Need-returns
-returns c = let a = c .before .before .before .before .args in c .next-flags .ensures ∙ ap (λ (t : Timers). helloFlags (getD (t .t1s) (a .i) noT1)) (timers-now (a .words .now) _ (c .before .before .load-head .ensures))
+unfolding timersOf
+returns c = let a = c .before .before .before .before .args in c .next-flags .ensures ∙ ap (λ (t : Timers). helloFlags (t .mode) (getD (t .t1s) (a .i) noT1)) (timers-now (a .words .now) _ (c .before .before .load-head .ensures))
 
 pub next-flags-spec : {M : Type 1} → statement M
 next-flags-spec =

@@ -27,13 +27,13 @@ tick-timers-requires : tie.Need-tick-timers-requires
 tick-timers-requires c κs = search needs
 
 store-head-requires : tie.Need-store-head-requires
-store-head-requires c κs = let s = c .before .before .before .before .before .before .before .before .before .before .before in let ws = s .args .words .now in let x = c .before .before .before .before .tick-timers in let t = x .kept .0 ∙ mid-len entriesPlace entriesEnd ws (omega (arith, s .pre .0)) in (length-put ws (x .last .0) (s .pre .0) t, seal-put ws (x .last .0) (s .pre .0) t (on-sealed ws (s .pre .1)))
+store-head-requires c κs = let s = c .before .before .before .before .before .before .before .before .before .before .before .before in let ws = s .args .words .now in let x = c .before .before .before .before .before .tick-timers in let t = x .kept .0 ∙ mid-len entriesPlace entriesEnd ws (omega (arith, s .pre .0)) in (length-put ws (x .last .0) (s .pre .0) t, seal-put ws (x .last .0) (s .pre .0) t (on-sealed ws (s .pre .1)))
 
 same-length : tie.Need-same-length
 same-length c = search needs
 
 returns : tie.Need-returns
-returns c = let s = c .before .before .before .before .before .before .before .before .before .before .before .before .before .before in let ws = s .args .words .now in let x = c .before .before .before .before .before .before .before .tick-timers in let t = x .kept .0 ∙ mid-len entriesPlace entriesEnd ws (omega (arith, s .pre .0)) in let y = c .before .before .store-head in ticks-here ws (y .last .0) _ (put-stored ws (x .last .0) (s .pre .0) t (y .last .0) _ (y .ensures)) (s .pre .1) (c .before .before .before .before .before .before .before .before .before .before .before .load-head .result) (c .before .before .before .before .before .before .before .before .before .before .before .load-head .ensures) (c .before .before .before .before .before .before .before .before .before .lengths-of .result) _ _ _ (c .before .before .before .before .before .before .before .before .before .lengths-of .ensures) (x .ensures)
+returns c = let s = c .before .before .before .before .before .before .before .before .before .before .before .before .before .before .before in let ws = s .args .words .now in let x = c .before .before .before .before .before .before .before .before .tick-timers in let t = x .kept .0 ∙ mid-len entriesPlace entriesEnd ws (omega (arith, s .pre .0)) in let y = c .before .before .store-head in ticks-here ws (y .last .0) _ (put-stored ws (x .last .0) (s .pre .0) t (y .last .0) _ (y .ensures)) (s .pre .1) (c .before .before .before .before .before .before .before .before .before .before .before .before .load-head .result) (c .before .before .before .before .before .before .before .before .before .before .before .before .load-head .ensures) (c .before .before .before .before .before .before .before .before .before .before .lengths-of .result) _ _ _ (c .before .before .before .before .before .before .before .before .before .before .lengths-of .ensures) (x .ensures)
 
 pub tick-in-spec : {M : Type 1} → statement M
 tick-in-spec =

@@ -47,6 +47,9 @@ part-csnps-in-end c = search needs
 csnps-in-requires : tie.Need-csnps-in-requires
 csnps-in-requires c κs = search needs
 
+rises-requires : tie.Need-rises-requires
+rises-requires c κs = search needs
+
 sub-hear : tie.Need-sub-hear
 sub-hear c = search needs
 
@@ -64,7 +67,8 @@ same-length c = search needs
 
 returns : tie.Need-returns
 returns c =
-    let x = c .before .before .before .before in
+    let r = c .before .before .before .before .rises in
+    let x = c .before .before .before .before .before in
     let l = x .before .before .before .before .load-circuit in
     let s = x .before .before .before .before .before .before .before .before in
     let a = s .args in
@@ -73,8 +77,8 @@ returns c =
     let rank : record { level = a .change .level; priority = l .result .priority; mac = l .result .mac } ≡ rankOf (l .result) (a .frame) =
     λ i. record { level = s .pre .3 .level i; priority = l .result .priority; mac = l .result .mac } in
     of-circuit (l .ensures)
-    (gives (a .gateway .now) (a .n) (l .result) (a .frame) (a .reply) (a .line) (a .change) (s .pre .0) (s .pre .1) (s .pre .2) _ _ _ _ (y .last .0) (omega (arith, y .kept .0)) rank
-    (x .csnps-in .ensures) (hears-said says (y .ensures)))
+    (gives (a .gateway .now) (a .n) (l .result) (a .frame) (a .reply) (a .line) (a .change) (s .pre .0) (s .pre .1) (s .pre .2) _ _ _ (y .last .0) (omega (arith, y .kept .0)) rank
+    (x .csnps-in .ensures) (hears-said (r .ensures) says (y .ensures)))
 
 pub order-in-spec : {M : Type 1} → statement M
 order-in-spec =
@@ -93,6 +97,7 @@ order-in-spec =
     part-csnps-in-start
     part-csnps-in-end
     csnps-in-requires
+    rises-requires
     sub-hear
     part-hear-start
     part-hear-end

@@ -5,8 +5,7 @@ use Rattle.gateway.proofs.CallLaws.{csnp-off, csnp-outside, csnp-taken}
 use Rattle.gateway.proofs.WordLaws.{along, refuses}
 use Rattle.basics.specs.declared.refusal.Refusal.the-variants.{NoCircuit, NotRestarting}
 use borrow.Author.Tests.{not-true, not-false}
-use Rattle.settings.specs.Mode.{isRestarting}
-use Rattle.settings.proofs.ModeLaws.{restarting-on}
+use Rattle.settings.specs.Mode.{isRunning}
 use native.Mathlib.Omega.{arith}
 use mathlib.Core.Path.{sym, ap, _∙_}
 use Prim.Native.Nat.{_-_}
@@ -32,14 +31,14 @@ part-mode-of-end c = search needs
 mode-of-requires : tie.Need-mode-of-requires
 mode-of-requires c κs = search needs
 
-is-restarting-requires : tie.Need-is-restarting-requires
-is-restarting-requires c κs = search needs
+is-running-requires : tie.Need-is-running-requires
+is-running-requires c κs = search needs
 
 same-length : tie.Need-same-length
 same-length c = search needs
 
 returns-2 : tie.Need-returns-2
-returns-2 c = let a = c .before .before .before .before .before .before .before .before .before .args in along (csnp-outside (a .gateway .now) (a .n) (c .before .before .before .before .before .before .before .before .before .pre .0) (a .s) (a .level) (sym (c .before .before .before .before .before .before .has-level .ensures) ∙ not-false _ (c .before .before .before .before .before .if1 .left)) (sym (ap isRestarting (c .before .before .mode-of .ensures)) ∙ sym (c .before .is-restarting .ensures) ∙ not-true _ (c .if2 .taken))) (refuses (a .gateway .now) (a .n) _ NotRestarting)
+returns-2 c = let a = c .before .before .before .before .before .before .before .before .before .args in along (csnp-outside (a .gateway .now) (a .n) (c .before .before .before .before .before .before .before .before .before .pre .0) (a .s) (a .level) (sym (c .before .before .before .before .before .before .has-level .ensures) ∙ not-false _ (c .before .before .before .before .before .if1 .left)) (sym (ap isRunning (c .before .before .mode-of .ensures)) ∙ sym (c .before .is-running .ensures) ∙ c .if2 .taken)) (refuses (a .gateway .now) (a .n) _ NotRestarting)
 
 only-level-requires : tie.Need-only-level-requires
 only-level-requires c κs = search needs
@@ -57,13 +56,13 @@ part-notice-csnp-end : tie.Need-part-notice-csnp-end
 part-notice-csnp-end c = search needs
 
 notice-csnp-requires : tie.Need-notice-csnp-requires
-notice-csnp-requires c κs = (omega (arith, c .before .before .before .before .before .before .before .before .before .before .before .pre .0), omega (arith, c .before .before .before .before .before .before .before .before .before .before .before .pre .1, c .before .before .before .before .before .before .before .before .before .before .before .pre .2), restarting-on (commonOf (part 0 controlWords (c .before .before .before .before .before .before .before .before .before .before .before .args .gateway .now)) .timers .mode) (sym (ap isRestarting (c .before .before .before .before .mode-of .ensures)) ∙ sym (c .before .before .before .is-restarting .ensures) ∙ not-false _ (c .before .before .if2 .left)))
+notice-csnp-requires c κs = (omega (arith, c .before .before .before .before .before .before .before .before .before .before .before .pre .0), omega (arith, c .before .before .before .before .before .before .before .before .before .before .before .pre .1, c .before .before .before .before .before .before .before .before .before .before .before .pre .2), (sym (ap isRunning (c .before .before .before .before .mode-of .ensures)) ∙ sym (c .before .before .before .is-running .ensures) ∙ c .before .before .if2 .left))
 
 same-length-2 : tie.Need-same-length-2
 same-length-2 c = search needs
 
 returns-3 : tie.Need-returns-3
-returns-3 c = let a = c .before .before .before .before .before .before .before .before .before .before .before .before .before .before .args in let x = c .before .before .notice-csnp in csnp-taken (a .gateway .now) (a .n) (c .before .before .before .before .before .before .before .before .before .before .before .before .before .before .pre .0) (a .s) (a .level) (sym (c .before .before .before .before .before .before .before .before .before .before .before .has-level .ensures) ∙ not-false _ (c .before .before .before .before .before .before .before .before .before .before .if1 .left)) (sym (ap isRestarting (c .before .before .before .before .before .before .before .mode-of .ensures)) ∙ sym (c .before .before .before .before .before .before .is-restarting .ensures) ∙ not-false _ (c .before .before .before .before .before .if2 .left)) _ (c .before .before .before .before .only-level .ensures) (x .last .0) (omega (arith, x .kept .0)) _ (x .ensures)
+returns-3 c = let a = c .before .before .before .before .before .before .before .before .before .before .before .before .before .before .args in let x = c .before .before .notice-csnp in csnp-taken (a .gateway .now) (a .n) (c .before .before .before .before .before .before .before .before .before .before .before .before .before .before .pre .0) (a .s) (a .level) (sym (c .before .before .before .before .before .before .before .before .before .before .before .has-level .ensures) ∙ not-false _ (c .before .before .before .before .before .before .before .before .before .before .if1 .left)) (sym (ap isRunning (c .before .before .before .before .before .before .before .mode-of .ensures)) ∙ sym (c .before .before .before .before .before .before .is-running .ensures) ∙ c .before .before .before .before .before .if2 .left) _ (c .before .before .before .before .only-level .ensures) (x .last .0) (omega (arith, x .kept .0)) _ (x .ensures)
 
 pub csnp-on-spec : {M : Type 1} → statement M
 csnp-on-spec =
@@ -75,7 +74,7 @@ csnp-on-spec =
     part-mode-of-start
     part-mode-of-end
     mode-of-requires
-    is-restarting-requires
+    is-running-requires
     same-length
     returns-2
     only-level-requires

@@ -3,8 +3,7 @@ use Rattle.basics.specs.Lists.{part}
 use Rattle.control.specs.Words.{controlWords, commonOf}
 use Rattle.gateway.proofs.CallLaws.{database-off, database-outside, database-taken}
 use borrow.Author.Tests.{not-true, not-false}
-use Rattle.settings.specs.Mode.{isRestarting}
-use Rattle.settings.proofs.ModeLaws.{restarting-on}
+use Rattle.settings.specs.Mode.{isRunning}
 use native.Mathlib.Omega.{arith}
 use mathlib.Core.Path.{sym, ap, _∙_}
 use Prim.Native.Nat.{_-_}
@@ -45,14 +44,14 @@ part-mode-of-end c = search needs
 mode-of-requires : tie.Need-mode-of-requires
 mode-of-requires c κs = search needs
 
-is-restarting-requires : tie.Need-is-restarting-requires
-is-restarting-requires c κs = search needs
+is-running-requires : tie.Need-is-running-requires
+is-running-requires c κs = search needs
 
 same-length-2 : tie.Need-same-length-2
 same-length-2 c = search needs
 
 returns-2 : tie.Need-returns-2
-returns-2 c = let a = c .before .before .before .before .before .before .before .before .before .before .before .args in database-outside (a .gateway .now) (a .level) _ (c .before .before .before .before .before .before .before .levels-of .ensures) (sym (c .before .before .before .before .before .before .has-level .ensures) ∙ not-false _ (c .before .before .before .before .before .if1 .left)) (sym (ap isRestarting (c .before .before .mode-of .ensures)) ∙ sym (c .before .is-restarting .ensures) ∙ not-true _ (c .if2 .taken))
+returns-2 c = let a = c .before .before .before .before .before .before .before .before .before .before .before .args in database-outside (a .gateway .now) (a .level) _ (c .before .before .before .before .before .before .before .levels-of .ensures) (sym (c .before .before .before .before .before .before .has-level .ensures) ∙ not-false _ (c .before .before .before .before .before .if1 .left)) (sym (ap isRunning (c .before .before .mode-of .ensures)) ∙ sym (c .before .is-running .ensures) ∙ c .if2 .taken)
 
 only-level-requires : tie.Need-only-level-requires
 only-level-requires c κs = search needs
@@ -67,13 +66,13 @@ part-notice-database-end : tie.Need-part-notice-database-end
 part-notice-database-end c = search needs
 
 notice-database-requires : tie.Need-notice-database-requires
-notice-database-requires c κs = (omega (arith, c .before .before .before .before .before .before .before .before .before .before .before .before .before .pre), restarting-on (commonOf (part 0 controlWords (c .before .before .before .before .before .before .before .before .before .before .before .before .before .args .gateway .now)) .timers .mode) (sym (ap isRestarting (c .before .before .before .before .mode-of .ensures)) ∙ sym (c .before .before .before .is-restarting .ensures) ∙ not-false _ (c .before .before .if2 .left)))
+notice-database-requires c κs = (omega (arith, c .before .before .before .before .before .before .before .before .before .before .before .before .before .pre), (sym (ap isRunning (c .before .before .before .before .mode-of .ensures)) ∙ sym (c .before .before .before .is-running .ensures) ∙ c .before .before .if2 .left))
 
 same-length-3 : tie.Need-same-length-3
 same-length-3 c = search needs
 
 returns-3 : tie.Need-returns-3
-returns-3 c = let a = c .before .before .before .before .before .before .before .before .before .before .before .before .before .before .before .before .args in let x = c .before .before .notice-database in database-taken (a .gateway .now) (a .level) _ (c .before .before .before .before .before .before .before .before .before .before .before .before .levels-of .ensures) (sym (c .before .before .before .before .before .before .before .before .before .before .before .has-level .ensures) ∙ not-false _ (c .before .before .before .before .before .before .before .before .before .before .if1 .left)) (sym (ap isRestarting (c .before .before .before .before .before .before .before .mode-of .ensures)) ∙ sym (c .before .before .before .before .before .before .is-restarting .ensures) ∙ not-false _ (c .before .before .before .before .before .if2 .left)) _ (c .before .before .before .before .only-level .ensures) (x .last .0) (c .before .before .before .before .before .before .before .before .before .before .before .before .before .before .before .before .pre) (omega (arith, x .kept .0)) _ (x .ensures)
+returns-3 c = let a = c .before .before .before .before .before .before .before .before .before .before .before .before .before .before .before .before .args in let x = c .before .before .notice-database in database-taken (a .gateway .now) (a .level) _ (c .before .before .before .before .before .before .before .before .before .before .before .before .levels-of .ensures) (sym (c .before .before .before .before .before .before .before .before .before .before .before .has-level .ensures) ∙ not-false _ (c .before .before .before .before .before .before .before .before .before .before .if1 .left)) (sym (ap isRunning (c .before .before .before .before .before .before .before .mode-of .ensures)) ∙ sym (c .before .before .before .before .before .before .is-running .ensures) ∙ c .before .before .before .before .before .if2 .left) _ (c .before .before .before .before .only-level .ensures) (x .last .0) (c .before .before .before .before .before .before .before .before .before .before .before .before .before .before .before .before .pre) (omega (arith, x .kept .0)) _ (x .ensures)
 
 pub database-in-spec : {M : Type 1} → statement M
 database-in-spec =
@@ -90,7 +89,7 @@ database-in-spec =
     part-mode-of-start
     part-mode-of-end
     mode-of-requires
-    is-restarting-requires
+    is-running-requires
     same-length-2
     returns-2
     only-level-requires

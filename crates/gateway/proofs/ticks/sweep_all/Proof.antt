@@ -25,7 +25,7 @@ same-length : tie.Need-same-length
 same-length c = search needs
 
 returns : tie.Need-returns
-returns c = let a = c .before .before .before .before .before .before .before .before .before .args in let x = c .before .before .before .before .before .before .sweep-rooms in let y = c .before .before .tick in swept-all (a .gateway .now) (a .clock) (x .last .0) (y .last .0) _ _ _ (x .kept .0 ∙ c .before .before .before .before .before .before .before .before .before .pre) (omega (arith, y .kept .0)) (x .ensures .0) (x .ensures .1) (y .ensures)
+returns c = let a = c .before .before .before .before .before .before .before .before .before .before .args in let x = c .before .before .before .before .before .before .before .sweep-rooms in let y = c .before .before .before .tick in swept-all (a .gateway .now) (a .clock) (x .last .0) (y .last .0) _ _ _ (x .kept .0 ∙ c .before .before .before .before .before .before .before .before .before .before .pre) (omega (arith, y .kept .0)) (x .ensures .0) (x .ensures .1) (y .ensures)
 
 pub sweep-all-spec : {M : Type 1} → statement M
 sweep-all-spec =

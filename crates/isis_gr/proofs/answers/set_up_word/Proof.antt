@@ -23,11 +23,22 @@ cast-result-2 c = search needs
 mul-result : tie.Need-mul-result
 mul-result c = search needs
 
+cast-result-3 : tie.Need-cast-result-3
+cast-result-3 c = search needs
+
+mul-result-2 : tie.Need-mul-result-2
+mul-result-2 c = search needs
+
+add-result : tie.Need-add-result
+add-result c = search needs
+
 returns : tie.Need-returns
 returns c = search needs
 
 returns-2 : tie.Need-returns-2
-returns-2 c = let h = mask-bitsOf 8 (c .before .a2 .given .0 .0) (omega arith) in rw (c .before .a2 .given .1) (omega arith)
+returns-2 c = let g = c .before .before .before .before .a2 .given in
+    let h = mask-bitsOf 8 (g .0 .0 .circuits) (omega arith) in
+    rw (g .1) (omega arith)
 
 pub set-up-word-spec : {M : Type 1} → statement M
 set-up-word-spec =
@@ -39,5 +50,8 @@ set-up-word-spec =
     enum-known-a-2
     cast-result-2
     mul-result
+    cast-result-3
+    mul-result-2
+    add-result
     returns
     returns-2)

@@ -44,11 +44,23 @@ mul-result-3 c = search needs
 add-result-2 : tie.Need-add-result-2
 add-result-2 c = search needs
 
+cast-result-5 : tie.Need-cast-result-5
+cast-result-5 c = search needs
+
+mul-result-4 : tie.Need-mul-result-4
+mul-result-4 c = search needs
+
+add-result-3 : tie.Need-add-result-3
+add-result-3 c = search needs
+
 returns : tie.Need-returns
 returns c = search needs
 
 returns-2 : tie.Need-returns-2
-returns-2 c = let m = mask-bitsOf 8 (c .before .before .a2 .given .0 .0) (omega arith) in let h = mask-bitsOf 8 (c .before .before .a2 .given .0 .1 .0) (omega arith) in rw (c .before .before .a2 .given .1) (omega arith)
+returns-2 c = let g = c .before .before .before .before .before .a2 .given in
+    let m = mask-bitsOf 8 (g .0 .0) (omega arith) in
+    let h = mask-bitsOf 8 (g .0 .1 .0 .circuits) (omega arith) in
+    rw (g .1) (omega arith)
 
 pub ticked-word-spec : {M : Type 1} → statement M
 ticked-word-spec =
@@ -67,5 +79,8 @@ ticked-word-spec =
     cast-result-4
     mul-result-3
     add-result-2
+    cast-result-5
+    mul-result-4
+    add-result-3
     returns
     returns-2)

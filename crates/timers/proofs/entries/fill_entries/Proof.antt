@@ -12,10 +12,10 @@ use Rattle.timers.proofs.entries.fill_entries.Statement.{statement}
 use Rattle.timers.proofs.entries.fill_entries.Tie as tie
 
 abbrev Inv-loop : tie.InvT-loop
-Inv-loop words₀ deadline i₀ words i = (i ≤ circuits) × (length words ≡ wordCount) × ((j : ℕ) → j < i → entryAt words j ≡ startEntry deadline)
+Inv-loop words₀ begun deadline i₀ words i = (i ≤ circuits) × (length words ≡ wordCount) × ((j : ℕ) → j < i → entryAt words j ≡ startEntry begun deadline)
 
 abbrev μ-loop : tie.MeasureT-loop
-μ-loop words₀ deadline i₀ words i = circuits - i
+μ-loop words₀ begun deadline i₀ words i = circuits - i
 
 loop-holds : tie.Need-loop-holds Inv-loop μ-loop
 loop-holds c = (omega arith, c .before .pre, λ j (k : j < 0). absurd (omega arith))

@@ -25,8 +25,8 @@ mul-b-2 c = search needs
 shared-slice-read-b : tie.Need-shared-slice-read-b
 shared-slice-read-b c = search needs
 
-cast-t11 : tie.Need-cast-t11
-cast-t11 c = search needs
+cast-t14 : tie.Need-cast-t14
+cast-t14 c = search needs
 
 returns : tie.Need-returns
 unfolding entryAt entryOf
@@ -43,5 +43,5 @@ load-entry-spec =
     add-b
     mul-b-2
     shared-slice-read-b
-    cast-t11
+    cast-t14
     returns)

@@ -3,7 +3,7 @@ use mathlib.Core.Path.{sym, ap, _∙_}
 use lib.ListN.{set}
 use lib.Seq.{set-getD}
 use borrow.Author.Tests.{not-true}
-use Rattle.timers.specs.Events.{helloBits}
+use Rattle.timers.specs.Hellos.{helloBits}
 use Rattle.timers.specs.Timers.{noT1}
 use Rattle.timer_parts.specs.T1.{due, tickT1, helloDue}
 use Rattle.timer_parts.proofs.T1Laws.{tick-not-due, hello-not-due}

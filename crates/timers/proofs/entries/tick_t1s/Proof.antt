@@ -5,7 +5,7 @@ use mathlib.Core.Path.{_≡_, refl, _∙_}
 use mathlib.Core.List.{_++_, map}
 use lib.ListN.{length, take, drop, getD}
 use Prim.Native.Nat.{_-_, _≤_, _<_}
-use Rattle.timers.specs.Events.{helloBits}
+use Rattle.timers.specs.Hellos.{helloBits}
 use Rattle.basics.specs.Mask.{circuits}
 use Rattle.timer_parts.specs.T1.{tickT1, helloDue}
 use Rattle.timers.specs.Timers.{noT1}

@@ -1,15 +1,39 @@
--- One T1 is loaded, changed and stored, and T3 changed; then the call is settled.
+-- One T1 is loaded, perhaps begun, changed and stored, and T3 changed; then the call is settled.
+use Prim.Native.Nat.{_+_}
 use mathlib.Core.Path.{ap, _∙_}
-use Rattle.timer_parts.specs.T1.{heardT1, freedBy}
-use Rattle.timers.specs.Timers.{heardIn}
+use mathlib.Core.Bool.{Bool, _&&_}
+use Rattle.settings.specs.Mode.{isRestarting}
+use Rattle.timer_parts.specs.T1.{begunBy, heardT1, freedBy}
+use Rattle.timer_parts.specs.declared.t1.T1.{T1}
+use Rattle.timers.specs.Timers.{heardIn, upIn, firstT1}
+use Rattle.timers.specs.Hellos.{beginHello}
+use Rattle.timers.specs.Outcome.{raised, freedIn}
 use Rattle.timers.specs.Memory.{entryAt, timersOf}
 use Rattle.timers.proofs.TimersLaws.{closes, hears, t1-stored, heardIn-is}
 use borrow.Author.Needs.{needs}
 use Rattle.timers.proofs.events.hear_hello.Statement.{statement}
 use Rattle.timers.proofs.events.hear_hello.Tie as tie
 
+is-starting-requires : tie.Need-is-starting-requires
+is-starting-requires c κs = search needs
+
 load-t1-requires : tie.Need-load-t1-requires
 load-t1-requires c κs = search needs
+
+begin-hello-requires : tie.Need-begin-hello-requires
+begin-hello-requires c κs = search needs
+
+cast-begun-by : tie.Need-cast-begun-by
+cast-begun-by c = search needs
+
+add-begun-by : tie.Need-add-begun-by
+add-begun-by c = search needs
+
+begun-by-requires : tie.Need-begun-by-requires
+begun-by-requires c κs = search needs
+
+is-restarting-requires : tie.Need-is-restarting-requires
+is-restarting-requires c κs = search needs
 
 freed-by-requires : tie.Need-freed-by-requires
 freed-by-requires c κs = search needs
@@ -32,28 +56,49 @@ with-t3-requires c κs = search needs
 settle-requires : tie.Need-settle-requires
 settle-requires c κs = search needs
 
+raise-requires : tie.Need-raise-requires
+raise-requires c κs = search needs
+
 same-length : tie.Need-same-length
 same-length c = search needs
 
 returns : tie.Need-returns
-returns c = let a = c .before .before .before .before .before .before .before .before .before .before .before .before .before .before .args in
-    let st = c .before .before .before .before .before .before .before .store-t1 in
-    let ld = c .before .before .before .before .before .before .before .before .before .before .before .load-t1 in
+unfolding freedIn
+returns c = let a = c .before .before .before .before .before .before .before .before .before .before .before .before .before .before .before .before .before .before .before .before .args in
+    let st = c .before .before .before .before .before .before .before .before .store-t1 in
+    let ld = c .before .before .before .before .before .before .before .before .before .before .before .before .before .before .before .before .load-t1 in
+    let is = c .before .before .before .before .before .before .before .before .before .before .before .before .before .before .before .before .before .before .is-starting in
+    let bb = c .before .before .before .before .before .before .before .before .before .before .before .before .before .begun-by in
     let e = entryAt (a .words .now) in
     let f = entryAt (st .last .0) in
-    let g = heardT1 (a .l) (a .d) in
-    let stored = c .before .before .before .with-mask .ensures f ∙ t1-stored (a .h) (st .result) (a .i) e f g _ (c .before .before .before .before .before .before .before .before .before .hear-t1 .ensures ∙ ap g (ld .ensures)) (st .ensures) in
-    hears (a .clock) (a .i) (a .l) (a .d) (a .h) e _ _ _
-    (closes (heardIn (a .clock) (a .i) (a .l) (a .d)) (timersOf (a .h) e) _ _ _
-    (c .before .before .with-t3 .ensures f ∙ heardIn-is (a .clock) (a .i) (a .l) (a .d) (a .h) e _ _ stored (c .before .before .before .before .hear-t3 .ensures))
-    (c .before .settle .ensures e f))
-    (c .before .before .before .before .before .before .before .before .before .before .freed-by .ensures ∙ ap (freedBy (a .d)) (ld .ensures))
+    let g : (T1 → T1) = λ x. heardT1 (a .l) (a .d) (firstT1 (a .s) (a .clock) (a .h .mode) (a .rose) x) in
+    let first =
+    bb .ensures ∙ ap (λ (b : Bool). begunBy (b && a .rose) (a .clock + a .s .t1) (ld .result)) (is .ensures)
+    ∙ ap (firstT1 (a .s) (a .clock) (a .h .mode) (a .rose)) (ld .ensures) in
+    let stored =
+    c .before .before .before .before .with-mask .ensures f
+    ∙ t1-stored (a .h) (st .result) (a .i) e f g _ (c .before .before .before .before .before .before .before .before .before .before .hear-t1 .ensures ∙ ap (heardT1 (a .l) (a .d)) first) (st .ensures) in
+    hears (a .s) (a .clock) (a .i) (a .l) (a .rose) (a .d) (a .h) e _ _ _ _ _ (c .before .before .before .before .before .before .before .before .before .before .before .before .before .before .before .before .before .before .before .before .pre .2)
+    (closes (heardIn (a .s) (a .clock) (a .i) (a .l) (a .rose) (a .d)) (timersOf (a .h) e) _ _ _
+    (c .before .before .before .with-t3 .ensures f ∙ heardIn-is (a .s) (a .clock) (a .i) (a .l) (a .rose) (a .d) (a .h) e _ _ stored (c .before .before .before .before .before .hear-t3 .ensures))
+    (c .before .before .settle .ensures e f))
+    (c .raise .ensures ∙ ap (λ (b : Bool). raised (b && a .rose) (c .before .before .settle .result .outcome)) (is .ensures))
+    (c .before .before .before .before .before .before .before .before .before .before .before .freed-by .ensures ∙ ap (λ (b : Bool). freedBy b (a .d) (bb .result)) (c .before .before .before .before .before .before .before .before .before .before .before .before .is-restarting .ensures)
+    ∙ ap (freedBy (isRestarting (a .h .mode)) (a .d)) first)
+    (c .before .before .before .before .before .before .before .before .before .before .before .before .before .before .before .begin-hello .ensures ∙ ap (λ (b : Bool). beginHello (b && a .rose) (ld .result)) (is .ensures)
+    ∙ ap (beginHello (upIn (a .h .mode) (a .rose))) (ld .ensures))
 
 pub hear-hello-spec : {M : Type 1} → statement M
 hear-hello-spec =
     tie.close
     (tie.spec
+    is-starting-requires
     load-t1-requires
+    begin-hello-requires
+    cast-begun-by
+    add-begun-by
+    begun-by-requires
+    is-restarting-requires
     freed-by-requires
     hear-t1-requires
     store-t1-requires
@@ -61,5 +106,6 @@ hear-hello-spec =
     with-mask-requires
     with-t3-requires
     settle-requires
+    raise-requires
     same-length
     returns)

@@ -1,5 +1,5 @@
 -- The mode decides `startHead`.
-use Rattle.timers.specs.Events.{startHead}
+use Rattle.timers.specs.Events.{headIn}
 use borrow.Author.Needs.{needs}
 use Rattle.timers.proofs.events.start_head.Statement.{statement}
 use Rattle.timers.proofs.events.start_head.Tie as tie
@@ -25,19 +25,38 @@ add-start-t2s c = search needs
 start-t2s-requires-2 : tie.Need-start-t2s-requires-2
 start-t2s-requires-2 c κs = search needs
 
-cast-t11 : tie.Need-cast-t11
-cast-t11 c = search needs
+cast-t12 : tie.Need-cast-t12
+cast-t12 c = search needs
 
-add-t13 : tie.Need-add-t13
-add-t13 c = search needs
+add-t14 : tie.Need-add-t14
+add-t14 c = search needs
+
+enum-told-3 : tie.Need-enum-told-3
+enum-told-3 c = search needs
+
+cast-start-t2s-3 : tie.Need-cast-start-t2s-3
+cast-start-t2s-3 c = search needs
+
+cast-start-t2s-4 : tie.Need-cast-start-t2s-4
+cast-start-t2s-4 c = search needs
+
+add-start-t2s-2 : tie.Need-add-start-t2s-2
+add-start-t2s-2 c = search needs
+
+start-t2s-requires-3 : tie.Need-start-t2s-requires-3
+start-t2s-requires-3 c κs = search needs
 
 returns : tie.Need-returns
-unfolding startHead
+unfolding headIn
 returns c = rw (c .before .enum-told .given .1, c .start-t2s .ensures)
 
 returns-2 : tie.Need-returns-2
-unfolding startHead
+unfolding headIn
 returns-2 c = rw (c .before .before .enum-told2 .given .1, c .start-t2s2 .ensures)
+
+returns-3 : tie.Need-returns-3
+unfolding headIn
+returns-3 c = rw (c .before .before .enum-told3 .given .1, c .start-t2s3 .ensures)
 
 pub start-head-spec : {M : Type 1} → statement M
 start-head-spec =
@@ -50,7 +69,13 @@ start-head-spec =
     cast-start-t2s-2
     add-start-t2s
     start-t2s-requires-2
-    cast-t11
-    add-t13
+    cast-t12
+    add-t14
+    enum-told-3
+    cast-start-t2s-3
+    cast-start-t2s-4
+    add-start-t2s-2
+    start-t2s-requires-3
     returns
-    returns-2)
+    returns-2
+    returns-3)

@@ -17,6 +17,9 @@ is-expired-requires-2 c κs = search needs
 is-running-requires : tie.Need-is-running-requires
 is-running-requires c κs = search needs
 
+is-starting-requires : tie.Need-is-starting-requires
+is-starting-requires c κs = search needs
+
 overload-of-requires : tie.Need-overload-of-requires
 overload-of-requires c κs = search needs
 
@@ -26,7 +29,7 @@ outcome-with-requires c κs = search needs
 returns : tie.Need-returns
 unfolding outcomeOf overloadDue timersOf
 returns c = λ d e f.
-    simp (c .outcome-with .ensures, c .before .overload-of .ensures, c .before .before .is-running .ensures, c .before .before .before .is-expired2 .ensures, c .before .before .before .before .is-expired .ensures, c .before .before .before .before .before .spf-due .ensures)
+    simp (c .outcome-with .ensures, c .before .overload-of .ensures, c .before .before .is-starting .ensures, c .before .before .before .is-running .ensures, c .before .before .before .before .is-expired2 .ensures, c .before .before .before .before .before .is-expired .ensures, c .before .before .before .before .before .before .spf-due .ensures)
 
 pub outcome-of-spec : {M : Type 1} → statement M
 outcome-of-spec =
@@ -36,6 +39,7 @@ outcome-of-spec =
     is-expired-requires
     is-expired-requires-2
     is-running-requires
+    is-starting-requires
     overload-of-requires
     outcome-with-requires
     returns)

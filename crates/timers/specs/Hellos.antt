@@ -1,0 +1,48 @@
+-- Orders for hellos (document 01, "Timers while Restarting"; document 02, W-201; RFC 8706, 3.3.1 and 3.3.2): on which circuits, and with which
+-- flags.
+use Prim.Native.Nat.{ℕ}
+use mathlib.Core.Bool.{Bool, false, cond}
+use mathlib.Core.List.{List}
+use lib.ListN.{replicate}
+use Rattle.basics.specs.Mask.{circuits, bitsOf, anyTrue}
+use Rattle.restart_tlv.specs.Flags.{RR, SA}
+use Rattle.timer_parts.specs.T1.{RRandSA, begins}
+use Rattle.timer_parts.specs.declared.t1.T1.{T1}
+use Rattle.settings.specs.declared.mode.Mode.{Mode}
+use Rattle.settings.specs.declared.mode.Mode.the-variants.{Running, Restarting, Starting}
+use Rattle.timers.specs.declared.hellos.HelloOrder.{HelloOrder}
+use Rattle.timers.specs.declared.hellos.HelloOrder.the-variants.{Nothing, Send}
+use Rattle.timers.specs.declared.hellos.HelloOrders.{HelloOrders}
+
+-- over all circuits, circuit 1 first; the flags are 0 where no hello is ordered
+pub record Hellos : Type 0 where
+  pub circuits : List Bool
+  pub flags : ℕ
+
+-- a mask's digits for hello orders: one for each circuit
+abbrev pub helloCount : ℕ
+helloCount = circuits
+
+abbrev pub helloBits : ℕ → List Bool
+helloBits m = bitsOf helloCount m
+
+-- a hello with these flags on each of these circuits
+unfoldable pub ordering : ℕ → List Bool → Hellos
+ordering flags on = record { circuits = on; flags = cond (anyTrue on) flags 0 }
+
+abbrev pub noHellos : Hellos
+noHellos = record { circuits = replicate helloCount false; flags = 0 }
+
+-- the code's
+abbrev pub hellosOf : HelloOrders → Hellos
+hellosOf o = record { circuits = helloBits (o .circuits); flags = o .flags .bits }
+
+-- "order the hello again": with RR; document 02, W-201: "from its first expiry while it runs hellos carry RR and SA"
+abbrev pub againFlags : Mode → ℕ
+againFlags Running = 0
+againFlags Restarting = RR
+againFlags Starting = RRandSA
+
+-- document 02, W-201: T1 begins "with a hello of RR clear and SA set"
+unfoldable pub beginHello : Bool → T1 → HelloOrder
+beginHello up t = cond (begins up t) (Send (record { bits = SA })) Nothing

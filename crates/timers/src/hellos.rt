@@ -1,0 +1,54 @@
+// Orders for hellos (document 01, "Timers while Restarting"; document 02, W-201; RFC 8706, 3.3.1 and 3.3.2).
+use basics::mask::any_bit;
+use restart_tlv::flags::Flags;
+use settings::mode::Mode;
+use timer_parts::t1::T1;
+use timer_parts::t1::does_begin;
+ghost use mathlib.Core.Path.{_≡_};
+ghost use Rattle.timers.specs.Hellos.{helloBits, ordering, hellosOf, againFlags, beginHello};
+
+// On the circuits of a mask, with flags; without any where there is no circuit.
+pub struct HelloOrders {
+    pub circuits: u8,
+    pub flags: Flags,
+}
+
+// On the circuit of a frame.
+pub enum HelloOrder {
+    Nothing,
+    Send(Flags),
+}
+
+// A hello with these flags on each circuit of a mask.
+pub fn order_hellos(circuits: u8, flags: Flags) -> HelloOrders
+    ensures { λ r. ⌜ hellosOf r ≡ ordering (flags .bits) (helloBits circuits) ⌝ }
+{
+    if any_bit(circuits) {
+        return HelloOrders { circuits, flags };
+    }
+    HelloOrders {
+        circuits,
+        flags: Flags::NONE,
+    }
+}
+
+// The flags of the hello that a T1 orders at its expiries.
+pub fn again_flags(mode: Mode) -> Flags
+    ensures { λ r. ⌜ r .bits ≡ againFlags mode ⌝ }
+{
+    match mode {
+        Mode::Running => Flags::NONE,
+        Mode::Restarting => Flags::RR,
+        Mode::Starting => Flags::RR.with(Flags::SA),
+    }
+}
+
+// The hello that a T1 begins with, where it does begin.
+pub fn begin_hello(up: bool, t: T1) -> HelloOrder
+    ensures { λ r. ⌜ r ≡ beginHello up t ⌝ }
+{
+    if does_begin(up, t) {
+        return HelloOrder::Send(Flags::SA);
+    }
+    HelloOrder::Nothing
+}
