@@ -1,10 +1,11 @@
-/* A small speaker of IS-IS hellos on one interface (AF_PACKET; Linux, root): holds P2P or LAN adjacencies, restarts, plans a restart, and answers
- * those that do. It keeps no LSPs: its CSNPs are empty, and its database is complete as soon as no circuit waits for T1. What a daemon of
+/* A small speaker of IS-IS hellos on one interface (AF_PACKET; Linux, root): holds P2P or LAN adjacencies, restarts, starts, plans a restart,
+ * and answers those that do. It keeps no LSPs: its CSNPs are empty, and its database is complete as soon as no circuit waits for T1. What a daemon of
  * its own would do about SPF, LSPs and forwarding is printed. `make live` runs it against FRR and against itself.
  *
- *   daemon NAME INTERFACE p2p|lan SYSTEM_ID IPV4 SECONDS [restart] [plan=AT] [reverse=METRIC] [levels=MASK] [priority=N]
+ *   daemon NAME INTERFACE p2p|lan SYSTEM_ID IPV4 SECONDS [restart|start] [plan=AT] [reverse=METRIC] [levels=MASK] [priority=N]
  *
- * SYSTEM_ID is 12 hexadecimal digits; SECONDS after its start it ends; `plan` sets PR in its hellos from AT seconds on. Area 49.0001. */
+ * SYSTEM_ID is 12 hexadecimal digits; SECONDS after its start it ends; `restart` and `start` are the modes Restarting and Starting; `plan` sets PR
+ * in its hellos from AT seconds on. Area 49.0001. */
 #define _DEFAULT_SOURCE
 #include "isis_gr.h"
 
@@ -26,7 +27,8 @@ static isis_gr_gateway g; /* static: 5,120 octets are much for a small stack */
 static isis_gr_settings settings;
 static const isis_gr_circuit *const circuit = &settings.circuits[0];
 static const char *name, *interface;
-static int fd, restarting, noticed, carrier = 1;
+static uint8_t mode; /* ISIS_GR_MODE_..: as it was set up, and Running once that ended */
+static int fd, begun, noticed, carrier = 1; /* a T1 began, in a start with the first neighbour; the databases were noticed */
 static unsigned length_of_life, plan_at;
 static uint32_t start_clock, clock_now, reverse, metric;
 static uint8_t ip[4], lan_id[3][7], peer_id[6];
@@ -72,11 +74,11 @@ static void put_neighbours(hello *h, uint8_t level) {
     hello_neighbours(h, macs, n);
 }
 
-/* TLV 240: the record's state; Initializing with RR (RFC 8706, 3.3.1); Down where the neighbour must reinitialise */
+/* TLV 240: the record's state; Initializing with RR alone, a restart's (RFC 8706, 3.3.1); Down where the neighbour must reinitialise */
 static void put_three_way(hello *h, uint8_t flags, int down) {
     static const uint8_t shown[3] = {HELLO_DOWN, HELLO_INITIALIZING, HELLO_UP};
     uint8_t state = shown[isis_gr_look_up(&g, CIRCUIT, 0, peer_id, NULL).state];
-    state = down ? HELLO_DOWN : flags & HELLO_RR ? HELLO_INITIALIZING : state;
+    state = down ? HELLO_DOWN : flags == HELLO_RR ? HELLO_INITIALIZING : state;
     hello_three_way(h, state, circuit->id, heard && state != HELLO_DOWN ? peer_id : NULL, peer_circuit);
 }
 
@@ -120,11 +122,18 @@ static void send_hellos(uint8_t flags) {
 
 static int plans(void) { return plan_at && clock_now - start_clock >= plan_at; }
 
-/* Ordinary hellos, which have PR while we plan (RFC 8706, 3.2.3); there are none while T1 runs (RFC 8706, 3.3.1). */
+/* Ordinary hellos: they have the flags of a start (RFC 8706, 3.3.2), or PR while we plan (RFC 8706, 3.2.3). There are none while T1 of a restart runs
+   (RFC 8706, 3.3.1). */
 static void send_ordinary(void) {
-    if (isis_gr_next_hello_flags(&g, CIRCUIT).flags == 0) {
-        send_hellos(plans() ? HELLO_PR : 0);
+    uint8_t flags = isis_gr_next_hello_flags(&g, CIRCUIT).flags;
+    if (flags != ISIS_GR_FLAG_RR) {
+        send_hellos(flags == 0 && plans() ? HELLO_PR : flags);
     }
+}
+
+static void send_ordered(uint8_t flags) {
+    say("order: hello with%s%s", flags & ISIS_GR_FLAG_RR ? " RR" : "", flags & ISIS_GR_FLAG_SA ? " SA" : "");
+    send_hellos(flags);
 }
 
 /* A complete set of CSNPs of a database that holds nothing: one PDU over the whole range of LSP IDs. */
@@ -145,21 +154,22 @@ static void send_csnps(uint8_t levels) {
 /* ---- the library's orders */
 
 static void carry_out(isis_gr_timers timers) {
+    int restarts = mode == ISIS_GR_MODE_RESTARTING;
     if (timers.spf) {
         say("order: SPF of levels %u (a mask)", timers.spf);
     }
     if (timers.overload & ISIS_GR_OVERLOAD_SET) {
-        say("order: overload bit set");
+        say("order: overload bit set"); /* while starting, in the zeroth LSP (RFC 8706, 3.4.1.2) */
     }
     if (timers.overload & ISIS_GR_OVERLOAD_CLEAR) {
         say("order: overload bit cleared");
     }
     if (timers.restart == ISIS_GR_RESTART_ENDED) {
-        say("restart ended");
-        restarting = 0;
+        say(restarts ? "restart ended" : "start ended");
+        mode = ISIS_GR_MODE_RUNNING;
     }
-    if (timers.restart == ISIS_GR_RESTART_ENDED || timers.overload & ISIS_GR_OVERLOAD_SET) {
-        send_ordinary(); /* at once, so that neighbours refresh their holding times (RFC 8706, 3.4.1.1) */
+    if (timers.restart == ISIS_GR_RESTART_ENDED || (restarts && timers.overload & ISIS_GR_OVERLOAD_SET)) {
+        send_ordinary(); /* at once: neighbours refresh their holding times (RFC 8706, 3.4.1.1), or advertise us (RFC 8706, 3.4.1.2) */
     }
 }
 
@@ -222,8 +232,12 @@ static void hello_came(const uint8_t *source, const uint8_t *frame, size_t n) {
             usleep((useconds_t)(10000 + rand() % 30000)); /* "a few tens of milliseconds on LANs" */
         }
         send_hello(r.level, r.reply, reply, 0);
-    } else if (r.before != r.after) {
+    } else if (r.before != r.after && !r.hello_flags) {
         send_ordinary();
+    }
+    if (r.hello_flags) {
+        begun = 1;
+        send_ordered(r.hello_flags);
     }
     if (r.csnps) {
         send_csnps(r.csnps);
@@ -245,7 +259,7 @@ static void hello_came(const uint8_t *source, const uint8_t *frame, size_t n) {
 /* One CSNP over the whole range is a complete set; sets of several PDUs are not put together here. */
 static void csnp_came(uint8_t level, const uint8_t *pdu, size_t n) {
     static const uint8_t lowest[8] = {0}, highest[8] = {255, 255, 255, 255, 255, 255, 255, 255};
-    if (restarting && n >= 33 && memcmp(pdu + 17, lowest, 8) == 0 && memcmp(pdu + 25, highest, 8) == 0) {
+    if (mode != ISIS_GR_MODE_RUNNING && n >= 33 && memcmp(pdu + 17, lowest, 8) == 0 && memcmp(pdu + 25, highest, 8) == 0) {
         isis_gr_noticed answer = isis_gr_csnp_complete(&g, CIRCUIT, level);
         say("CSNP set of level %u; circuits that wait for T1: %u", level, (unsigned)isis_gr_waiting_circuits(&g).count);
         carry_out(answer.timers);
@@ -285,11 +299,10 @@ static void second(void) {
         say("lost a record");
     }
     if (t.hellos) {
-        say("order: hello with RR");
-        send_hellos(HELLO_RR);
+        send_ordered(t.hello_flags);
     }
     carry_out(t.timers);
-    if (restarting && !noticed && isis_gr_waiting_circuits(&g).count == 0) {
+    if (mode != ISIS_GR_MODE_RUNNING && begun && !noticed && isis_gr_waiting_circuits(&g).count == 0) {
         noticed = 1; /* no LSPs are kept here, so that none is wanted; each level is noticed, with neighbours or without */
         for (level = 1; level <= 2; level++) {
             if (circuit->levels & 1u << (level - 1)) {
@@ -309,7 +322,7 @@ static void read_arguments(int n, char **words) {
     isis_gr_circuit *c = &settings.circuits[0];
     int i;
     if (n < 7 || strlen(words[4]) != 12 || inet_pton(AF_INET, words[5], ip) != 1) {
-        fputs("daemon NAME INTERFACE p2p|lan SYSTEM_ID IPV4 SECONDS [restart] [plan=AT] [reverse=METRIC] [levels=MASK] [priority=N]\n", stderr);
+        fputs("daemon NAME INTERFACE p2p|lan SYSTEM_ID IPV4 SECONDS [restart|start] [plan=AT] [reverse=METRIC] [levels=MASK] [priority=N]\n", stderr);
         exit(2);
     }
     name = words[1];
@@ -325,7 +338,7 @@ static void read_arguments(int n, char **words) {
     length_of_life = (unsigned)atoi(words[6]);
     for (i = 7; i < n; i++) {
         unsigned value = strchr(words[i], '=') ? (unsigned)atoi(strchr(words[i], '=') + 1) : 0;
-        restarting |= strcmp(words[i], "restart") == 0;
+        mode = strcmp(words[i], "restart") == 0 ? ISIS_GR_MODE_RESTARTING : strcmp(words[i], "start") == 0 ? ISIS_GR_MODE_STARTING : mode;
         plan_at = strncmp(words[i], "plan=", 5) == 0 ? value : plan_at;
         reverse = strncmp(words[i], "reverse=", 8) == 0 ? value : reverse;
         c->levels = strncmp(words[i], "levels=", 7) == 0 ? (uint8_t)value : c->levels;
@@ -334,6 +347,7 @@ static void read_arguments(int n, char **words) {
 }
 
 int main(int n, char **words) {
+    static const char *const begins[3] = {"starts", "restarts", "starts without forwarding tables"};
     isis_gr_started started;
     read_arguments(n, words);
     setvbuf(stdout, NULL, _IOLBF, 0);
@@ -343,7 +357,7 @@ int main(int n, char **words) {
     settings.t2 = T2;
     settings.tries = TRIES;
     settings.clock = clock_now;
-    settings.mode = restarting ? ISIS_GR_MODE_RESTARTING : ISIS_GR_MODE_RUNNING;
+    settings.mode = mode;
     settings.count = 1;
     settings.circuits[0].hold = HOLD;
     settings.circuits[0].metric = metric = 10;
@@ -353,9 +367,10 @@ int main(int n, char **words) {
         fprintf(stderr, "%s: setting %u\n", isis_gr_text(started.code), isis_gr_fault(&settings).setting);
         return 2;
     }
-    say(restarting ? "restarts" : "starts");
+    say(begins[mode]);
     if (started.hellos) {
-        send_hellos(HELLO_RR);
+        begun = 1;
+        send_ordered(started.hello_flags);
     }
     while (clock_now - start_clock < length_of_life) {
         struct pollfd ready = {fd, POLLIN, 0};

@@ -1,5 +1,6 @@
 /* Both ends of a P2P link in one process, with a clock of their own: the adjacency comes up, A restarts (its first hello is lost), B plans a
- * restart, is away for longer than the holding time, and restarts. Prints what happens, line by line. docs/INTEGRATION.md quotes the loop.
+ * restart, is away for longer than the holding time, and restarts; A loses its forwarding tables, and starts. Prints what happens, line by line.
+ * docs/INTEGRATION.md quotes the loop.
  *
  * two_ends.out was derived from docs/RULES.md before the program was run; T1 3 s, T2 60 s, holding time 30 s, hellos each 10 s:
  *   0  "The state step", Running: none and Down give INIT, none and Initializing UP, INIT and Up UP; each change is answered by a hello
@@ -9,7 +10,11 @@
  *  29  no T1 runs: each database notice cancels its level's T2 at once and orders the SPF; with the last the mode ends. T3 stood at 28 + 30
  *  40  line 3: expiry 40 + 120, so PA with 120; at 50 the record is marked Planned, the expiry stays, and PA has 160 - 50
  * 100  line 1 at a Planned record: expiry 100 + the configured 30, so RA with 30; then B does what A did at 28 and 29
- * 102  line 5: A heard B last at 101, B heard A last at 100; each expiry is 30 later */
+ * 110  document 02, W-201: set up orders nothing, and every hello has SA. At B UP and Down give INIT; at A none and Initializing give UP, as in the
+ *      mode Running: T1 begins and orders SA, and overload is set. At B INIT and Up give UP, and SA suppresses it
+ * 113  T1's first expiry orders RR and SA; line 1 at B, as at 28, and T1 stops as it did then
+ * 114  the notices as at 29; the last T2 orders overload clear, and hellos have no SA: B advertises A again
+ * 115  line 5: A heard B last at 113; so did B by its own clock, since A's hello of 114 came before B's tick; each expiry is 30 later */
 #include "isis_gr.h"
 
 #include "hello.h"
@@ -28,9 +33,12 @@ typedef struct end {
     struct end *other;
     uint8_t peer[6]; /* the neighbour, as heard */
     uint32_t theirs;
-    int heard, running, restarting, planning;
-    uint8_t wanted; /* levels whose LSPs are still to come */
-    uint32_t asked; /* since when */
+    int heard, running, planning;
+    uint8_t mode;       /* ISIS_GR_MODE_..: as it was set up, and Running once that ended */
+    uint8_t begun;      /* a T1 began */
+    uint8_t advertised; /* the neighbour is in our LSPs */
+    uint8_t wanted;     /* levels whose LSPs are still to come */
+    uint32_t asked;     /* since when */
 } end;
 
 /* what the link carries: a hello, or the CSNPs of some levels */
@@ -87,14 +95,21 @@ static void send_hello(end *e, uint8_t state, uint8_t flags, const uint8_t *repl
         hello_restart(&h, flags, PLANNED, NULL);
     }
     m->length = hello_end(&h);
-    say(e, "sends a hello: %s%s%s%s%s", states[state], flags & HELLO_RR ? ", RR" : "", flags & HELLO_RA ? ", RA" : "",
-        flags & HELLO_PR ? ", PR" : "", flags & HELLO_PA ? ", PA" : "");
+    say(e, "sends a hello: %s%s%s%s%s%s", states[state], flags & HELLO_RR ? ", RR" : "", flags & HELLO_RA ? ", RA" : "",
+        flags & HELLO_SA ? ", SA" : "", flags & HELLO_PR ? ", PR" : "", flags & HELLO_PA ? ", PA" : "");
 }
 
-/* An ordinary hello, which has PR while we plan a restart (RFC 8706, 3.2.3); there is none while T1 runs (RFC 8706, 3.3.1). */
+/* A hello that is ordered, with the order's flags. RR alone is a restart's: Initializing, whatever the record is (RFC 8706, 3.3.1). */
+static void send_ordered(end *e, uint8_t flags) {
+    send_hello(e, flags == ISIS_GR_FLAG_RR ? HELLO_INITIALIZING : shown_state(e), flags, NULL);
+}
+
+/* An ordinary hello: it has the flags of a start (RFC 8706, 3.3.2), or PR while we plan a restart (RFC 8706, 3.2.3). There is none while T1 of a
+   restart runs (RFC 8706, 3.3.1). */
 static void send_ordinary(end *e) {
-    if (isis_gr_next_hello_flags(&e->g, CIRCUIT).flags == 0) {
-        send_hello(e, shown_state(e), e->planning ? HELLO_PR : 0, NULL);
+    uint8_t flags = isis_gr_next_hello_flags(&e->g, CIRCUIT).flags;
+    if (flags != ISIS_GR_FLAG_RR) {
+        send_hello(e, shown_state(e), flags == 0 && e->planning ? HELLO_PR : flags, NULL);
     }
 }
 
@@ -118,8 +133,9 @@ static void learn(end *e, const uint8_t *frame, const uint8_t system_id[6]) {
     }
 }
 
-/* The orders that the timers of a restart give; they are none while we do not restart. */
+/* The orders that the timers of a restart or start give; they are none in the mode Running. */
 static void carry_out(end *e, isis_gr_timers timers) {
+    int restarts = e->mode == ISIS_GR_MODE_RESTARTING;
     uint8_t level;
     for (level = 1; level <= 2; level++) {
         if (timers.spf & 1u << (level - 1)) {
@@ -127,17 +143,17 @@ static void carry_out(end *e, isis_gr_timers timers) {
         }
     }
     if (timers.overload & ISIS_GR_OVERLOAD_SET) {
-        say(e, "sets the overload bit");
+        say(e, "sets the overload bit, sends its LSPs"); /* while starting the zeroth (RFC 8706, 3.4.1.2) */
     }
     if (timers.overload & ISIS_GR_OVERLOAD_CLEAR) {
-        say(e, "clears the overload bit");
+        say(e, "clears the overload bit, sends its LSPs");
     }
     if (timers.restart == ISIS_GR_RESTART_ENDED) {
-        say(e, "has restarted: updates its forwarding tables, sends its LSPs");
-        e->restarting = 0;
+        say(e, restarts ? "has restarted: updates its forwarding tables, sends its LSPs" : "has started: its hellos have no SA any more");
+        e->mode = ISIS_GR_MODE_RUNNING;
     }
-    if (timers.restart == ISIS_GR_RESTART_ENDED || timers.overload & ISIS_GR_OVERLOAD_SET) {
-        send_ordinary(e); /* at once, so that neighbours refresh their holding times (RFC 8706, 3.4.1.1) */
+    if (timers.restart == ISIS_GR_RESTART_ENDED || (restarts && timers.overload & ISIS_GR_OVERLOAD_SET)) {
+        send_ordinary(e); /* at once: neighbours refresh their holding times (RFC 8706, 3.4.1.1), or advertise us (RFC 8706, 3.4.1.2) */
     }
 }
 
@@ -151,14 +167,19 @@ static void hello_came(end *e, const uint8_t *source, const uint8_t *frame, size
         return;
     }
     learn(e, frame, r.system_id);
-    if (r.before != r.after) {
+    if (r.before != r.after || r.advertised != e->advertised) {
         say(e, "has a record: %s, was %s%s", records[r.after], records[r.before], r.advertised ? "; advertises it" : "");
+        e->advertised = r.advertised;
     }
     if (r.reply != ISIS_GR_REPLY_NONE) {
         say(e, "replies %s, Remaining Time %u", r.reply == ISIS_GR_REPLY_RA ? "RA" : "PA", r.remaining);
         send_hello(e, shown_state(e), r.reply, reply);
-    } else if (r.before != r.after) {
+    } else if (r.before != r.after && !r.hello_flags) {
         send_ordinary(e);
+    }
+    if (r.hello_flags) {
+        e->begun = 1;
+        send_ordered(e, r.hello_flags);
     }
     if (r.csnps) {
         send_csnps(e, r.csnps); /* and sets the SRM flags */
@@ -172,7 +193,7 @@ static void hello_came(end *e, const uint8_t *source, const uint8_t *frame, size
 /* The CSNPs of some levels came, each a complete set. */
 static void csnps_came(end *e, uint8_t levels) {
     uint8_t level;
-    for (level = 1; level <= 2 && e->restarting; level++) {
+    for (level = 1; level <= 2 && e->mode != ISIS_GR_MODE_RUNNING; level++) {
         if (levels & 1u << (level - 1)) {
             isis_gr_noticed n = isis_gr_csnp_complete(&e->g, CIRCUIT, level);
             say(e, "has the CSNPs of level %u; circuits that wait for T1: %u", level, (unsigned)isis_gr_waiting_circuits(&e->g).count);
@@ -183,11 +204,15 @@ static void csnps_came(end *e, uint8_t levels) {
     }
 }
 
-/* No LSP that the CSNPs named is wanted any more, and no circuit waits for T1: only now, since a notice cannot be taken back. Each level, with a
-   neighbour or without. */
+/* No LSP that the CSNPs named is wanted any more, and no circuit waits for T1 any more: in a start none does before its first neighbour. */
+static int is_complete(const end *e) {
+    return e->mode != ISIS_GR_MODE_RUNNING && e->begun && !e->wanted && isis_gr_waiting_circuits(&e->g).count == 0;
+}
+
+/* Only then, since a notice cannot be taken back. Each level, with a neighbour or without. */
 static void databases_complete(end *e) {
     uint8_t level;
-    for (level = 1; level <= 2 && e->restarting; level++) {
+    for (level = 1; level <= 2 && e->mode != ISIS_GR_MODE_RUNNING; level++) {
         isis_gr_noticed n = isis_gr_database_complete(&e->g, level);
         say(e, "has the database of level %u", level);
         carry_out(e, n.timers);
@@ -202,15 +227,16 @@ static void second(end *e) {
     }
     if (t.lost) {
         say(e, "lost its neighbour");
+        e->advertised = 0;
     }
     if (t.hellos) {
-        send_hello(e, HELLO_INITIALIZING, HELLO_RR, NULL); /* with RR, whatever next_hello_flags says by now */
+        send_ordered(e, t.hello_flags); /* whatever next_hello_flags says by now */
     }
     carry_out(e, t.timers);
     if (now > e->asked) {
         e->wanted = 0; /* in this example the LSPs come within a second */
     }
-    if (e->restarting && !e->wanted && isis_gr_waiting_circuits(&e->g).count == 0) {
+    if (is_complete(e)) {
         databases_complete(e);
     }
     if (now % EACH == 0) {
@@ -219,6 +245,7 @@ static void second(end *e) {
 }
 
 static void start(end *e, end *other, uint8_t mode) {
+    static const char *const begins[3] = {"starts", "restarts", "starts without forwarding tables"};
     isis_gr_settings s;
     isis_gr_started started;
     memset(&s, 0, sizeof s);
@@ -242,13 +269,14 @@ static void start(end *e, end *other, uint8_t mode) {
     }
     e->other = other;
     e->running = 1;
-    e->restarting = mode == ISIS_GR_MODE_RESTARTING;
+    e->mode = mode;
     e->heard = e->planning = 0;
-    e->wanted = 0;
+    e->begun = e->advertised = e->wanted = 0;
     memset(e->peer, 0, 6);
-    say(e, e->restarting ? "restarts" : "starts");
+    say(e, begins[mode]);
     if (started.hellos) {
-        send_hello(e, HELLO_INITIALIZING, HELLO_RR, NULL);
+        e->begun = 1;
+        send_ordered(e, started.hello_flags);
     }
 }
 
@@ -268,7 +296,7 @@ static void deliver(void) {
 int main(void) {
     start(&a, &b, ISIS_GR_MODE_RUNNING);
     start(&b, &a, ISIS_GR_MODE_RUNNING);
-    for (now = 0; now <= 101; now++) {
+    for (now = 0; now <= 114; now++) {
         if (now == 25) {
             lossy = 1;
             start(&a, &b, ISIS_GR_MODE_RESTARTING);
@@ -280,6 +308,8 @@ int main(void) {
             say(&b, "is away");
         } else if (now == 100) {
             start(&b, &a, ISIS_GR_MODE_RESTARTING);
+        } else if (now == 110) {
+            start(&a, &b, ISIS_GR_MODE_STARTING);
         }
         deliver();
         if (a.running) {

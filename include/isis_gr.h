@@ -27,11 +27,11 @@ extern "C" {
 #endif
 
 #define ISIS_GR_VERSION_MAJOR 0
-#define ISIS_GR_VERSION_MINOR 7
+#define ISIS_GR_VERSION_MINOR 8
 
 /* The layout of settings and answers between this header and the archive; it rises whenever one of them changes. The code below is compiled into
    the caller, so set up hands it on: an archive of another layout refuses 12 (isis_gr_fault: ISIS_GR_SETTING_VERSION). */
-#define ISIS_GR_LAYOUT 6u
+#define ISIS_GR_LAYOUT 7u
 
 #define ISIS_GR_GATEWAY_WORDS 640 /* equal to isis_gr_gateway_words(): compare the two at start-up */
 #define ISIS_GR_SETTINGS_OCTETS 169
@@ -51,12 +51,12 @@ extern "C" {
 #define ISIS_GR_REFUSED_WRONG_NEIGHBOR 8u  /* P2P: the three-way TLV names another */
 #define ISIS_GR_REFUSED_NO_ROOM 9u         /* the circuit's room is full */
 #define ISIS_GR_REFUSED_CLOCK_BACK 10u     /* clock lower than the held clock */
-#define ISIS_GR_REFUSED_NOT_RESTARTING 11u /* a notice outside the mode Restarting */
+#define ISIS_GR_REFUSED_NOT_RESTARTING 11u /* a notice outside the modes Restarting and Starting */
 #define ISIS_GR_REFUSED_BAD_SETTING 12u    /* a setting out of range */
 
 /* ---- numbers */
 
-enum { ISIS_GR_MODE_RUNNING = 0, ISIS_GR_MODE_RESTARTING = 1 };
+enum { ISIS_GR_MODE_RUNNING = 0, ISIS_GR_MODE_RESTARTING = 1, ISIS_GR_MODE_STARTING = 2 };
 enum { ISIS_GR_KIND_LAN = 0, ISIS_GR_KIND_P2P = 1 };
 enum { ISIS_GR_LEVEL_1 = 1, ISIS_GR_LEVEL_2 = 2, ISIS_GR_LEVEL_BOTH = 3 }; /* masks of levels */
 enum { ISIS_GR_REPLY_NONE = 0, ISIS_GR_REPLY_RA = 2, ISIS_GR_REPLY_PA = 16 };
@@ -65,7 +65,7 @@ enum { ISIS_GR_RESTART_NONE = 0, ISIS_GR_RESTART_GOES_ON = 1, ISIS_GR_RESTART_EN
 enum { ISIS_GR_OVERLOAD_KEEP = 0, ISIS_GR_OVERLOAD_SET = 1, ISIS_GR_OVERLOAD_CLEAR = 2, ISIS_GR_OVERLOAD_BOTH = 3 };
 enum { ISIS_GR_RECORD_NONE = 0, ISIS_GR_RECORD_INIT = 1, ISIS_GR_RECORD_UP = 2 };
 enum { ISIS_GR_MARK_CLEAR = 0, ISIS_GR_MARK_RESTART = 1, ISIS_GR_MARK_PLANNED = 2 };
-enum { ISIS_GR_FLAG_RR = 1 };
+enum { ISIS_GR_FLAG_RR = 1, ISIS_GR_FLAG_SA = 4 }; /* of the Restart TLV in our hellos */
 enum {
     ISIS_GR_SETTING_NONE = 0,
     ISIS_GR_SETTING_VERSION = 1,
@@ -104,23 +104,26 @@ typedef struct {
     uint16_t t2;    /* 1 to 65,535 s */
     uint8_t tries;  /* T1 tries, 1 to 255 */
     uint32_t clock; /* seconds */
-    uint8_t mode;   /* ISIS_GR_MODE_.. */
+    uint8_t mode;   /* ISIS_GR_MODE_..: restarting, forwarding went on (RFC 8706, 3.3.1); starting, it did not (RFC 8706, 3.3.2) */
     uint8_t count;  /* how many of the circuits there are, 1 to 8 */
     isis_gr_circuit circuits[ISIS_GR_MAX_CIRCUITS];
 } isis_gr_settings;
 
 /* ---- answers */
 
-/* How the timers of a router that restarts ended, and what they order. */
+/* How the timers of a router that restarts or starts ended, and what they order. */
 typedef struct {
-    uint8_t restart;  /* ISIS_GR_RESTART_..: none, the mode was Running; it goes on; it ended, and the mode is Running from this call on */
+    uint8_t restart;  /* ISIS_GR_RESTART_..: none, the mode was Running; the restart or start goes on; it ended, and the mode is Running from this
+                         call on */
     uint8_t spf;      /* mask of levels whose SPF is to run (RFC 8706, 3.4.1.1) */
-    uint8_t overload; /* ISIS_GR_OVERLOAD_..: the overload bit of our LSPs (RFC 8706, 3.4.1.1); both: set it, then clear it */
+    uint8_t overload; /* ISIS_GR_OVERLOAD_..: the overload bit of our LSPs (RFC 8706, 3.4.1.1), of a router that starts that of its zeroth LSP
+                         (RFC 8706, 3.4.1.2); both: set it, then clear it */
 } isis_gr_timers;
 
 typedef struct {
     uint32_t code;
-    uint8_t hellos; /* mask of circuits on which to send a hello with RR now (RFC 8706, 3.3.1) */
+    uint8_t hellos;      /* mask of circuits on which to send a hello now (RFC 8706, 3.3.1; none in the mode Starting) */
+    uint8_t hello_flags; /* ISIS_GR_FLAG_..: the flags of those hellos, RR; 0 where none is ordered */
 } isis_gr_started;
 
 /* The first setting that set up refuses, in the order of isis_gr_settings with the circuits last. */
@@ -135,7 +138,8 @@ typedef struct {
     uint16_t remaining; /* its Remaining Time */
     uint8_t csnps;      /* mask of levels: send a complete set of CSNPs there and set SRM flags (RFC 8706, 3.2.1) */
     uint8_t t1_end;     /* ISIS_GR_T1_..: kept; T1 was stopped for want of a Restart TLV; or that, and the adjacency must be made to
-                           reinitialise by a hello with three-way state Down (RFC 8706, 3.3.1) */
+                           reinitialise by a hello with three-way state Down (RFC 8706, 3.3.1; never in the mode Starting) */
+    uint8_t hello_flags; /* 0, or the flags of a hello to send on this circuit now, ISIS_GR_FLAG_SA: T1 began (RFC 8706, 3.3.2) */
     isis_gr_timers timers;
     /* the frame's record (the adjacency entry of ISO 10589) */
     uint8_t level;        /* 1 or 2; 0 on P2P */
@@ -147,8 +151,10 @@ typedef struct {
 
 typedef struct {
     uint32_t code;
-    uint8_t lost;   /* mask of circuits that lost a record: run what a lost adjacency asks for */
-    uint8_t hellos; /* mask of circuits on which to send a hello with RR now */
+    uint8_t lost;        /* mask of circuits that lost a record: run what a lost adjacency asks for */
+    uint8_t hellos;      /* mask of circuits on which to send a hello now: T1 expired */
+    uint8_t hello_flags; /* ISIS_GR_FLAG_..: the flags of those hellos, RR (RFC 8706, 3.3.1) or RR and SA (RFC 8706, 3.3.2); 0 where none is
+                            ordered */
     isis_gr_timers timers;
 } isis_gr_ticked;
 
@@ -180,7 +186,7 @@ typedef struct {
 
 typedef struct {
     uint32_t code;
-    uint8_t flags; /* 0 or ISIS_GR_FLAG_RR */
+    uint8_t flags; /* ISIS_GR_FLAG_..: none, RR, SA, or both */
 } isis_gr_flags;
 
 typedef struct {
@@ -272,7 +278,7 @@ static inline const char *isis_gr_text(uint32_t code) {
         "the three-way TLV names another system or circuit",
         "the circuit's room is full",
         "clock lower than before",
-        "a notice outside the mode Restarting",
+        "a notice outside the modes Restarting and Starting",
         "a setting out of range",
     };
     return code < 13u ? texts[code] : "no such code";
@@ -290,6 +296,7 @@ static inline isis_gr_started isis_gr_set_up(isis_gr_gateway *gateway, const isi
     word = isis_gr_raw_set_up(ISIS_GR_LAYOUT, gateway->words, octets);
     s.code = word & 255u;
     s.hellos = (uint8_t)(word >> 8);
+    s.hello_flags = (uint8_t)(word >> 16);
     return s;
 }
 
@@ -320,6 +327,7 @@ static inline isis_gr_received isis_gr_receive(isis_gr_gateway *gateway, uint8_t
     r.t1_end = (uint8_t)(word >> 24);
     r.timers = isis_gr_get_timers(word);
     r.remaining = (uint16_t)(word >> 40);
+    r.hello_flags = (uint8_t)(word >> 56);
     for (i = 0; i < 6; i++) {
         r.system_id[i] = (uint8_t)(words.change >> (40 - 8 * i));
     }
@@ -337,6 +345,7 @@ static inline isis_gr_ticked isis_gr_tick(isis_gr_gateway *gateway, uint32_t clo
     t.code = (uint32_t)(word & 255u);
     t.lost = (uint8_t)(word >> 8);
     t.hellos = (uint8_t)(word >> 16);
+    t.hello_flags = (uint8_t)(word >> 40);
     t.timers = isis_gr_get_timers(word);
     return t;
 }
@@ -397,7 +406,8 @@ static inline isis_gr_metric isis_gr_link_metric(const isis_gr_gateway *gateway,
     return m;
 }
 
-/* The flags of the Restart TLV in the next hello on a circuit. Changes nothing. */
+/* The flags of the Restart TLV in the next hello on a circuit: RR while T1 of a restart runs (RFC 8706, 3.3.1); SA while we start, and RR beside it
+   from the first expiry of T1 while it runs (RFC 8706, 3.3.2). Changes nothing. */
 static inline isis_gr_flags isis_gr_next_hello_flags(const isis_gr_gateway *gateway, uint8_t circuit) {
     uint32_t word = isis_gr_raw_next_hello_flags(gateway->words, circuit);
     isis_gr_flags f;

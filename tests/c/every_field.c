@@ -1,90 +1,9 @@
 /* Drives every constant of isis_gr.h and every field of every answer to more than one value. The numbers expected are derived from
- * docs/RULES.md, whose heading stands at each function; none was taken from a run. tools/check_codes fails on a constant or a field that no test
- * of this folder names. */
-#include "isis_gr.h"
+ * docs/RULES.md, whose heading stands at each function, or from document 02; none was taken from a run. tools/check_codes fails on a constant or
+ * a field that no test of this folder names. */
+#include "neighbours.h"
 
-#include "hello.h"
-
-#include "expect.h"
-
-static const uint8_t us[6] = {0x19, 0x21, 0x68, 0x00, 0x10, 0x01};
-static const uint8_t peer[6] = {0x19, 0x21, 0x68, 0x00, 0x10, 0x02};
-static const uint8_t third[6] = {0x19, 0x21, 0x68, 0x00, 0x10, 0x03};
-static const uint8_t our_mac[6] = {2, 0, 0, 0, 0, 1};
-static const uint8_t peer_mac[6] = {2, 0, 0, 0, 0, 2};
-static const uint8_t third_mac[6] = {2, 0, 0, 0, 0, 3};
-enum { P2P = 1, LAN = 2, OWN_ID = 7, HOLD = 27, CONFIGURED = 30 };
-
-static isis_gr_gateway g;
-static uint8_t frame[256], reply[ISIS_GR_REPLY_OCTETS];
-static hello h;
-
-/* circuit 1 is P2P and has both levels, circuit 2 a LAN with both */
-static isis_gr_settings settings(uint8_t mode, uint32_t clock, uint16_t t1, uint16_t t2) {
-    isis_gr_settings s;
-    memset(&s, 0, sizeof s);
-    memcpy(s.system_id, us, 6);
-    s.t1 = t1;
-    s.t2 = t2;
-    s.tries = 3;
-    s.clock = clock;
-    s.mode = mode;
-    s.count = 2;
-    s.circuits[0].kind = ISIS_GR_KIND_P2P;
-    s.circuits[0].levels = ISIS_GR_LEVEL_BOTH;
-    memcpy(s.circuits[0].mac, our_mac, 6);
-    s.circuits[0].hold = CONFIGURED;
-    s.circuits[0].metric = 16777210;
-    s.circuits[0].id = OWN_ID;
-    s.circuits[1] = s.circuits[0];
-    s.circuits[1].kind = ISIS_GR_KIND_LAN;
-    s.circuits[1].priority = 64;
-    return s;
-}
-
-static isis_gr_started start(uint8_t mode, uint32_t clock, uint16_t t1, uint16_t t2) {
-    isis_gr_settings s = settings(mode, clock, t1, t2);
-    isis_gr_started started = isis_gr_set_up(&g, &s);
-    EXPECT(started.code == ISIS_GR_OK);
-    return started;
-}
-
-/* a P2P hello of the peer that names us: without a Restart TLV where flags is negative */
-static void p2p(uint8_t state, int flags, uint16_t remaining) {
-    hello_p2p(&h, frame, sizeof frame, ISIS_GR_LEVEL_BOTH, peer, HOLD);
-    hello_three_way(&h, state, 9, us, OWN_ID);
-    if (flags >= 0) {
-        hello_restart(&h, (uint8_t)flags, remaining, us);
-    }
-}
-
-/* a LAN hello that lists us or not */
-static void lan(uint8_t level, const uint8_t id[6], uint8_t priority, int flags, size_t listed) {
-    static const uint8_t lan_id[7] = {0};
-    uint8_t macs[1][6];
-    memcpy(macs[0], our_mac, 6);
-    hello_lan(&h, frame, sizeof frame, level, ISIS_GR_LEVEL_BOTH, id, HOLD, priority, lan_id);
-    hello_neighbours(&h, macs, listed);
-    if (flags >= 0) {
-        hello_restart(&h, (uint8_t)flags, 20, us);
-    }
-}
-
-static isis_gr_received receive(uint8_t circuit, const uint8_t mac[6]) {
-    size_t n = hello_end(&h);
-    EXPECT(n > 0);
-    return isis_gr_receive(&g, circuit, mac, frame, n, reply, sizeof reply);
-}
-
-/* docs/RULES.md, "Refusals by number": the number, the other fields 0, the gateway and the reply as they were; and its text */
-static void refused(uint32_t code, isis_gr_received r) {
-    static const uint8_t none[6] = {0};
-    EXPECT(r.code == code);
-    EXPECT(r.reply == ISIS_GR_REPLY_NONE && r.remaining == 0 && r.csnps == 0 && r.t1_end == ISIS_GR_T1_KEPT);
-    EXPECT(r.timers.restart == ISIS_GR_RESTART_NONE && r.timers.spf == 0 && r.timers.overload == ISIS_GR_OVERLOAD_KEEP);
-    EXPECT(r.level == 0 && memcmp(r.system_id, none, 6) == 0 && r.before == ISIS_GR_RECORD_NONE && r.after == ISIS_GR_RECORD_NONE && r.advertised == 0);
-}
-
+/* docs/RULES.md, "Refusals by number": each leaves the gateway and the reply as they were; and its text */
 static void twelve_refusals(void) {
     isis_gr_gateway before;
     isis_gr_settings s = settings(ISIS_GR_MODE_RUNNING, 100, 3, 60);
@@ -118,7 +37,7 @@ static void twelve_refusals(void) {
     hello_three_way(&h, HELLO_DOWN, 9, NULL, 0);
     refused(ISIS_GR_REFUSED_NO_ROOM, receive(P2P, third_mac));
     t = isis_gr_tick(&g, 99);
-    EXPECT(t.code == ISIS_GR_REFUSED_CLOCK_BACK && t.lost == 0 && t.hellos == 0 && t.timers.restart == ISIS_GR_RESTART_NONE);
+    EXPECT(t.code == ISIS_GR_REFUSED_CLOCK_BACK && t.lost == 0 && t.hellos == 0 && t.hello_flags == 0 && t.timers.restart == ISIS_GR_RESTART_NONE);
     n = isis_gr_csnp_complete(&g, P2P, 1);
     EXPECT(n.code == ISIS_GR_REFUSED_NOT_RESTARTING && n.timers.restart == ISIS_GR_RESTART_NONE && n.timers.spf == 0);
     EXPECT(isis_gr_database_complete(&g, 2).code == ISIS_GR_REFUSED_NOT_RESTARTING);
@@ -128,7 +47,7 @@ static void twelve_refusals(void) {
     EXPECT(isis_gr_link_metric(&g, 0).code == ISIS_GR_REFUSED_NO_CIRCUIT && isis_gr_link_metric(&g, 0).metric == 0);
     EXPECT(isis_gr_next_hello_flags(&g, 3).code == ISIS_GR_REFUSED_NO_CIRCUIT && isis_gr_next_hello_flags(&g, 3).flags == 0);
     s.circuits[1].priority = 128;
-    EXPECT(isis_gr_set_up(&g, &s).code == ISIS_GR_REFUSED_BAD_SETTING && isis_gr_set_up(&g, &s).hellos == 0);
+    EXPECT(isis_gr_set_up(&g, &s).code == ISIS_GR_REFUSED_BAD_SETTING && isis_gr_set_up(&g, &s).hellos == 0 && isis_gr_set_up(&g, &s).hello_flags == 0);
     EXPECT(memcmp(&g, &before, sizeof g) == 0 && reply[0] == 0xEE);
 
     EXPECT(strcmp(isis_gr_text(ISIS_GR_OK), "done") == 0 && strcmp(isis_gr_text(13), "no such code") == 0);
@@ -161,7 +80,7 @@ static void p2p_record(void) {
     p2p(HELLO_INITIALIZING, 0, 0); /* with a reverse metric: 16,777,210 + 10, held to 16,777,214, with U to 16,777,215 */
     hello_reverse(&h, HELLO_W, 10);
     r = receive(P2P, peer_mac);
-    EXPECT(r.before == ISIS_GR_RECORD_INIT && r.after == ISIS_GR_RECORD_UP && r.advertised == 1 && r.csnps == 0 && r.remaining == 0);
+    EXPECT(r.before == ISIS_GR_RECORD_INIT && r.after == ISIS_GR_RECORD_UP && r.advertised == 1 && r.csnps == 0 && r.hello_flags == 0);
     l = isis_gr_look_up(&g, P2P, 1, peer, NULL);
     EXPECT(l.state == ISIS_GR_RECORD_UP && l.advertised == 1 && l.tlv == 1 && l.reverse == 1 && l.whole_lan == 1 && l.unreachable == 0 && l.offset == 10);
     EXPECT(isis_gr_link_metric(&g, P2P).code == ISIS_GR_OK && isis_gr_link_metric(&g, P2P).metric == 16777214);
@@ -236,19 +155,21 @@ static void lan_records(void) {
 
 /* docs/RULES.md, "Timers while Restarting": both databases complete and T1 stopped at its third expiry, then T2 */
 static void restart_without_neighbours(void) {
+    isis_gr_started started = start(ISIS_GR_MODE_RESTARTING, 0, 3, 60);
     isis_gr_ticked t;
     isis_gr_noticed n;
-    EXPECT(start(ISIS_GR_MODE_RESTARTING, 0, 3, 60).hellos == 3);
+    EXPECT(started.hellos == 3 && started.hello_flags == ISIS_GR_FLAG_RR);
     EXPECT(isis_gr_next_hello_flags(&g, LAN).code == ISIS_GR_OK && isis_gr_next_hello_flags(&g, LAN).flags == ISIS_GR_FLAG_RR);
     EXPECT(isis_gr_waiting_circuits(&g).count == 2 && isis_gr_waiting_circuits(&g).lowest == P2P);
     t = isis_gr_tick(&g, 3);
-    EXPECT(t.hellos == 3 && t.timers.restart == ISIS_GR_RESTART_GOES_ON && t.timers.spf == 0 && t.timers.overload == ISIS_GR_OVERLOAD_KEEP);
+    EXPECT(t.hellos == 3 && t.hello_flags == ISIS_GR_FLAG_RR);
+    EXPECT(t.timers.restart == ISIS_GR_RESTART_GOES_ON && t.timers.spf == 0 && t.timers.overload == ISIS_GR_OVERLOAD_KEEP);
     n = isis_gr_database_complete(&g, 1);
     EXPECT(n.code == ISIS_GR_OK && n.timers.restart == ISIS_GR_RESTART_GOES_ON && n.timers.spf == 0);
     t = isis_gr_tick(&g, 6);
     EXPECT(t.hellos == 3);
     t = isis_gr_tick(&g, 9);
-    EXPECT(t.hellos == 0 && t.timers.restart == ISIS_GR_RESTART_GOES_ON && t.timers.spf == ISIS_GR_LEVEL_1);
+    EXPECT(t.hellos == 0 && t.hello_flags == 0 && t.timers.restart == ISIS_GR_RESTART_GOES_ON && t.timers.spf == ISIS_GR_LEVEL_1);
     EXPECT(isis_gr_next_hello_flags(&g, LAN).flags == 0);
     n = isis_gr_database_complete(&g, 2); /* no T1 runs: at once */
     EXPECT(n.timers.restart == ISIS_GR_RESTART_ENDED && n.timers.spf == ISIS_GR_LEVEL_2 && n.timers.overload == ISIS_GR_OVERLOAD_KEEP);
@@ -260,7 +181,7 @@ static void hello_of_the_last_tick(void) {
     isis_gr_ticked t;
     start(ISIS_GR_MODE_RESTARTING, 0, 3, 60);
     t = isis_gr_tick(&g, 60);
-    EXPECT(t.hellos == 3 && t.timers.restart == ISIS_GR_RESTART_ENDED && t.timers.spf == ISIS_GR_LEVEL_BOTH);
+    EXPECT(t.hellos == 3 && t.hello_flags == ISIS_GR_FLAG_RR && t.timers.restart == ISIS_GR_RESTART_ENDED && t.timers.spf == ISIS_GR_LEVEL_BOTH);
     EXPECT(isis_gr_next_hello_flags(&g, P2P).flags == 0 && isis_gr_tick(&g, 63).hellos == 0);
 }
 
@@ -309,6 +230,80 @@ static void t1_ends(void) {
     lan(2, third, 64, HELLO_RA, 1);
     r = receive(LAN, third_mac);
     EXPECT(r.timers.restart == ISIS_GR_RESTART_ENDED && r.timers.spf == ISIS_GR_LEVEL_BOTH && r.timers.overload == ISIS_GR_OVERLOAD_KEEP);
+}
+
+/* document 02, W-201: T1 of a circuit begins with its first UP record and orders SA, its expiries order RR and SA; each record that becomes UP sets
+   overload, the last T2 clears it */
+static void start_with_neighbours(void) {
+    const uint8_t again = ISIS_GR_FLAG_RR | ISIS_GR_FLAG_SA;
+    isis_gr_started started = start(ISIS_GR_MODE_STARTING, 0, 3, 60);
+    isis_gr_received r;
+    isis_gr_ticked t;
+    isis_gr_noticed n;
+    EXPECT(started.hellos == 0 && started.hello_flags == 0 && isis_gr_waiting_circuits(&g).count == 0);
+    EXPECT(isis_gr_next_hello_flags(&g, P2P).flags == ISIS_GR_FLAG_SA && isis_gr_next_hello_flags(&g, LAN).flags == ISIS_GR_FLAG_SA);
+    p2p(HELLO_UP, 0, 0); /* none and Up: nothing is kept, as in the mode Running */
+    EXPECT(receive(P2P, peer_mac).after == ISIS_GR_RECORD_NONE);
+    p2p(HELLO_DOWN, HELLO_RA, 20); /* no T1 has begun: it acknowledges nothing */
+    r = receive(P2P, peer_mac);
+    EXPECT(r.after == ISIS_GR_RECORD_INIT && r.hello_flags == 0 && r.timers.overload == ISIS_GR_OVERLOAD_KEEP && r.remaining == 0);
+    EXPECT(isis_gr_tick(&g, 1).hellos == 0);
+    p2p(HELLO_INITIALIZING, 0, 0);
+    r = receive(P2P, peer_mac);
+    EXPECT(r.hello_flags == ISIS_GR_FLAG_SA && r.timers.restart == ISIS_GR_RESTART_GOES_ON && r.timers.overload == ISIS_GR_OVERLOAD_SET);
+    r = receive(P2P, peer_mac);
+    EXPECT(r.after == ISIS_GR_RECORD_UP && r.hello_flags == 0 && r.timers.overload == ISIS_GR_OVERLOAD_KEEP);
+    EXPECT(isis_gr_tick(&g, 3).hellos == 0 && isis_gr_next_hello_flags(&g, P2P).flags == ISIS_GR_FLAG_SA);
+    t = isis_gr_tick(&g, 4); /* 1 + 3 */
+    EXPECT(t.hellos == 1 && t.hello_flags == again && t.timers.restart == ISIS_GR_RESTART_GOES_ON);
+    EXPECT(isis_gr_next_hello_flags(&g, P2P).flags == again && isis_gr_next_hello_flags(&g, LAN).flags == ISIS_GR_FLAG_SA);
+    lan(1, peer, 5, -1, 1);
+    r = receive(LAN, peer_mac);
+    EXPECT(r.hello_flags == ISIS_GR_FLAG_SA && r.timers.overload == ISIS_GR_OVERLOAD_SET && isis_gr_waiting_circuits(&g).count == 2);
+    lan(2, third, 5, -1, 1); /* the second of the circuit */
+    r = receive(LAN, third_mac);
+    EXPECT(r.hello_flags == 0 && r.timers.overload == ISIS_GR_OVERLOAD_SET && isis_gr_tick(&g, 7).hellos == 3);
+    t = isis_gr_tick(&g, 10); /* the third expiry on P2P, the second on the LAN */
+    EXPECT(t.hellos == 2 && t.hello_flags == again && isis_gr_next_hello_flags(&g, P2P).flags == ISIS_GR_FLAG_SA);
+
+    EXPECT(isis_gr_csnp_complete(&g, LAN, 1).code == ISIS_GR_OK && isis_gr_csnp_complete(&g, LAN, 2).code == ISIS_GR_OK);
+    EXPECT(isis_gr_database_complete(&g, 1).timers.spf == 0); /* T1 of the LAN runs */
+    lan(2, third, 5, HELLO_RA, 1);
+    r = receive(LAN, third_mac);
+    EXPECT(r.timers.restart == ISIS_GR_RESTART_GOES_ON && r.timers.spf == ISIS_GR_LEVEL_1 && r.timers.overload == ISIS_GR_OVERLOAD_KEEP);
+    n = isis_gr_database_complete(&g, 2);
+    EXPECT(n.timers.restart == ISIS_GR_RESTART_ENDED && n.timers.spf == ISIS_GR_LEVEL_2 && n.timers.overload == ISIS_GR_OVERLOAD_CLEAR);
+    EXPECT(isis_gr_next_hello_flags(&g, LAN).flags == 0 && isis_gr_csnp_complete(&g, LAN, 1).code == ISIS_GR_REFUSED_NOT_RESTARTING);
+}
+
+/* the same: how T1 and the start end */
+static void start_ends(void) {
+    isis_gr_received r;
+    isis_gr_ticked t;
+    start(ISIS_GR_MODE_STARTING, 0, 100, 60);
+    p2p(HELLO_INITIALIZING, -1, 0); /* begins T1, and stops it */
+    r = receive(P2P, peer_mac);
+    EXPECT(r.hello_flags == ISIS_GR_FLAG_SA && r.t1_end == ISIS_GR_T1_STOPPED && isis_gr_waiting_circuits(&g).count == 0);
+    start(ISIS_GR_MODE_STARTING, 0, 100, 60);
+    p2p(HELLO_INITIALIZING, 0, 0);
+    EXPECT(receive(P2P, peer_mac).t1_end == ISIS_GR_T1_KEPT && isis_gr_waiting_circuits(&g).lowest == P2P);
+    p2p(HELLO_UP, -1, 0); /* with our own circuit ID: a restart would reinitialise */
+    EXPECT(receive(P2P, peer_mac).t1_end == ISIS_GR_T1_STOPPED && isis_gr_waiting_circuits(&g).lowest == 0);
+
+    /* the sets come before T1 of the LAN begins; then a second record comes UP with the acknowledgement */
+    EXPECT(isis_gr_csnp_complete(&g, LAN, 1).code == ISIS_GR_OK && isis_gr_csnp_complete(&g, LAN, 2).code == ISIS_GR_OK);
+    lan(1, peer, 5, 0, 1);
+    EXPECT(receive(LAN, peer_mac).hello_flags == ISIS_GR_FLAG_SA);
+    EXPECT(isis_gr_database_complete(&g, 1).timers.spf == 0 && isis_gr_database_complete(&g, 2).timers.spf == 0);
+    lan(2, third, 5, HELLO_RA, 1);
+    r = receive(LAN, third_mac);
+    EXPECT(r.hello_flags == 0 && r.timers.restart == ISIS_GR_RESTART_ENDED && r.timers.overload == ISIS_GR_OVERLOAD_BOTH);
+
+    start(ISIS_GR_MODE_STARTING, 0, 3, 60); /* no T1 has begun: the notices end it */
+    EXPECT(isis_gr_database_complete(&g, 1).timers.spf == ISIS_GR_LEVEL_1 && isis_gr_database_complete(&g, 2).timers.restart == ISIS_GR_RESTART_ENDED);
+    start(ISIS_GR_MODE_STARTING, 0, 3, 60); /* T2 */
+    t = isis_gr_tick(&g, 60);
+    EXPECT(t.timers.restart == ISIS_GR_RESTART_ENDED && t.timers.spf == ISIS_GR_LEVEL_BOTH && t.timers.overload == ISIS_GR_OVERLOAD_CLEAR);
 }
 
 /* what docs/INTEGRATION.md says under "Limits" */
@@ -366,7 +361,7 @@ static void each_setting(void) {
     rows[0].settings.t1 = 0;
     rows[1].settings.t2 = 0;
     rows[2].settings.tries = 0;
-    rows[3].settings.mode = 2;
+    rows[3].settings.mode = ISIS_GR_MODE_STARTING + 1;
     rows[4].settings.count = 0;
     rows[5].settings.circuits[0].kind = 2;
     rows[6].settings.circuits[0].levels = 0;
@@ -394,6 +389,8 @@ int main(void) {
     hello_of_the_last_tick();
     overload();
     t1_ends();
+    start_with_neighbours();
+    start_ends();
     limits();
     eight_circuits();
     each_setting();

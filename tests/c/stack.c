@@ -1,4 +1,4 @@
-/* Paints a stack and lets every call run on it, in both modes, with full rooms and frames of 1,492 octets of each kind: how deep it went, as the archive
+/* Paints a stack and lets every call run on it, in every mode, with full rooms and frames of 1,492 octets of each kind: how deep it went, as the archive
    has it and through the header, which adds what this compiler makes of it. Fails where a call went deeper than its limit, or never was done. */
 #define _XOPEN_SOURCE 700
 #include "isis_gr.h"
@@ -324,6 +324,20 @@ static void pass(uint32_t seconds) {
     }
 }
 
+static void notice_sets(void) {
+    for (circuit = 0; circuit <= ISIS_GR_MAX_CIRCUITS + 1; circuit++) {
+        for (level = 0; level < 4; level++) {
+            paint(CSNP);
+        }
+    }
+}
+
+static void notice_databases(void) {
+    for (level = 0; level < 4; level++) {
+        paint(DATABASE);
+    }
+}
+
 static void run(uint8_t mode) {
     /* T1s at their deadlines, T2s and the end of the mode, records that go at once and by one */
     start(mode);
@@ -336,18 +350,19 @@ static void run(uint8_t mode) {
     /* the notices end it */
     start(mode);
     fill_rooms();
-    for (circuit = 0; circuit <= ISIS_GR_MAX_CIRCUITS + 1; circuit++) {
-        for (level = 0; level < 4; level++) {
-            paint(CSNP);
-        }
-    }
-    for (level = 0; level < 4; level++) {
-        paint(DATABASE);
-    }
+    notice_sets();
+    notice_databases();
     for (circuit = 0; circuit <= ISIS_GR_MAX_CIRCUITS + 1; circuit++) {
         paint(RELEASE);
         paint(CLEAR);
     }
+    /* the notices come first, once a LAN has a record UP and its T1 runs: frames stop T1s, and end it */
+    start(mode);
+    notice_sets();
+    circuit = ISIS_GR_MAX_CIRCUITS;
+    frames_lan(15, 2, 0);
+    notice_databases();
+    fill_rooms();
     /* T3, with all 128 records gone at once */
     start(mode);
     fill_rooms();
@@ -360,6 +375,7 @@ int main(void) {
     int i, failed = 0;
     run(ISIS_GR_MODE_RUNNING);
     run(ISIS_GR_MODE_RESTARTING);
+    run(ISIS_GR_MODE_STARTING);
     for (i = 0; i < CALLS; i++) {
         int bad = calls[i].most > calls[i].limit || calls[i].most_through >= HEADER_LIMIT || calls[i].done == 0;
         printf("%4zu octets of stack (limit %zu), %4zu through the header: %s, %u inputs, %u of them done%s\n", calls[i].most, calls[i].limit,

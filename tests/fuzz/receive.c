@@ -1,6 +1,6 @@
-/* Fuzzes receive: an input is a list of calls. Each call's octets: circuit, source's last octet, clock step, reply room, frame length (2), frame. The
-   lent frame and reply are copies of exactly their length, so that AddressSanitizer sees every octet past them. A refusal must leave gateway and
-   reply as they were, and octets past 11 are never written. With clang's libFuzzer: make fuzz. */
+/* Fuzzes receive: an input is a mode (an octet modulo 3) and a list of calls. Each call's octets: circuit, source's last octet, clock step, reply room,
+   frame length (2), frame. The lent frame and reply are copies of exactly their length, so that AddressSanitizer sees every octet past them. A refusal
+   must leave gateway and reply as they were, and octets past 11 are never written. With clang's libFuzzer: make fuzz. */
 #include "../c/two_circuits.h"
 
 #include <stdlib.h>
@@ -26,7 +26,7 @@ int LLVMFuzzerTestOneInput(const uint8_t *data, size_t size) {
     if (size == 0) {
         return 0;
     }
-    start(&g, data[0] & 1);
+    start(&g, data[0] % 3);
     data++;
     size--;
     while (size >= 6) {
@@ -52,7 +52,10 @@ int LLVMFuzzerTestOneInput(const uint8_t *data, size_t size) {
         r = isis_gr_receive(&g, circuit, source, frame, length, reply, room);
         require(r.code <= ISIS_GR_REFUSED_NO_ROOM);
         if (r.code != ISIS_GR_OK) {
-            require(memcmp(&g, &before, sizeof g) == 0 && r.reply == ISIS_GR_REPLY_NONE);
+            require(memcmp(&g, &before, sizeof g) == 0 && r.reply == ISIS_GR_REPLY_NONE && r.hello_flags == 0);
+        }
+        if (r.hello_flags != 0) {
+            require(r.hello_flags == ISIS_GR_FLAG_SA && r.before != ISIS_GR_RECORD_UP && r.after == ISIS_GR_RECORD_UP);
         }
         for (i = r.reply == ISIS_GR_REPLY_NONE ? 0 : ISIS_GR_REPLY_OCTETS; i < room; i++) {
             require(reply[i] == 0xEE);

@@ -48,13 +48,11 @@ fn orders_word(o: Orders) -> u64
     let freed = o.freed;
     let hello = o.hello;
     let outcome = o.outcome;
-    let first = SECOND * reply_flags(reply) as u64
+    let first = EIGHTH * hello_number(hello) as u64
+        + SECOND * reply_flags(reply) as u64
         + THIRD * csnps_number(csnps) as u64
         + FOURTH * freed_number(freed) as u64;
-    first
-        + FIFTH * outcome_number(outcome) as u64
-        + SIXTH * reply_time(reply) as u64
-        + EIGHTH * hello_number(hello) as u64
+    first + FIFTH * outcome_number(outcome) as u64 + SIXTH * reply_time(reply) as u64
 }
 
 // The two words of a frame's answer.
@@ -116,10 +114,10 @@ pub(crate) fn ticked_word(a: Ticked) -> u64
             outcome,
         } => {
             let flags = hellos.flags;
-            SECOND * lost as u64
+            SIXTH * flags.bits as u64
+                + SECOND * lost as u64
                 + THIRD * hellos.circuits as u64
                 + FIFTH * outcome_number(outcome) as u64
-                + SIXTH * flags.bits as u64
         }
     }
 }
@@ -187,7 +185,7 @@ pub(crate) fn set_up_word(a: SetUp) -> u32
         SetUp::Refused(x) => number_of(x) as u32,
         SetUp::Done(hellos) => {
             let flags = hellos.flags;
-            256 * hellos.circuits as u32 + 65536 * flags.bits as u32
+            65536 * flags.bits as u32 + 256 * hellos.circuits as u32
         }
     }
 }

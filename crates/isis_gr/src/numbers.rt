@@ -69,7 +69,7 @@ pub(crate) fn hello_number(h: HelloOrder) -> u8
 {
     match h {
         HelloOrder::Nothing => 0,
-        HelloOrder::Send(f) => f.bits,
+        HelloOrder::Suppress => Flags::SA.bits,
     }
 }
 

@@ -10,6 +10,7 @@ use Rattle.basics.specs.declared.mask.Lowest.{Lowest}
 use Rattle.basics.specs.declared.mask.Lowest.the-variants.{Circuit, Nothing as NoneWaits}
 use Rattle.basics.specs.declared.refusal.Refusal.{Refusal}
 use Rattle.basics.specs.declared.refusal.Refusal.the-variants.{NoCircuit, ReplyRoom, NotHello, BadLength, TlvPastEnd, BadTlv, WrongSource, WrongNeighbor, NoRoom, ClockBack, NotRestarting, BadSetting}
+use Rattle.restart_tlv.specs.Flags.{SA}
 use Rattle.restart_tlv.specs.Restart.{ackFlag}
 use Rattle.adjacency.specs.declared.duty.Csnps.{Csnps}
 use Rattle.adjacency.specs.declared.duty.Csnps.the-variants.{Nothing as NoCsnps, Ordered}
@@ -25,7 +26,7 @@ use Rattle.adjacency.specs.declared.record.State.{State}
 use Rattle.timer_parts.specs.declared.t1.Freed.{Freed}
 use Rattle.timer_parts.specs.declared.t1.Freed.the-variants.{Kept, Stopped, Reinitialise}
 use Rattle.timers.specs.declared.hellos.HelloOrder.{HelloOrder}
-use Rattle.timers.specs.declared.hellos.HelloOrder.the-variants.{Nothing as NoHello, Send as SendHello}
+use Rattle.timers.specs.declared.hellos.HelloOrder.the-variants.{Nothing as NoHello, Suppress}
 use Rattle.timers.specs.declared.outcome.TimerOutcome.{TimerOutcome}
 use Rattle.timers.specs.declared.outcome.TimerOutcome.the-variants.{Idle, Goes, Ended}
 use Rattle.timers.specs.declared.outcome.Overload.{Overload}
@@ -84,7 +85,7 @@ csnpsNo (Ordered l) = levelsNo l
 -- the flags of the hello that a frame orders on its circuit (SA, 4: document 02, W-201), 0 without one
 abbrev pub helloNo : HelloOrder → ℕ
 helloNo NoHello = 0
-helloNo (SendHello f) = f .bits
+helloNo Suppress = SA
 
 -- whether the frame stopped T1 for want of a Restart TLV, and whether the adjacency is to reinitialise (RFC 8706, 3.3.1)
 abbrev pub freedNo : Freed → ℕ

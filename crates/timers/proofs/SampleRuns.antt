@@ -15,7 +15,7 @@ use Rattle.settings.specs.declared.mode.Mode.{Mode}
 use Rattle.settings.specs.declared.mode.Mode.the-variants.{Restarting, Starting}
 use Rattle.timers.specs.declared.events.Start.{Start}
 use Rattle.timers.specs.declared.events.HeardOrders.{HeardOrders}
-use Rattle.timers.specs.declared.hellos.HelloOrder.the-variants.{Nothing, Send}
+use Rattle.timers.specs.declared.hellos.HelloOrder.the-variants.{Nothing, Suppress}
 use Rattle.timers.specs.declared.outcome.Overload.the-variants.{Set, Clear}
 use Rattle.timers.specs.declared.outcome.TimerOutcome.the-variants.{Goes, Ended}
 use Rattle.timer_parts.specs.declared.t1.Freed.the-variants.{Kept}
@@ -73,7 +73,7 @@ begun = rises (started (from Starting))
 -- No hello at setup, no T3. The first record that becomes UP orders a hello with SA and overload, the second overload alone; T1's expiry at 62 orders
 -- a hello with RR and SA; T2 ends at 60, and overload is ordered clear.
 pub start : (startHellos (from Starting) ≡ noHellos) × (started (from Starting) .t3 ≡ Idle)
-    × (orders 2 (started (from Starting)) ≡ record { outcome = Goes none Set; freed = Kept; hello = Send (record { bits = 4 }) })
+    × (orders 2 (started (from Starting)) ≡ record { outcome = Goes none Set; freed = Kept; hello = Suppress })
     × (orders 3 begun ≡ record { outcome = Goes none Set; freed = Kept; hello = Nothing })
     × (tickHellos (record { t1 = 60; t2 = 90; tries = 3 }) 62 begun .flags ≡ 5)
     × (ordered (toT3 lengths 60) begun ≡ Ended first Clear)

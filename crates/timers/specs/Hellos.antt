@@ -5,13 +5,13 @@ use mathlib.Core.Bool.{Bool, false, cond}
 use mathlib.Core.List.{List}
 use lib.ListN.{replicate}
 use Rattle.basics.specs.Mask.{circuits, bitsOf, anyTrue}
-use Rattle.restart_tlv.specs.Flags.{RR, SA}
+use Rattle.restart_tlv.specs.Flags.{RR}
 use Rattle.timer_parts.specs.T1.{RRandSA, begins}
 use Rattle.timer_parts.specs.declared.t1.T1.{T1}
+use Rattle.settings.specs.Mode.{isStarting}
 use Rattle.settings.specs.declared.mode.Mode.{Mode}
-use Rattle.settings.specs.declared.mode.Mode.the-variants.{Running, Restarting, Starting}
 use Rattle.timers.specs.declared.hellos.HelloOrder.{HelloOrder}
-use Rattle.timers.specs.declared.hellos.HelloOrder.the-variants.{Nothing, Send}
+use Rattle.timers.specs.declared.hellos.HelloOrder.the-variants.{Nothing, Suppress}
 use Rattle.timers.specs.declared.hellos.HelloOrders.{HelloOrders}
 
 -- over all circuits, circuit 1 first; the flags are 0 where no hello is ordered
@@ -39,10 +39,8 @@ hellosOf o = record { circuits = helloBits (o .circuits); flags = o .flags .bits
 
 -- "order the hello again": with RR; document 02, W-201: "from its first expiry while it runs hellos carry RR and SA"
 abbrev pub againFlags : Mode → ℕ
-againFlags Running = 0
-againFlags Restarting = RR
-againFlags Starting = RRandSA
+againFlags mode = cond (isStarting mode) RRandSA RR
 
 -- document 02, W-201: T1 begins "with a hello of RR clear and SA set"
 unfoldable pub beginHello : Bool → T1 → HelloOrder
-beginHello up t = cond (begins up t) (Send (record { bits = SA })) Nothing
+beginHello up t = cond (begins up t) Suppress Nothing

@@ -2,6 +2,7 @@
 use basics::mask::any_bit;
 use restart_tlv::flags::Flags;
 use settings::mode::Mode;
+use settings::mode::is_starting;
 use timer_parts::t1::T1;
 use timer_parts::t1::does_begin;
 ghost use mathlib.Core.Path.{_≡_};
@@ -13,10 +14,10 @@ pub struct HelloOrders {
     pub flags: Flags,
 }
 
-// On the circuit of a frame.
+// On the circuit of a frame; Suppress: with SA, and no other flag.
 pub enum HelloOrder {
     Nothing,
-    Send(Flags),
+    Suppress,
 }
 
 // A hello with these flags on each circuit of a mask.
@@ -36,11 +37,10 @@ pub fn order_hellos(circuits: u8, flags: Flags) -> HelloOrders
 pub fn again_flags(mode: Mode) -> Flags
     ensures { λ r. ⌜ r .bits ≡ againFlags mode ⌝ }
 {
-    match mode {
-        Mode::Running => Flags::NONE,
-        Mode::Restarting => Flags::RR,
-        Mode::Starting => Flags::RR.with(Flags::SA),
+    if is_starting(mode) {
+        return Flags::RR.with(Flags::SA);
     }
+    Flags::RR
 }
 
 // The hello that a T1 begins with, where it does begin.
@@ -48,7 +48,7 @@ pub fn begin_hello(up: bool, t: T1) -> HelloOrder
     ensures { λ r. ⌜ r ≡ beginHello up t ⌝ }
 {
     if does_begin(up, t) {
-        return HelloOrder::Send(Flags::SA);
+        return HelloOrder::Suppress;
     }
     HelloOrder::Nothing
 }

@@ -46,12 +46,21 @@ fn circuit(r: &mut Random) -> CircuitSettings {
     }
 }
 
+/// The mode of a run.
+pub fn mode(r: &mut Random) -> Mode {
+    match r.below(100) {
+        0..=44 => Mode::Running,
+        45..=74 => Mode::Restarting,
+        _ => Mode::Starting,
+    }
+}
+
 /// Settings in range, mostly with short timers.
 pub fn settings(r: &mut Random, mode: Mode) -> Settings {
     Settings {
         system: OWN,
         t1: r.pick(&[1, 2, 3, 60]),
-        t2: r.pick(&[2, 5, 8, 60]),
+        t2: r.pick(&[2, 5, 8, 60, 600]),
         tries: r.pick(&[1, 2, 3, 255]),
         clock: r.pick(&[0, 100, 4_294_900_000]),
         mode,

@@ -1,12 +1,13 @@
 //! One random run of both: a difference panics with the seed and the call.
-use crate::calls::{call, named, settings, spoilt, Call, Now};
+use crate::calls::{call, mode, named, settings, spoilt, Call, Now};
 use crate::coverage::Coverage;
 use crate::frames::{mac, system, Meant, MACS, SYSTEMS};
 use crate::proved::Proved;
 use crate::random::Random;
 use crate::reference::Reference;
 use crate::side::{Answer, Outcome, Side, UNTOUCHED};
-use isis_gr::{Ack, Flags, Freed, Mark, Overload, Phase, Received, Record, Refusal, Timers};
+use crate::starting::{Seen, Start};
+use isis_gr::{Ack, Flags, Freed, Mark, Overload, Phase, Received, Record, Refusal, Ticked, Timers};
 use isis_gr_reference::{Kind, Mac, Mode, Settings, MAX_CIRCUITS};
 use isis_gr_sys::GATEWAY_WORDS;
 
@@ -15,6 +16,7 @@ pub struct Pair {
     proved: Proved,
     reference: Reference,
     settings: Settings,
+    start: Start,
 }
 
 fn timers(c: &mut Coverage, t: Timers) {
@@ -101,7 +103,15 @@ impl Pair {
         assert!((&proved, &reference) == (&before.0, &before.1), "a refused set-up changed the memory");
         c.hit("setup refused 12");
         assert_eq!(proved.set_up(&settings), Ok(hellos));
-        Pair { proved, reference, settings }
+        let start = Start::new(&settings);
+        Pair { proved, reference, settings, start }
+    }
+
+    /// Sets both up anew over what they hold, at this clock.
+    fn set_up_again(&mut self, clock: u32) {
+        self.settings.clock = clock;
+        assert_eq!(self.proved.set_up(&self.settings), self.reference.set_up(&self.settings));
+        self.start = Start::new(&self.settings);
     }
 
     /// The record of the key that a frame has.
@@ -182,7 +192,8 @@ impl Pair {
             (_, Answer::Ticked(t)) => {
                 timers(c, t.timers);
                 c.hit_if(!t.lost.is_empty(), "tick marks a circuit");
-                c.hit_if(!t.hellos.is_empty(), "tick orders a hello");
+                c.hit_if(t.hellos.flags == Flags::RR, "tick orders RR");
+                c.hit_if(t.hellos.flags == Flags::RR.and(Flags::SA), "tick orders RR and SA");
             }
             (_, Answer::Timers(t)) => timers(c, t),
             (_, Answer::Record(found)) => {
@@ -192,7 +203,9 @@ impl Pair {
             (&Call::Metric(n), Answer::Metric(metric)) => self.count_metric(c, n, metric),
             (_, Answer::Flags(flags)) => {
                 c.hit_if(flags == Flags::RR, "RR in the next hello");
-                c.hit_if(flags.is_empty(), "no RR in the next hello");
+                c.hit_if(flags == Flags::SA, "SA in the next hello");
+                c.hit_if(flags == Flags::RR.and(Flags::SA), "RR and SA in the next hello");
+                c.hit_if(flags.is_empty(), "no flag in the next hello");
             }
             (_, Answer::Waiting(waiting)) => {
                 c.hit_if(waiting.count > 0, "circuits wait");
@@ -203,10 +216,10 @@ impl Pair {
         }
     }
 
-    /// One call on both; the refusal, if it was refused.
-    pub fn step(&mut self, c: &mut Coverage, call: &Call) -> Option<Refusal> {
+    /// One call on both; whether a restart or a start ended with it.
+    pub fn step(&mut self, c: &mut Coverage, call: &Call) -> bool {
         let before = self.proved.clone();
-        let waited = before.waiting().count;
+        let waited = before.waiting();
         let stood = match *call {
             Call::Receive(n, source, _, _, meant) => self.look(n, meant, source),
             _ => None,
@@ -222,29 +235,40 @@ impl Pair {
             }
             Ok(answer) => self.count(c, call, answer, stood),
         }
-        let fewer = self.proved.waiting().count < waited;
-        let acknowledged = matches!(call, Call::Receive(.., m) if !m.damaged && m.flags.is_some_and(|f| f & 2 == 2));
+        let waits = self.proved.waiting();
+        self.start.count(c, &Seen { call, answer, stood, waited, waits });
+        let fewer = waits.count < waited.count;
+        let acknowledged = matches!(call, Call::Receive(.., m) if !m.damaged && m.acknowledges);
         let keeps = |t: Timers| matches!(t, Timers::GoOn { overload: Overload::Keep, .. });
         c.hit_if(fewer && acknowledged, "T1 stops by an acknowledgement");
         c.hit_if(fewer && matches!(call, Call::Csnp(..)), "T1 stops by a CSNP set");
         c.hit_if(fewer && matches!(answer, Ok(Answer::Ticked(t)) if keeps(t.timers)), "T1 stops at its last expiry");
-        answer.err()
+        matches!(
+            answer,
+            Ok(Answer::Received(Received { timers: Timers::Ended { .. }, .. })
+                | Answer::Ticked(Ticked { timers: Timers::Ended { .. }, .. })
+                | Answer::Timers(Timers::Ended { .. }))
+        )
     }
 }
 
-/// A run of `calls` calls from a seed; the branches that it reached.
+/// A run of `calls` calls from a seed; the branches that it reached. A restart or start that ended mostly begins anew.
 pub fn run(seed: u64, calls: u64) -> Coverage {
     let mut c = Coverage::default();
     let mut r = Random::new(seed);
-    let mode = if r.chance(55) { Mode::Running } else { Mode::Restarting };
+    let mode = mode(&mut r);
     let mut pair = Pair::new(&mut r, &mut c, mode);
     let mut now = Now(pair.settings.clock);
     for i in 0..calls {
         let next = call(&mut r, &pair.settings, &mut now);
         let outcome = std::panic::catch_unwind(std::panic::AssertUnwindSafe(|| pair.step(&mut c, &next)));
-        if let Err(why) = outcome {
-            eprintln!("seed {seed}, call {i}: {next:02x?} after {:?}", pair.settings);
-            std::panic::resume_unwind(why);
+        match outcome {
+            Ok(ended) if ended && r.chance(80) => pair.set_up_again(now.0),
+            Ok(_) => {}
+            Err(why) => {
+                eprintln!("seed {seed}, call {i}: {next:02x?} after {:?}", pair.settings);
+                std::panic::resume_unwind(why);
+            }
         }
         if i % 50 == 49 {
             pair.look_at_all();

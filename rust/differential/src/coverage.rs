@@ -5,8 +5,8 @@ use std::collections::BTreeMap;
 #[derive(Clone, Debug)]
 pub struct Coverage(BTreeMap<String, u64>);
 
-/// Every branch that must be reached: refusals, lines, steps and timers as they can be told apart from outside. The list is made by hand from document
-/// 01 and the definitions; a branch that makes no difference to any answer, record or reply is not in it.
+/// Every branch that must be reached: refusals, lines, steps and timers as they can be told apart from outside. The list is made by hand from documents
+/// 01 and 02 and the definitions; a branch that makes no difference to any answer, record or reply is not in it.
 fn branches() -> Vec<String> {
     let mut all: Vec<String> = (1..=9).map(|n| format!("receive refused {n}")).collect();
     for text in [
@@ -71,9 +71,34 @@ fn branches() -> Vec<String> {
         "overload clear",
         "overload both",
         "tick marks a circuit",
-        "tick orders a hello",
+        "tick orders RR",
+        "tick orders RR and SA",
         "RR in the next hello",
-        "no RR in the next hello",
+        "SA in the next hello",
+        "RR and SA in the next hello",
+        "no flag in the next hello",
+        "hello with SA ordered",
+        "a second record becomes UP",
+        "a record becomes UP, and T1 is over",
+        "overload set by a record becoming UP",
+        "overload clear at a start's end",
+        "both by one frame",
+        "a start ends by a frame",
+        "a start ends by a notice",
+        "a start ends by a tick",
+        "a start ends before any T1 began",
+        "acknowledgement before T1 began",
+        "CSNP set before T1 began",
+        "T1 begins and stops by one acknowledgement",
+        "T1 begins and stops by one frame without the TLV",
+        "T1 waits for an acknowledgement, though an early one came",
+        "T1 stopped while Starting",
+        "T1 of one try stops while Starting",
+        "SPF ordered while Starting",
+        "reply RA while Starting",
+        "reply PA while Starting",
+        "no record is kept while Starting",
+        "wrong circuit ID refused while Starting",
         "circuits wait",
         "none waits",
         "metric configured",

@@ -30,6 +30,8 @@ pub struct Meant {
     pub level: u8,
     /// The flags of its one Restart TLV, if it has one that is well formed.
     pub flags: Option<u8>,
+    /// That TLV has RA alone, and on a LAN it names us.
+    pub acknowledges: bool,
     /// Its three-way TLV names another system.
     pub wrong_system: bool,
     /// Its three-way TLV names another circuit of ours.
@@ -38,7 +40,8 @@ pub struct Meant {
     pub damaged: bool,
 }
 
-fn restart(r: &mut Random, out: &mut Vec<u8>) -> Option<u8> {
+/// The flags of the TLV, and whether it names us, where it is well formed.
+fn restart(r: &mut Random, out: &mut Vec<u8>) -> Option<(u8, bool)> {
     let flags = match r.below(100) {
         0..=14 => return None,
         15..=29 => 0,
@@ -64,7 +67,7 @@ fn restart(r: &mut Random, out: &mut Vec<u8>) -> Option<u8> {
     let value = [&[flags][..], &time.to_be_bytes(), &named, &[0; 3]].concat();
     out.extend([211, len]);
     out.extend(&value[..usize::from(len)]);
-    Some(flags).filter(|_| len >= least && len <= 9)
+    Some((flags, named == OWN)).filter(|_| len >= least && len <= 9)
 }
 
 fn reverse(r: &mut Random, out: &mut Vec<u8>) {
@@ -128,7 +131,7 @@ pub fn frame(r: &mut Random, circuit: &CircuitSettings) -> (Vec<u8>, Meant) {
     out.extend([0, 0]);
     out.push(r.pick(&[0u8, 63, 64, 65, 127, 200]));
     out.resize(usize::from(header), 7);
-    let mut flags = None;
+    let mut restarts = None;
     let mut once = 0;
     let (mut wrong_system, mut wrong_circuit) = (false, false);
     for _ in 0..r.below(2) {
@@ -145,7 +148,7 @@ pub fn frame(r: &mut Random, circuit: &CircuitSettings) -> (Vec<u8>, Meant) {
     }
     for _ in 0..if r.chance(3) { 2 } else { 1 } {
         let before = out.len();
-        flags = restart(r, &mut out);
+        restarts = restart(r, &mut out);
         once += usize::from(out.len() != before);
     }
     for _ in 0..r.pick(&[0, 0, 0, 1, 1, 2]) {
@@ -170,5 +173,7 @@ pub fn frame(r: &mut Random, circuit: &CircuitSettings) -> (Vec<u8>, Meant) {
         out[at] = r.octet();
         damaged = true;
     }
-    (out, Meant { system: from, level, flags, wrong_system, wrong_circuit, damaged })
+    let flags = restarts.map(|(flags, _)| flags);
+    let acknowledges = restarts.is_some_and(|(flags, names_us)| flags & 0x1F == 2 && (p2p || names_us));
+    (out, Meant { system: from, level, flags, acknowledges, wrong_system, wrong_circuit, damaged })
 }

@@ -11,4 +11,5 @@ pub mod proved;
 pub mod random;
 pub mod reference;
 pub mod side;
+pub mod starting;
 pub mod words;

@@ -4,7 +4,7 @@ use crate::calls::Call;
 use crate::frames::Meant;
 use crate::side::Side;
 use crate::words::{self, Words};
-use isis_gr::{CircuitSettings, Circuits, Flags, Gateway, Level, Levels, Received, Record, Refusal, Ticked, Timers, Waiting};
+use isis_gr::{CircuitSettings, Flags, Gateway, Hellos, Level, Levels, Received, Record, Refusal, Ticked, Timers, Waiting};
 use isis_gr_reference::{Kind, Mac, Mode, Settings, SystemId};
 
 /// A gateway of the archive.
@@ -31,6 +31,7 @@ pub fn settings(s: &Settings) -> isis_gr::Settings {
     let mode = match s.mode {
         Mode::Running => isis_gr::Mode::Running,
         Mode::Restarting => isis_gr::Mode::Restarting,
+        Mode::Starting => isis_gr::Mode::Starting,
     };
     let start = isis_gr::Settings::new(isis_gr::SystemId(s.system), mode, s.clock).t1(s.t1).t2(s.t2).tries(s.tries);
     s.circuits.iter().fold(start, |all, own| {
@@ -64,13 +65,13 @@ impl Proved {
 }
 
 impl Side for Proved {
-    fn new(settings: &Settings) -> Result<(Proved, Circuits), Refusal> {
+    fn new(settings: &Settings) -> Result<(Proved, Hellos), Refusal> {
         let mut proved = Proved(Gateway::new());
         let hellos = proved.set_up(settings)?;
         Ok((proved, hellos))
     }
 
-    fn set_up(&mut self, s: &Settings) -> Result<Circuits, Refusal> {
+    fn set_up(&mut self, s: &Settings) -> Result<Hellos, Refusal> {
         Ok(self.0.set_up(&settings(s))?)
     }
 

@@ -1,8 +1,8 @@
 //! The reference's side: its answers as the wrapper's types. The reference itself knows nothing of them.
 use crate::side::Side;
 use isis_gr::{
-    Ack, Change, Circuit, Circuits, Flags, Freed, Level, Levels, Mark, Overload, Phase, Received, Record, Refusal, Reply, ReverseMetric,
-    Standing, Ticked, Timers, Waiting,
+    Ack, Change, Circuit, Circuits, Flags, Freed, Hellos, Level, Levels, Mark, Overload, Phase, Received, Record, Refusal, Reply,
+    ReverseMetric, Standing, Ticked, Timers, Waiting,
 };
 use isis_gr_reference as theirs;
 use isis_gr_reference::{Mac, Settings, SystemId, MAX_CIRCUITS};
@@ -20,6 +20,15 @@ fn refusal(why: theirs::Refusal) -> Refusal {
 
 fn circuits(set: [bool; MAX_CIRCUITS]) -> Circuits {
     (1..).zip(set).filter(|(_, is_in)| *is_in).map(|(number, _)| Circuit::new(number).expect("1 to 8")).collect()
+}
+
+fn flags(octet: u8) -> Flags {
+    let known = [Flags::default(), Flags::RR, Flags::SA, Flags::RR.and(Flags::SA)];
+    known.into_iter().find(|flags| flags.octet() == octet).unwrap_or_else(|| panic!("flags {octet}"))
+}
+
+fn hellos(theirs::Hellos { circuits: set, flags: octet }: theirs::Hellos) -> Hellos {
+    Hellos { circuits: circuits(set), flags: flags(octet) }
 }
 
 fn levels(set: theirs::Levels) -> Levels {
@@ -78,9 +87,9 @@ fn change(theirs::Change { level, system, before, after, advertised }: theirs::C
 }
 
 fn received(got: theirs::Received) -> Received {
-    let theirs::Received { reply: written, csnps, timers: outcome, freed: t1, change: of } = got;
+    let theirs::Received { reply: written, csnps, hello, timers: outcome, freed: t1, change: of } = got;
     let csnps = csnps.map(levels).unwrap_or_default();
-    Received { reply: written.map(reply), csnps, freed: freed(t1), timers: timers(outcome), change: change(of) }
+    Received { reply: written.map(reply), csnps, hello: hello.map(flags), freed: freed(t1), timers: timers(outcome), change: change(of) }
 }
 
 fn record(found: theirs::Record) -> Record {
@@ -97,15 +106,15 @@ fn record(found: theirs::Record) -> Record {
 }
 
 impl Side for Reference {
-    fn new(settings: &Settings) -> Result<(Reference, Circuits), Refusal> {
-        let (gateway, hellos) = theirs::Gateway::set_up(settings).map_err(refusal)?;
-        Ok((Reference(gateway), circuits(hellos)))
+    fn new(settings: &Settings) -> Result<(Reference, Hellos), Refusal> {
+        let (gateway, ordered) = theirs::Gateway::set_up(settings).map_err(refusal)?;
+        Ok((Reference(gateway), hellos(ordered)))
     }
 
-    fn set_up(&mut self, settings: &Settings) -> Result<Circuits, Refusal> {
-        let (new, hellos) = Reference::new(settings)?;
+    fn set_up(&mut self, settings: &Settings) -> Result<Hellos, Refusal> {
+        let (new, ordered) = Reference::new(settings)?;
         *self = new;
-        Ok(hellos)
+        Ok(ordered)
     }
 
     fn receive(&mut self, circuit: u8, source: Mac, frame: &[u8], reply: &mut [u8]) -> Result<Received, Refusal> {
@@ -113,8 +122,8 @@ impl Side for Reference {
     }
 
     fn tick(&mut self, clock: u32) -> Result<Ticked, Refusal> {
-        let theirs::Ticked { marks, hellos, timers: outcome } = self.0.tick(clock).map_err(refusal)?;
-        Ok(Ticked { lost: circuits(marks), hellos: circuits(hellos), timers: timers(outcome) })
+        let theirs::Ticked { marks, hellos: ordered, timers: outcome } = self.0.tick(clock).map_err(refusal)?;
+        Ok(Ticked { lost: circuits(marks), hellos: hellos(ordered), timers: timers(outcome) })
     }
 
     fn release(&mut self, circuit: u8) -> Result<(), Refusal> {
@@ -146,11 +155,7 @@ impl Side for Reference {
     }
 
     fn next_hello_flags(&self, circuit: u8) -> Result<Flags, Refusal> {
-        match self.0.next_hello_flags(circuit).map_err(refusal)? {
-            0 => Ok(Flags::default()),
-            1 => Ok(Flags::RR),
-            octet => panic!("flags {octet}"),
-        }
+        self.0.next_hello_flags(circuit).map(flags).map_err(refusal)
     }
 
     fn waiting(&self) -> Waiting {

@@ -3,7 +3,7 @@
 //! Arguments are plain numbers, so that circuits and levels that do not exist can be named. Answers are the wrapper's types: what is compared is what
 //! the wrapper read from the archive's words. Settings are the reference's, whose fields a test can read and spoil.
 use crate::calls::Call;
-use isis_gr::{Circuits, Flags, Received, Record, Refusal, Ticked, Timers, Waiting};
+use isis_gr::{Flags, Hellos, Received, Record, Refusal, Ticked, Timers, Waiting};
 use isis_gr_reference::{Mac, Settings, SystemId};
 
 /// What a reply buffer holds before a call.
@@ -11,10 +11,10 @@ pub const UNTOUCHED: u8 = 0xEE;
 
 /// A gateway of one of the two sides.
 pub trait Side: Sized {
-    /// A gateway that is set up, and the circuits on which a hello is ordered.
-    fn new(settings: &Settings) -> Result<(Self, Circuits), Refusal>;
+    /// A gateway that is set up, and the hellos that are ordered.
+    fn new(settings: &Settings) -> Result<(Self, Hellos), Refusal>;
     /// Setup over whatever stood there.
-    fn set_up(&mut self, settings: &Settings) -> Result<Circuits, Refusal>;
+    fn set_up(&mut self, settings: &Settings) -> Result<Hellos, Refusal>;
     /// Receive.
     fn receive(&mut self, circuit: u8, source: Mac, frame: &[u8], reply: &mut [u8]) -> Result<Received, Refusal>;
     /// Tick.

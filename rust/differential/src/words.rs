@@ -1,11 +1,10 @@
 //! The archive's words as they are, apart from the wrapper's reading of them: what include/isis_gr.h says of every word is checked on random calls. A refusal
 //! tells nothing but its number and changes no word; a call that asks changes none either; a number is one that the header knows; bits without
 //! a meaning are 0; what is not told is not written.
-use crate::calls::{call, settings, Call, Now};
-use crate::proved::Proved;
+use crate::calls::{call, mode, settings, Call, Now};
 use crate::random::Random;
-use crate::side::{Side, UNTOUCHED};
-use isis_gr_reference::Mode;
+use crate::side::UNTOUCHED;
+use isis_gr_reference::{Kind, Mode, Settings};
 use isis_gr_sys::*;
 
 /// A gateway's words.
@@ -13,6 +12,10 @@ pub type Words = [u64; GATEWAY_WORDS];
 
 /// What a record's words hold before a look-up.
 const BLANK: u64 = 0xEEEE_EEEE_EEEE_EEEE;
+
+/// Flags of our hellos.
+const RR: u64 = 1;
+const SA: u64 = 4;
 
 /// What a call told.
 #[derive(Clone, Debug, PartialEq, Eq)]
@@ -100,9 +103,13 @@ fn check(call: &Call, told: &Told) {
     let unused: &[(u32, u32)] = match call {
         Call::Receive(..) => {
             check_received(told);
-            &[(18, 6), (38, 2), (56, 8)]
+            &[(18, 6), (38, 2)]
         }
-        Call::Tick(_) => &[(24, 8), (38, 26)],
+        Call::Tick(_) => {
+            let (hellos, flags) = (told.bits(16, 8), told.bits(40, 8));
+            assert!([0, RR, RR + SA].contains(&flags) && (hellos == 0) == (flags == 0), "the flags of ordered hellos");
+            &[(24, 8), (38, 2), (48, 16)]
+        }
         Call::Release(_) | Call::Clear(_) => &[(8, 56)],
         Call::Csnp(..) | Call::Database(_) => &[(8, 24), (38, 26)],
         Call::LookUpP2p(..) | Call::LookUpLan(..) => {
@@ -110,7 +117,10 @@ fn check(call: &Call, told: &Told) {
             &[(17, 47)]
         }
         Call::Metric(_) => &[(8, 24)],
-        Call::Flags(_) => &[(9, 55)],
+        Call::Flags(_) => {
+            assert!([0, RR, SA, RR + SA].contains(&told.bits(8, 8)), "the flags of the next hello");
+            &[(16, 48)]
+        }
         Call::Waiting => {
             let (count, lowest) = (told.bits(8, 8), told.bits(16, 8));
             assert!(count <= CIRCUITS as u64 && lowest <= CIRCUITS as u64 && (count == 0) == (lowest == 0));
@@ -142,6 +152,10 @@ fn check_received(Told { answer, change, reply, .. }: &Told) {
     assert!(level < 3 && before < 3 && after < 3 && bits(*change, 55, 9) == 0, "{change:016x}");
     assert!(before == 0 || after != 0, "a frame removes no record");
     assert!(advertised == 0 || after == 2, "advertised: UP");
+    let (hello, overload, rises) = (bits(*answer, 56, 8), bits(*answer, 36, 2), before != 2 && after == 2);
+    assert!(hello == 0 || hello == SA, "the flags of an ordered hello");
+    assert!(overload & 1 == 0 || rises, "a frame sets overload: its record becomes UP");
+    assert!(hello == 0 || overload == 1, "a hello is ordered: overload too, and the mode goes on");
 }
 
 fn check_record(told: &Told) {
@@ -158,27 +172,55 @@ fn check_record(told: &Told) {
     assert_eq!((bits(small, 7, 1), bits(small, 16, 16)), (0, 0), "bits of the record without a meaning");
 }
 
-/// A set-up with octets of no meaning, over whatever the memory is.
-fn set_up(words: &mut Words, octets: &[u8; SETTINGS_OCTETS]) {
+/// The octets of settings, as the header lays them out.
+fn packed(s: &Settings) -> [u8; SETTINGS_OCTETS] {
+    let mode = match s.mode {
+        Mode::Running => 0,
+        Mode::Restarting => 1,
+        Mode::Starting => 2,
+    };
+    let mut octets = [&s.system[..], &s.t1.to_be_bytes(), &s.t2.to_be_bytes(), &[s.tries], &s.clock.to_be_bytes(), &[mode]].concat();
+    octets.push(s.circuits.len() as u8);
+    for own in &s.circuits {
+        octets.extend([u8::from(own.kind == Kind::PointToPoint), u8::from(own.levels.one) + 2 * u8::from(own.levels.two)]);
+        octets.extend([&own.mac[..], &[own.priority], &own.hold.to_be_bytes(), &own.metric.to_be_bytes(), &own.id.to_be_bytes()].concat());
+    }
+    octets.resize(SETTINGS_OCTETS, 0);
+    octets.try_into().expect("so many were made")
+}
+
+/// A set-up of these octets, over whatever the memory is: whether it was done.
+fn set_up(words: &mut Words, octets: &[u8; SETTINGS_OCTETS]) -> bool {
     let before = *words;
     // SAFETY: both pointers are valid for the sizes that the archive reads and writes, and do not overlap.
     let word = unsafe { isis_gr_raw_set_up(LAYOUT, words.as_mut_ptr(), octets.as_ptr()) };
-    match word & 0xFF {
-        0 => assert_eq!(word >> 16, 0, "bits without a meaning"),
-        _ => assert!(word == 12 && *words == before, "a refused set-up tells nothing else, and changes nothing"),
+    let (mode, count) = (octets[15], octets[16]);
+    if word & 0xFF == 0 {
+        let restarting = if mode == 1 { RR << 16 | ((1 << count) - 1) << 8 } else { 0 };
+        assert_eq!(u64::from(word), restarting, "hellos with RR on every circuit, in the mode Restarting alone");
+    } else {
+        assert!(word == 12 && *words == before, "a refused set-up tells nothing else, and changes nothing");
     }
+    word & 0xFF == 0
 }
 
 /// A run of `calls` random calls from a seed, by their words alone.
 pub fn run(seed: u64, calls: u64) {
     let mut r = Random::new(seed ^ 0xB175);
-    let mode = if r.chance(50) { Mode::Running } else { Mode::Restarting };
+    let mode = mode(&mut r);
     let s = settings(&mut r, mode);
-    let (proved, _) = Proved::new(&s).expect("in range");
-    let mut words = *proved.words();
+    let octets = packed(&s);
+    let mut words = [r.number(); GATEWAY_WORDS];
     for _ in 0..8 {
         set_up(&mut words.clone(), &std::array::from_fn(|_| r.octet()));
+        let mut near = octets;
+        near[r.below(SETTINGS_OCTETS as u64) as usize] = r.octet();
+        set_up(&mut words.clone(), &near);
+        near = octets;
+        near[15] = 3 + r.below(253) as u8;
+        assert!(!set_up(&mut words.clone(), &near), "an unknown mode");
     }
+    assert!(set_up(&mut words, &octets), "settings in range");
     let mut now = Now(s.clock);
     for _ in 0..calls {
         tell(&mut words, &call(&mut r, &s, &mut now));

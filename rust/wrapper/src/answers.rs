@@ -56,7 +56,7 @@ refusals! {
     NoRoom = 9,
     "clock lower than before"
     ClockBack = 10,
-    "a notice outside the mode Restarting"
+    "a notice outside the modes Restarting and Starting"
     NotRestarting = 11,
     "a setting out of range"
     BadSetting = 12,
@@ -124,7 +124,7 @@ pub struct Reply {
     pub remaining: u16,
 }
 
-/// Whether a frame with no Restart TLV stopped the circuit's running T1 (RFC 8706, 3.3.1).
+/// Whether a frame with no Restart TLV stopped the circuit's running T1 (RFC 8706, 3.3.1 and 3.3.2).
 #[derive(Clone, Copy, PartialEq, Eq, Hash, Debug)]
 #[non_exhaustive]
 pub enum Freed {
@@ -133,11 +133,11 @@ pub enum Freed {
     /// Yes.
     Stopped,
     /// Yes, and the neighbour shows us Up with our own extended circuit ID. Order: make the adjacency reinitialise, by a hello with three-way
-    /// state Down.
+    /// state Down. Never in the mode Starting.
     Reinitialise,
 }
 
-/// The overload bit of our LSPs (RFC 8706, 3.4.1.1).
+/// The overload bit of our LSPs (RFC 8706, 3.4.1.1); of a router that starts, that of its zeroth LSP (RFC 8706, 3.4.1.2).
 #[derive(Clone, Copy, PartialEq, Eq, Hash, Debug)]
 #[non_exhaustive]
 pub enum Overload {
@@ -151,13 +151,13 @@ pub enum Overload {
     Both,
 }
 
-/// How the timers of a router that restarts ended, and what they order.
+/// How the timers of a router that restarts or starts ended, and what they order.
 #[derive(Clone, Copy, PartialEq, Eq, Hash, Debug)]
 #[non_exhaustive]
 pub enum Timers {
     /// The mode was Running.
     Idle,
-    /// The mode is Restarting still.
+    /// The mode is Restarting or Starting still.
     GoOn {
         /// Order: run the SPF of these levels (RFC 8706, 3.4.1.1).
         spf: Levels,
@@ -214,6 +214,8 @@ pub struct Received {
     pub reply: Option<Reply>,
     /// Order: send a complete set of CSNPs at these levels on the circuit, and set SRM flags (RFC 8706, 3.2.1).
     pub csnps: Levels,
+    /// Order: send a hello with these flags on the circuit now (RFC 8706, 3.3.2).
+    pub hello: Option<Flags>,
     /// Whether T1 was stopped for want of a Restart TLV.
     pub freed: Freed,
     /// How the timers ended.
@@ -236,7 +238,29 @@ impl Received {
             _ => Freed::Reinitialise,
         };
         let csnps = Levels::of_mask((word >> 16) as u8);
-        Received { reply, csnps, freed, timers: Timers::of_word(word), change: Change::of_word(change) }
+        let hello = Some(Flags((word >> 56) as u8)).filter(|flags| !flags.is_empty());
+        Received { reply, csnps, hello, freed, timers: Timers::of_word(word), change: Change::of_word(change) }
+    }
+}
+
+/// Order: send a hello with these flags on these circuits (RFC 8706, 3.3.1 and 3.3.2); no circuit, no flags.
+#[derive(Clone, Copy, PartialEq, Eq, Hash, Debug, Default)]
+pub struct Hellos {
+    /// The circuits.
+    pub circuits: Circuits,
+    /// The flags of all these hellos.
+    pub flags: Flags,
+}
+
+impl Hellos {
+    /// Whether a hello is ordered on the circuit.
+    pub fn contains(self, circuit: Circuit) -> bool {
+        self.circuits.contains(circuit)
+    }
+
+    /// Whether none is ordered.
+    pub fn is_empty(self) -> bool {
+        self.circuits.is_empty()
     }
 }
 
@@ -245,15 +269,16 @@ impl Received {
 pub struct Ticked {
     /// The circuits that lost a record.
     pub lost: Circuits,
-    /// Order: send a hello with RR on these circuits (RFC 8706, 3.3.1).
-    pub hellos: Circuits,
+    /// The hellos that are ordered: T1 expired.
+    pub hellos: Hellos,
     /// How the timers ended.
     pub timers: Timers,
 }
 
 impl Ticked {
     pub(crate) fn of_word(word: u64) -> Ticked {
-        Ticked { lost: Circuits((word >> 8) as u8), hellos: Circuits((word >> 16) as u8), timers: Timers::of_word(word) }
+        let hellos = Hellos { circuits: Circuits((word >> 16) as u8), flags: Flags((word >> 40) as u8) };
+        Ticked { lost: Circuits((word >> 8) as u8), hellos, timers: Timers::of_word(word) }
     }
 }
 
@@ -264,6 +289,19 @@ pub struct Flags(pub(crate) u8);
 impl Flags {
     /// RR: a restart is requested.
     pub const RR: Flags = Flags(1);
+    /// SA: the adjacency is not to be advertised.
+    pub const SA: Flags = Flags(4);
+
+    /// These and those.
+    ///
+    /// ```
+    /// # use isis_gr::Flags;
+    /// let both = Flags::RR.and(Flags::SA);
+    /// assert!(both.has(Flags::RR) && both.has(Flags::SA));
+    /// ```
+    pub const fn and(self, flags: Flags) -> Flags {
+        Flags(self.0 | flags.0)
+    }
 
     /// Whether all of these are set.
     ///
@@ -290,7 +328,7 @@ impl Flags {
 impl core::fmt::Debug for Flags {
     /// As the set of their names.
     fn fmt(&self, f: &mut core::fmt::Formatter<'_>) -> core::fmt::Result {
-        let names = [(Flags::RR, "RR")];
+        let names = [(Flags::RR, "RR"), (Flags::SA, "SA")];
         f.debug_set().entries(names.iter().filter(|(flag, _)| self.has(*flag)).map(|(_, name)| name)).finish()
     }
 }

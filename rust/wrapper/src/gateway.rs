@@ -1,5 +1,5 @@
 //! The gateway and its calls.
-use crate::answers::{Flags, Received, Refusal, Ticked, Timers, Waiting};
+use crate::answers::{Flags, Hellos, Received, Refusal, Ticked, Timers, Waiting};
 use crate::ffi;
 use crate::names::{Circuit, Circuits, Level, Mac, SystemId};
 use crate::record::Record;
@@ -47,8 +47,8 @@ impl Gateway {
         &self.words
     }
 
-    /// A new gateway, whatever the memory was; the circuits on which a hello with RR is ordered (RFC 8706, 3.3.1; none in the mode Running).
-    /// Where the archive refuses the settings (12), the memory is as it was, and the error names the first that is out of its range.
+    /// A new gateway, whatever the memory was; the hellos that are ordered (with RR on every circuit in the mode Restarting: RFC 8706, 3.3.1;
+    /// else none). Where the archive refuses the settings (12), the memory is as it was, and the error names the first that is out of its range.
     ///
     /// ```
     /// # use isis_gr::{CircuitSettings, Gateway, Kind, Levels, Mac, Mode, Settings, SystemId};
@@ -57,10 +57,10 @@ impl Gateway {
     /// let error = Gateway::new().set_up(&settings).unwrap_err();
     /// assert_eq!(error.to_string(), "circuit 1: hold is out of its range");
     /// ```
-    pub fn set_up(&mut self, settings: &Settings) -> Result<Circuits, SettingError> {
+    pub fn set_up(&mut self, settings: &Settings) -> Result<Hellos, SettingError> {
         let word = ffi::set_up(&mut self.words, &settings.octets());
         match word & 0xFF {
-            0 => Ok(Circuits((word >> 8) as u8)),
+            0 => Ok(Hellos { circuits: Circuits((word >> 8) as u8), flags: Flags((word >> 16) as u8) }),
             _ => Err(settings.fault()),
         }
     }
@@ -123,7 +123,8 @@ impl Gateway {
         Refusal::unless(word, (word >> 32) as u32)
     }
 
-    /// The flags of the Restart TLV in the next hello on a circuit. Refused 1.
+    /// The flags of the Restart TLV in the next hello on a circuit: RR while T1 of a restart runs (RFC 8706, 3.3.1); SA while we start, and RR
+    /// beside it from the first expiry of T1 while it runs (RFC 8706, 3.3.2). Refused 1.
     pub fn next_hello_flags(&self, circuit: Circuit) -> Result<Flags, Refusal> {
         let word = ffi::next_hello_flags(&self.words, circuit.number());
         Refusal::unless(u64::from(word), Flags((word >> 8) as u8))

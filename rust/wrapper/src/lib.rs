@@ -38,7 +38,7 @@ mod names;
 mod record;
 mod settings;
 
-pub use answers::{Ack, Flags, Freed, Overload, Received, Refusal, Reply, Ticked, Timers, Waiting};
+pub use answers::{Ack, Flags, Freed, Hellos, Overload, Received, Refusal, Reply, Ticked, Timers, Waiting};
 pub use gateway::{Gateway, REPLY_OCTETS};
 pub use names::{Circuit, Circuits, Level, Levels, Mac, SystemId};
 pub use record::{Change, Mark, Phase, Record, ReverseMetric, Standing};

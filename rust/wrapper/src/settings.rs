@@ -12,14 +12,26 @@ pub enum Kind {
     P2p,
 }
 
-/// The mode that a gateway starts in.
+/// The mode that a gateway is set up in.
 #[derive(Clone, Copy, PartialEq, Eq, Hash, Debug)]
 #[non_exhaustive]
 pub enum Mode {
     /// It helps neighbours that restart.
     Running,
-    /// It restarts itself (RFC 8706, 3.3.1).
+    /// It restarts itself, and forwarding went on (RFC 8706, 3.3.1).
     Restarting,
+    /// It starts without forwarding tables (RFC 8706, 3.3.2).
+    Starting,
+}
+
+impl Mode {
+    fn number(self) -> u8 {
+        match self {
+            Mode::Running => 0,
+            Mode::Restarting => 1,
+            Mode::Starting => 2,
+        }
+    }
 }
 
 /// One circuit's settings. Where a method is not called: priority 64, holding time 30 s, metric 10, extended circuit ID 0.
@@ -153,7 +165,7 @@ impl Settings {
         out[8..10].copy_from_slice(&self.t2.to_be_bytes());
         out[10] = self.tries;
         out[11..15].copy_from_slice(&self.clock.to_be_bytes());
-        out[15] = u8::from(self.mode == Mode::Restarting);
+        out[15] = self.mode.number();
         out[16] = u8::try_from(self.count).unwrap_or(u8::MAX);
         for (circuit, at) in self.circuits.iter().zip(out[17..].chunks_exact_mut(19)) {
             at[0] = u8::from(circuit.kind == Kind::P2p);

@@ -1,7 +1,7 @@
 //! The flags of the next hello, and the sets of levels and circuits.
 mod common;
 use common::*;
-use isis_gr::{Circuits, Flags, Level, Levels, Mode, Overload, Timers};
+use isis_gr::{Circuits, Flags, Hellos, Level, Levels, Mode, Overload, Timers};
 
 #[test]
 fn rr_is_set_while_t1_runs_and_no_other_flag_is() {
@@ -32,12 +32,22 @@ fn no_flag_is_set_in_the_mode_running() {
 }
 
 #[test]
+fn flags_are_sets_of_rr_and_sa() {
+    let both = Flags::RR.and(Flags::SA);
+    assert_eq!([Flags::default(), Flags::RR, Flags::SA, both].map(Flags::octet), [0, 1, 4, 5]);
+    assert!(both.has(Flags::RR) && both.has(Flags::SA) && both.has(both) && !Flags::SA.has(both) && !Flags::RR.has(Flags::SA));
+    assert_eq!([format!("{:?}", Flags::SA), format!("{both:?}")], ["{\"SA\"}", "{\"RR\", \"SA\"}"]);
+}
+
+#[test]
 fn setup_and_tick_order_hellos_by_circuit() {
     let mut g = gateway(Mode::Running);
     let hellos = g.set_up(&settings(Mode::Restarting)).expect("in range");
-    assert!(hellos.into_iter().eq([P2P, LAN]));
-    assert_eq!(format!("{hellos:?}"), "{1, 2}");
-    assert!(g.tick(102).expect("later").hellos.is_empty(), "T1 is 3 s");
+    assert!(hellos.circuits.into_iter().eq([P2P, LAN]));
+    assert!(hellos.contains(P2P) && hellos.contains(LAN) && !hellos.contains(circuit(3)) && !hellos.is_empty());
+    assert_eq!(format!("{hellos:?}"), "Hellos { circuits: {1, 2}, flags: {\"RR\"} }");
+    assert_eq!(g.tick(102).expect("later").hellos, Hellos::default(), "T1 is 3 s");
+    assert!(Hellos::default().is_empty());
     assert_eq!(g.tick(103).expect("later").hellos, hellos);
 }
 

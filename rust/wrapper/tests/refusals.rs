@@ -119,7 +119,7 @@ fn no_10_and_11_by_clock_and_mode() {
     let mut g = gateway(Mode::Running);
     assert_eq!(refused(&mut g, |g| g.tick(99)), (10, "clock lower than before"));
     assert!(g.tick(100).is_ok(), "an equal clock is a tick");
-    let told = (11, "a notice outside the mode Restarting");
+    let told = (11, "a notice outside the modes Restarting and Starting");
     assert_eq!(refused(&mut g, |g| g.csnp_complete(P2P, Level::One)), told);
     assert_eq!(refused(&mut g, |g| g.database_complete(Level::Two)), told);
 }

@@ -22,6 +22,14 @@ fn the_bounds_themselves_are_accepted() {
 }
 
 #[test]
+fn every_mode_is_known_to_the_archive() {
+    for mode in [Mode::Running, Mode::Restarting, Mode::Starting] {
+        let s = Settings::new(SystemId([1; 6]), mode, 0).circuit(circuit());
+        assert!(Gateway::new().set_up(&s).is_ok(), "{mode:?}");
+    }
+}
+
+#[test]
 fn each_fault_is_named() {
     let one = settings(&[circuit()]);
     assert_eq!(fault(one.t1(0)), "t1 is out of its range");

@@ -1,5 +1,6 @@
 //! Hellos and gateways of the tests. Circuit 1 is P2P, circuit 2 is a LAN with level 2 alone; we are System ID 1921.6800.1001.
 #![allow(dead_code)]
+pub mod ends;
 use isis_gr::{Circuit, CircuitSettings, Gateway, Kind, Levels, Mac, Mode, Received, Refusal, Settings, SystemId, REPLY_OCTETS};
 
 pub const OWN_MAC: Mac = Mac([2, 0, 0, 0, 0, 1]);

@@ -32,9 +32,6 @@ mul-result-2 c = search needs
 add-result : tie.Need-add-result
 add-result c = search needs
 
-outcome-number-requires : tie.Need-outcome-number-requires
-outcome-number-requires c κs = search needs
-
 cast-result-4 : tie.Need-cast-result-4
 cast-result-4 c = search needs
 
@@ -43,6 +40,9 @@ mul-result-3 c = search needs
 
 add-result-2 : tie.Need-add-result-2
 add-result-2 c = search needs
+
+outcome-number-requires : tie.Need-outcome-number-requires
+outcome-number-requires c κs = search needs
 
 cast-result-5 : tie.Need-cast-result-5
 cast-result-5 c = search needs
@@ -75,10 +75,10 @@ ticked-word-spec =
     cast-result-3
     mul-result-2
     add-result
-    outcome-number-requires
     cast-result-4
     mul-result-3
     add-result-2
+    outcome-number-requires
     cast-result-5
     mul-result-4
     add-result-3
