@@ -1,4 +1,4 @@
--- What an accepted hello says to the timers of a router that restarts (document 01, "Timers while Restarting"; RFC 8706, 3.3.1).
+-- What an accepted hello says to the timers of a router that restarts or starts (document 01, "Timers while Restarting"; RFC 8706, 3.3.1 and 3.3.2).
 use Prim.Native.Nat.{ℕ}
 use mathlib.Core.Bool.{Bool, true, false, cond, _&&_}
 use lib.Dec.{eqb}

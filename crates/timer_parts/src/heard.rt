@@ -1,4 +1,4 @@
-// What an accepted hello says to the timers of a router that restarts (document 01, "Timers while Restarting"; RFC 8706, 3.3.1).
+// What an accepted hello says to the timers of a router that restarts or starts (document 01, "Timers while Restarting"; RFC 8706, 3.3.1 and 3.3.2).
 use hello::read::Hello;
 use hello::read::Link;
 use hello::three_way::Identifiers;
