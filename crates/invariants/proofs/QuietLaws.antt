@@ -24,7 +24,7 @@ use Rattle.timer_parts.specs.declared.heard.Heard.the-variants.{WithoutTlv, Ack
 use Rattle.settings.specs.declared.lengths.Lengths.{Lengths}
 use Rattle.timer_parts.specs.declared.t1.T1.{T1}
 use Rattle.timers.specs.Timers.{Timers, withT1s, withT2s, withT3, anyRuns, atT1, tickT1s, expireT2s, cancelT2s, tickT3, over, finish, closed, settled, toT3, heardIn, csnpIn, noticeT2s}
-use Rattle.timers.specs.Events.{headIn, startT1, startHellos, started}
+use Rattle.timers.specs.Events.{headBy, startT1, startHellos, started}
 use Rattle.timers.specs.declared.events.Start.{Start}
 use Rattle.settings.specs.declared.setup.Settings.{Settings}
 use Rattle.settings.specs.declared.mode.Mode.{Mode}
@@ -46,7 +46,7 @@ on-quiet t m = record { t1s = λ e. not-running (t .mode) m e; t2s = λ e. not-r
 
 -- setup
 started-by : (s : Start) (m : Mode) → s .mode ≡ m → Quiet (started s)
-unfolding started headIn startHellos startT1 startT2s startTimer anyRuns anyT2 bitsOf
+unfolding started headBy startHellos startT1 startT2s startTimer anyRuns anyT2 bitsOf
 started-by s Running p = record { t1s = λ e. rw p refl; t2s = λ e. rw p refl; t3 = λ e. rw p refl }
 started-by s Restarting p = on-quiet (started s) (rw p refl)
 started-by s Starting p = on-quiet (started s) (rw p refl)
@@ -55,7 +55,7 @@ pub started-quiet : (s : Start) → Quiet (started s)
 started-quiet s = started-by s (s .mode) refl
 
 no-t3-by : (s : Start) (m : Mode) → s .mode ≡ m → NoT3 (started s)
-unfolding started headIn
+unfolding started headBy
 no-t3-by s Running p = record { idle = λ e. (let z = rw p at e in cc) }
 no-t3-by s Restarting p = record { idle = λ e. (let z = rw p at e in cc) }
 no-t3-by s Starting p = record { idle = λ e. rw p refl }
@@ -84,7 +84,7 @@ some-enabled (c ∷ l) ok h =
 
 module _ (s : Settings) (ok : every circuitOk (circuitsOf s) ≡ true) where
   restarts-by : (m : Mode) → s .mode ≡ m → Restarts s (started (startOf s))
-  unfolding started headIn
+  unfolding started headBy
   restarts-by Running p = record { some = λ h e. (let z = rw p at e in cc) }
   restarts-by Restarting p =
       record {

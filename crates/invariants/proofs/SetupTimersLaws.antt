@@ -33,7 +33,7 @@ use Rattle.timer_parts.specs.declared.t3.T3.{T3}
 use Rattle.timer_parts.specs.declared.t3.T3.the-variants.{Idle, Runs, Expired}
 use Rattle.timer_parts.proofs.T1Laws.{hello-tries}
 use Rattle.timers.specs.Timers.{Timers, withT1s, withT2s, withT3, noT1, atT1, tickT1s, expireT2s, waits, cancelT2s, tickT3, over, finish, closed, settled, toT3, firstT1, heardIn, csnpIn, noticeT2s}
-use Rattle.timers.specs.Events.{headIn, startHead, startT1, started}
+use Rattle.timers.specs.Events.{headBy, startHead, startT1, started}
 use Rattle.timers.specs.Memory.{t1Bits}
 use Rattle.timers.specs.declared.head.Head.{Head}
 use Rattle.control.specs.Common.{presentOf, startOf}
@@ -298,7 +298,7 @@ module _ (s : Settings) (tries : 0 < s .lengths .tries) where
   started-with h e m two three = rw e (record { t1s = started-on s tries _ (h .mask) m; t2s = two; t3 = three })
 
   started-by : (m : Mode) → s .mode ≡ m → SetupTimers s (s .clock) (started (startOf s))
-  unfolding headIn
+  unfolding headBy
   started-by Running p =
       started-with (record { mode = Running; mask = 0; t2s = startT2s (record { one = false; two = false }) 0; t3 = Idle }) (rw p refl)
       (pow-pos (s .count)) (none-due (T2Ends s) 0)

@@ -6,7 +6,7 @@ use mathlib.Core.List.{List, [], _∷_}
 use native.Mathlib.Omega.{arith}
 use Rattle.basics.proofs.BoolLaws.{by-test}
 use Rattle.timers.specs.Hellos.{Hellos}
-use Rattle.timers.specs.Events.{headIn, started}
+use Rattle.timers.specs.Events.{headBy, started}
 use Rattle.settings.specs.declared.mode.Mode.the-variants.{Running}
 use Rattle.settings.specs.Settings.{settingsOk}
 use Rattle.settings.specs.declared.setup.Settings.{Settings}
@@ -60,7 +60,7 @@ unfolding setup
 setup-is s g hellos e = by-test (settingsOk s) (λ h. cc) (λ h. cc)
 
 setup-running : (s : Settings) → s .mode ≡ Running → newGateway s .common .timers .mode ≡ Running
-unfolding newGateway setupCommon started headIn
+unfolding newGateway setupCommon started headBy
 setup-running s h = rw h
 
 pub isolation : Isolation

@@ -24,9 +24,9 @@ use Rattle.timer_parts.specs.T1.{startEntry, begins, begin, begunBy, helloFlags
 use Rattle.timer_parts.specs.T2.{noticeT2, noticeBoth, startTimer, startT2s, anyT2, anyAfter, cancelT2, cancelBoth, expireT2, expireBoth, spfDue}
 use Rattle.timer_parts.specs.T3.{lowerT3, heardT3, expiresT3, expiredT3}
 use Rattle.timers.specs.Timers.{withT1s, withT2s, withT3, anyRuns, countRuns, firstRuns, noT1, atT1, tickT1s, expireT2s, waits, cancelT2s, tickT3, over, finish, closed, settled, toT3, heardIn, csnpIn, noticeT2s}
-use Rattle.timers.specs.Outcome.{overloadOf, overloadDue, outcomeWith, outcomeOf, ordered, tickHellos, raised, freedIn, heardOrders}
+use Rattle.timers.specs.Outcome.{overloadOf, overloadDue, outcomeWith, outcomeOf, ordered, tickHellos, overloaded, freedWith, heardOrders}
 use Rattle.timers.specs.Hellos.{ordering, beginHello}
-use Rattle.timers.specs.Events.{headIn, startT1, startHellos, started}
+use Rattle.timers.specs.Events.{headBy, startT1, startHellos, started}
 use Rattle.basics.specs.Lists.{every, some}
 use Rattle.settings.specs.Settings.{circuitOk, lengthsOk, settingsOk, enabledLevels}
 use Rattle.control.specs.Common.{circuitOf, setupCommon}
@@ -41,7 +41,7 @@ use Rattle.model.specs.SampleCalls.{SampleCalls}
 use Rattle.model.specs.SampleStarts.{SampleStarts}
 
 rows : SampleRuns × SampleCalls × SampleStarts
-unfolding ones big hasBits octetsOf tlvs tlvsUp cutAt ofType loneFault unless counted without invalid needsNeighbor needsTime leastLength restartBad restartWith timeOf neighborOf restartOctets layoutOf notHello badLength threeWayBad threeWayLength stateOf identifiersOf reverseBad reverseOf faultOn earlier ruleFault tlvsRead pduRead layoutRead helloRead wrongSource wrongId wrongNeighbor linkStep keptUp stepOf planned lineBy lineOf dataBy acceptedBy lineIn reactOf csnpsOf sameKey find has full crowded replace insert put sweep firstState emptyRoom heldTo bitsOf acknowledges heardTlv heardOf startEntry due helloDue tickT1 done satisfied acknowledged heardT1 freedBy startTimer startT2s anyT2 anyAfter cancelT2 cancelBoth expireT2 expireBoth spfDue lowerT3 heardT3 expiresT3 expiredT3 withT1s withT2s withT3 anyRuns countRuns firstRuns noT1 atT1 tickT1s expireT2s waits cancelT2s tickT3 finish closed settled toT3 heardIn overloadOf overloadDue outcomeWith outcomeOf ordered tickHellos raised freedIn heardOrders ordering beginHello begins begin begunBy rises anyTrue headIn startT1 startHellos started every some circuitOk lengthsOk settingsOk enabledLevels circuitOf setupCommon keyOn ifRoom decided kept written csnpsIn numbered renew recordAt newGateway setup refuse accepted reacted decidedIn checked readIn receive csnpComplete lookUp linkMetricOf nextHello act lift on noneOf tickOf databaseOf judge carry step trace leftBy callsOf seenBy neighboursFault listed listRead listedTo linkRead outranks heardWithoutTlv stopT1 again noted helloFlags noticeT2 noticeBoth over csnpIn noticeT2s
+unfolding ones big hasBits octetsOf tlvs tlvsUp cutAt ofType loneFault unless counted without invalid needsNeighbor needsTime leastLength restartBad restartWith timeOf neighborOf restartOctets layoutOf notHello badLength threeWayBad threeWayLength stateOf identifiersOf reverseBad reverseOf faultOn earlier ruleFault tlvsRead pduRead layoutRead helloRead wrongSource wrongId wrongNeighbor linkStep keptUp stepOf planned lineBy lineOf dataBy acceptedBy lineIn reactOf csnpsOf sameKey find has full crowded replace insert put sweep firstState emptyRoom heldTo bitsOf acknowledges heardTlv heardOf startEntry due helloDue tickT1 done satisfied acknowledged heardT1 freedBy startTimer startT2s anyT2 anyAfter cancelT2 cancelBoth expireT2 expireBoth spfDue lowerT3 heardT3 expiresT3 expiredT3 withT1s withT2s withT3 anyRuns countRuns firstRuns noT1 atT1 tickT1s expireT2s waits cancelT2s tickT3 finish closed settled toT3 heardIn overloadOf overloadDue outcomeWith outcomeOf ordered tickHellos overloaded freedWith heardOrders ordering beginHello begins begin begunBy rises anyTrue headBy startT1 startHellos started every some circuitOk lengthsOk settingsOk enabledLevels circuitOf setupCommon keyOn ifRoom decided kept written csnpsIn numbered renew recordAt newGateway setup refuse accepted reacted decidedIn checked readIn receive csnpComplete lookUp linkMetricOf nextHello act lift on noneOf tickOf databaseOf judge carry step trace leftBy callsOf seenBy neighboursFault listed listRead listedTo linkRead outranks heardWithoutTlv stopT1 again noted helloFlags noticeT2 noticeBoth over csnpIn noticeT2s
 rows = ((refl, refl, (refl, refl), refl, (refl, refl, refl)), (refl, refl, refl, refl, refl, (refl, refl), (refl, refl)), ((refl, refl), refl, refl, refl, refl, refl, refl, refl, refl, refl, refl, refl, refl))
 
 pub sample-runs : SampleRuns

@@ -54,8 +54,8 @@ lan =
 abbrev pub plain : ℕ → Call
 plain state = receiving (hello state (0 ∷ 0 ∷ 0 ∷ []))
 
-abbrev pub acknowledged : ℕ → Call
-acknowledged state = receiving (hello state (acknowledging 40))
+abbrev pub withRa : ℕ → Call
+withRa state = receiving (hello state (acknowledging 40))
 
 -- .. Up, naming our System ID and this extended circuit ID
 abbrev pub bare : ℕ → Call
@@ -141,8 +141,8 @@ sees hello freed restart spf overload next waits =
     record { hello = hello; freed = freed; timers = record { restart = restart; spf = spf; overload = overload }; next = next; waits = waits }
 
 -- nothing is ordered, and the start goes on: every hello carries SA
-abbrev pub still : ℕ → Seen
-still waits = sees 0 0 1 0 0 4 waits
+abbrev pub steady : ℕ → Seen
+steady waits = sees 0 0 1 0 0 4 waits
 
 -- T1 begins: a hello with SA, and overload
 abbrev pub begun : Seen
@@ -168,42 +168,42 @@ abbrev pub ByExpiry : Type 0
 ByExpiry =
     Plays (starting 3 1)
     (plain 2 ∷ Over (Tick 2) ∷ plain 1 ∷ Over (Tick 11) ∷ Over (Tick 12) ∷ Over (Tick 22) ∷ Over (Tick 32) ∷ Over (Tick 59) ∷ Over (Tick 60) ∷ [])
-    (still 0 ∷ still 0 ∷ begun ∷ still 1 ∷ sees 5 0 1 0 0 5 1 ∷ sees 5 0 1 0 0 5 1 ∷ still 0 ∷ still 0 ∷ sees 0 0 2 3 2 0 0 ∷ [])
+    (steady 0 ∷ steady 0 ∷ begun ∷ steady 1 ∷ sees 5 0 1 0 0 5 1 ∷ sees 5 0 1 0 0 5 1 ∷ steady 0 ∷ steady 0 ∷ sees 0 0 2 3 2 0 0 ∷ [])
 
 -- N = 1: no hello carries RR
 abbrev pub OneTry : Type 0
-OneTry = Plays (starting 1 1) (plain 1 ∷ Over (Tick 10) ∷ []) (begun ∷ still 0 ∷ [])
+OneTry = Plays (starting 1 1) (plain 1 ∷ Over (Tick 10) ∷ []) (begun ∷ steady 0 ∷ [])
 
 -- first UP by Up, from INIT. RA before that frame does not count: with both CSNP sets T1 runs on; RA after it stops T1; the database notices end the
 -- start.
 abbrev pub ByCancelling : Type 0
 ByCancelling =
     Plays (starting 3 1)
-    (acknowledged 2 ∷ plain 0 ∷ At 1 (CsnpComplete 1) ∷ At 1 (CsnpComplete 2) ∷ acknowledged 0 ∷ Over (DatabaseComplete 1) ∷ Over (DatabaseComplete 2) ∷ [])
-    (still 0 ∷ begun ∷ still 1 ∷ still 1 ∷ still 0 ∷ sees 0 0 1 1 0 4 0 ∷ sees 0 0 2 2 2 0 0 ∷ [])
+    (withRa 2 ∷ plain 0 ∷ At 1 (CsnpComplete 1) ∷ At 1 (CsnpComplete 2) ∷ withRa 0 ∷ Over (DatabaseComplete 1) ∷ Over (DatabaseComplete 2) ∷ [])
+    (steady 0 ∷ begun ∷ steady 1 ∷ steady 1 ∷ steady 0 ∷ sees 0 0 1 1 0 4 0 ∷ sees 0 0 2 2 2 0 0 ∷ [])
 
 -- CSNP sets before the first UP frame count, and RA on it: T1 begins and stops. It does not begin again when the record falls and comes UP, which
 -- orders overload again.
 abbrev pub AtOnce : Type 0
 AtOnce =
     Plays (starting 3 1)
-    (At 1 (CsnpComplete 1) ∷ At 1 (CsnpComplete 2) ∷ acknowledged 1 ∷ plain 2 ∷ plain 1 ∷ [])
-    (still 0 ∷ still 0 ∷ sees 4 0 1 0 1 4 0 ∷ still 0 ∷ sees 0 0 1 0 1 4 0 ∷ [])
+    (At 1 (CsnpComplete 1) ∷ At 1 (CsnpComplete 2) ∷ withRa 1 ∷ plain 2 ∷ plain 1 ∷ [])
+    (steady 0 ∷ steady 0 ∷ sees 4 0 1 0 1 4 0 ∷ steady 0 ∷ sees 0 0 1 0 1 4 0 ∷ [])
 
 -- a first UP frame without the TLV, Up and with our own circuit ID: T1 begins and stops, and nothing is to reinitialise
 abbrev pub Bare : Type 0
-Bare = Plays (starting 3 1) (plain 2 ∷ bare 1 ∷ []) (still 0 ∷ sees 4 1 1 0 1 4 0 ∷ [])
+Bare = Plays (starting 3 1) (plain 2 ∷ bare 1 ∷ []) (steady 0 ∷ sees 4 1 1 0 1 4 0 ∷ [])
 
 -- a running T1 with an expiry that the record's fall does not stop; an acknowledgement without CSNP sets leaves it
 abbrev pub Falls : Type 0
-Falls = Plays (starting 3 1) (plain 1 ∷ Over (Tick 10) ∷ plain 2 ∷ plain 1 ∷ acknowledged 0 ∷ []) (begun ∷ sees 5 0 1 0 0 5 1 ∷ sees 0 0 1 0 0 5 1 ∷ sees 0 0 1 0 1 5 1 ∷ sees 0 0 1 0 0 5 1 ∷ [])
+Falls = Plays (starting 3 1) (plain 1 ∷ Over (Tick 10) ∷ plain 2 ∷ plain 1 ∷ withRa 0 ∷ []) (begun ∷ sees 5 0 1 0 0 5 1 ∷ sees 0 0 1 0 0 5 1 ∷ sees 0 0 1 0 1 5 1 ∷ sees 0 0 1 0 0 5 1 ∷ [])
 
 -- two circuits, of which the second never comes UP: its T1 does not run, and the notices end the start
 abbrev pub OneOfTwo : Type 0
 OneOfTwo =
     Plays (starting 3 2)
-    (plain 1 ∷ Over (DatabaseComplete 1) ∷ Over (DatabaseComplete 2) ∷ At 1 (CsnpComplete 1) ∷ acknowledged 0 ∷ At 1 (CsnpComplete 2) ∷ [])
-    (begun ∷ still 1 ∷ still 1 ∷ still 1 ∷ still 1 ∷ sees 0 0 2 3 2 0 0 ∷ [])
+    (plain 1 ∷ Over (DatabaseComplete 1) ∷ Over (DatabaseComplete 2) ∷ At 1 (CsnpComplete 1) ∷ withRa 0 ∷ At 1 (CsnpComplete 2) ∷ [])
+    (begun ∷ steady 1 ∷ steady 1 ∷ steady 1 ∷ steady 1 ∷ sees 0 0 2 3 2 0 0 ∷ [])
 
 -- no record came UP: the notices cancel every T2, and overload is ordered clear all the same
 abbrev pub Alone : Type 0
@@ -211,7 +211,7 @@ Alone = Plays (starting 3 1) (Over (DatabaseComplete 2) ∷ Over (DatabaseComple
 
 -- T3 isn't used: RA 5 that shows us Up, and a tick long past it
 abbrev pub WithoutT3 : Type 0
-WithoutT3 = Plays (starting 1 1) (plain 1 ∷ receiving (hello 0 (acknowledging 5)) ∷ Over (Tick 50) ∷ []) (begun ∷ still 1 ∷ still 0 ∷ [])
+WithoutT3 = Plays (starting 1 1) (plain 1 ∷ receiving (hello 0 (acknowledging 5)) ∷ Over (Tick 50) ∷ []) (begun ∷ steady 1 ∷ steady 0 ∷ [])
 
 -- ---- a LAN
 
@@ -220,7 +220,7 @@ abbrev pub OnLan : Type 0
 OnLan =
     Plays (settingsWith Starting 3 1 lan)
     (onLan 2 [] ∷ onLan 2 (listing []) ∷ At 1 (CsnpComplete 1) ∷ onLan 2 (listing (answering 9)) ∷ Over (DatabaseComplete 1) ∷ onLan 3 (listing (answering 1)) ∷ [])
-    (still 0 ∷ begun ∷ still 1 ∷ still 1 ∷ still 1 ∷ sees 0 0 2 1 3 0 0 ∷ [])
+    (steady 0 ∷ begun ∷ steady 1 ∷ steady 1 ∷ steady 1 ∷ sees 0 0 2 1 3 0 0 ∷ [])
 
 -- ---- the step and the refusals are those of Running
 

@@ -21,8 +21,8 @@ use Rattle.timers.specs.declared.outcome.TimerOutcome.the-variants.{Goes
 use Rattle.timer_parts.specs.declared.t1.Freed.the-variants.{Kept}
 use Rattle.timers.specs.Timers.{Timers, withT1s, withT2s, withT3, anyRuns, noT1, atT1, tickT1s, expireT2s, waits, cancelT2s, tickT3, over, finish, closed, settled, toT3, ticked, heardIn, heard}
 use Rattle.timers.specs.Hellos.{noHellos, ordering, beginHello}
-use Rattle.timers.specs.Outcome.{overloadOf, overloadDue, outcomeWith, outcomeOf, ordered, tickHellos, raised, freedIn, heardOrders}
-use Rattle.timers.specs.Events.{headIn, startT1, startHellos, started}
+use Rattle.timers.specs.Outcome.{overloadOf, overloadDue, outcomeWith, outcomeOf, ordered, tickHellos, overloaded, freedWith, heardOrders}
+use Rattle.timers.specs.Events.{headBy, startT1, startHellos, started}
 
 abbrev lengths : Lengths
 lengths = record { t1 = 60; t2 = 60; tries = 3 }
@@ -55,7 +55,7 @@ at12 = answered 12 false 20 at10
 
 -- at 5 RA 40, Up; at 10 RA 50, Up; at 12 RA 20, not Up: T3 at 45, 45, 45
 pub c9 : (at5 .t3 ≡ Runs 45) × (at10 .t3 ≡ Runs 45) × (at12 .t3 ≡ Runs 45)
-unfolding bitsOf startEntry stopT1 due helloDue again tickT1 done satisfied acknowledged heardT1 startTimer startT2s anyT2 anyAfter cancelT2 cancelBoth expireT2 expireBoth lowerT3 heardT3 expiresT3 withT1s withT2s withT3 anyRuns noT1 atT1 tickT1s expireT2s waits cancelT2s tickT3 over finish closed settled toT3 heardIn begunBy begins headIn startT1 startHellos started
+unfolding bitsOf startEntry stopT1 due helloDue again tickT1 done satisfied acknowledged heardT1 startTimer startT2s anyT2 anyAfter cancelT2 cancelBoth expireT2 expireBoth lowerT3 heardT3 expiresT3 withT1s withT2s withT3 anyRuns noT1 atT1 tickT1s expireT2s waits cancelT2s tickT3 over finish closed settled toT3 heardIn begunBy begins headBy startT1 startHellos started
 c9 = (refl, refl, refl)
 
 -- ---- a start
@@ -77,5 +77,5 @@ pub start : (startHellos (from Starting) ≡ noHellos) × (started (from Startin
     × (orders 3 begun ≡ record { outcome = Goes none Set; freed = Kept; hello = Nothing })
     × (tickHellos (record { t1 = 60; t2 = 90; tries = 3 }) 62 begun .flags ≡ 5)
     × (ordered (toT3 lengths 60) begun ≡ Ended first Clear)
-unfolding anyTrue bitsOf startEntry begins begin begunBy stopT1 due helloDue again tickT1 done satisfied acknowledged heardT1 freedBy startTimer startT2s anyT2 anyAfter cancelT2 cancelBoth expireT2 expireBoth spfDue lowerT3 heardT3 expiresT3 expiredT3 withT1s withT2s withT3 anyRuns noT1 atT1 tickT1s expireT2s waits cancelT2s tickT3 over finish closed settled toT3 heardIn headIn startT1 startHellos started ordering beginHello overloadOf overloadDue outcomeWith outcomeOf ordered tickHellos raised freedIn heardOrders
+unfolding anyTrue bitsOf startEntry begins begin begunBy stopT1 due helloDue again tickT1 done satisfied acknowledged heardT1 freedBy startTimer startT2s anyT2 anyAfter cancelT2 cancelBoth expireT2 expireBoth spfDue lowerT3 heardT3 expiresT3 expiredT3 withT1s withT2s withT3 anyRuns noT1 atT1 tickT1s expireT2s waits cancelT2s tickT3 over finish closed settled toT3 heardIn headBy startT1 startHellos started ordering beginHello overloadOf overloadDue outcomeWith outcomeOf ordered tickHellos overloaded freedWith heardOrders
 start = (refl, refl, refl, refl, refl, refl)

@@ -31,7 +31,7 @@ use Rattle.timers.specs.Timers.{Timers, withT1s, withT3, countRuns, firs
 use Rattle.settings.specs.Mode.{isRunning, isRestarting, isStarting}
 use Rattle.timers.specs.Hellos.{Hellos, helloBits, ordering, noHellos, againFlags, beginHello}
 use Rattle.timers.specs.Memory.{joined, timersOf, t1Bits}
-use Rattle.timers.specs.Outcome.{outcomeWith, outcomeOf, ordered, tickHellos, raised, freedIn, heardOrders}
+use Rattle.timers.specs.Outcome.{outcomeWith, outcomeOf, ordered, tickHellos, overloaded, freedWith, heardOrders}
 use Rattle.timers.specs.Events.{startHead, startHellos, started, Starts, Closes, Ticks, Hears}
 use Rattle.timers.proofs.T1sLaws.{countRuns-joined, firstRuns-joined, joined-started}
 
@@ -58,8 +58,8 @@ module _ (t : Timers) (on : isRunning (t .mode) ≡ false) where
 
   -- what an accepted hello orders, part by part
   pub heard-on : (s : Lengths) (clock i : ℕ) (l : Levels) (rose : Bool) (d : Heard) (o : TimerOutcome) (r : Freed) (h : HelloOrder)
-      → o ≡ raised (upIn (t .mode) rose) (outcomeOf t (heardIn s clock i l rose d t) (closed (heardIn s clock i l rose d) t))
-      → r ≡ freedIn s clock (t .mode) rose d (getD (t .t1s) i noT1) → h ≡ beginHello (upIn (t .mode) rose) (getD (t .t1s) i noT1)
+      → o ≡ overloaded (upIn (t .mode) rose) (outcomeOf t (heardIn s clock i l rose d t) (closed (heardIn s clock i l rose d) t))
+      → r ≡ freedWith s clock (t .mode) rose d (getD (t .t1s) i noT1) → h ≡ beginHello (upIn (t .mode) rose) (getD (t .t1s) i noT1)
       → record { outcome = o; freed = r; hello = h } ≡ heardOrders s clock i l rose d t
   unfolding heardOrders
   heard-on s clock i l rose d o r h p q e =
@@ -81,7 +81,7 @@ module _ (t : Timers) (off : isRunning (t .mode) ≡ true) where
 
   pub heard-off : (s : Lengths) (clock i : ℕ) (l : Levels) (rose : Bool) (d : Heard)
       → record { outcome = Idle; freed = Kept; hello = Nothing } ≡ heardOrders s clock i l rose d t
-  unfolding heardOrders raised beginHello begins
+  unfolding heardOrders overloaded beginHello begins
   heard-off s clock i l rose d = rw (sym (ordered-off (heardIn s clock i l rose d)), off, not-starting (t .mode) off)
 
 module _ (t : Timers) (run : t .mode ≡ Running) where
@@ -150,14 +150,14 @@ ticks s clock h e after o hs c d = record { closes = c; hellos = d }
 
 pub hears : (s : Lengths) (clock i : ℕ) (l : Levels) (rose : Bool) (d : Heard) (h : Head) (e : ℕ → Entry) (after : Timers) (o₀ o : TimerOutcome)
     (r : Freed) (x : HelloOrder) → isRunning (h .mode) ≡ false → Closes (heardIn s clock i l rose d) (timersOf h e) after o₀
-    → o ≡ raised (upIn (h .mode) rose) o₀ → r ≡ freedIn s clock (h .mode) rose d (getD (joined (t1Bits (h .mask)) e) i noT1)
+    → o ≡ overloaded (upIn (h .mode) rose) o₀ → r ≡ freedWith s clock (h .mode) rose d (getD (joined (t1Bits (h .mask)) e) i noT1)
     → x ≡ beginHello (upIn (h .mode) rose) (getD (joined (t1Bits (h .mask)) e) i noT1)
     → Hears s clock i l rose d (timersOf h e) after (record { outcome = o; freed = r; hello = x })
 unfolding timersOf
 hears s clock i l rose d h e after o₀ o r x on c p q k =
     record {
       timers = c .timers;
-      orders = heard-on (timersOf h e) on s clock i l rose d o r x (p ∙ ap (raised (upIn (h .mode) rose)) (c .outcome)) q k;
+      orders = heard-on (timersOf h e) on s clock i l rose d o r x (p ∙ ap (overloaded (upIn (h .mode) rose)) (c .outcome)) q k;
     }
 
 pub count-of : (h : Head) (e : ℕ → Entry) → countTrue (t1Bits (h .mask)) ≡ countRuns (timersOf h e .t1s)

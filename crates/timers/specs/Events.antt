@@ -26,14 +26,14 @@ use Rattle.timers.specs.Outcome.{outcomeOf, heardOrders}
 -- "Setup orders a hello with RR on every circuit and starts T1 on each (one per circuit, house), T2 per enabled level, T3 at
 -- clock + 65,535." House, over RFC 8706, 3.3.1: not one per level of a LAN. In the mode Running no timer runs. Document 02, W-201: in the mode
 -- Starting "T2 runs per level", no T1 has begun, and "T3 isn't used".
-unfoldable pub headIn : Mode → Start → Head
-headIn Running s = record { mode = Running; mask = 0; t2s = startT2s (record { one = false; two = false }) 0; t3 = Idle }
-headIn Restarting s =
+unfoldable pub headBy : Mode → Start → Head
+headBy Running s = record { mode = Running; mask = 0; t2s = startT2s (record { one = false; two = false }) 0; t3 = Idle }
+headBy Restarting s =
     record { mode = Restarting; mask = s .present; t2s = startT2s (s .levels) (s .clock + s .lengths .t2); t3 = Runs (s .clock + 65535) }
-headIn Starting s = record { mode = Starting; mask = 0; t2s = startT2s (s .levels) (s .clock + s .lengths .t2); t3 = Idle }
+headBy Starting s = record { mode = Starting; mask = 0; t2s = startT2s (s .levels) (s .clock + s .lengths .t2); t3 = Idle }
 
 abbrev pub startHead : Start → Head
-startHead s = headIn (s .mode) s
+startHead s = headBy (s .mode) s
 
 unfoldable pub startT1 : Bool → ℕ → Bool → T1
 startT1 begun deadline b = record { runs = b; entry = startEntry begun deadline }

@@ -59,20 +59,20 @@ alsoSet Set = Set
 alsoSet Clear = Both
 alsoSet Both = Both
 
-unfoldable pub raised : Bool → TimerOutcome → TimerOutcome
-raised up Idle = Idle
-raised up (Goes spf overload) = Goes spf (cond up (alsoSet overload) overload)
-raised up (Ended spf overload) = Ended spf (cond up (alsoSet overload) overload)
+unfoldable pub overloaded : Bool → TimerOutcome → TimerOutcome
+overloaded up Idle = Idle
+overloaded up (Goes spf overload) = Goes spf (cond up (alsoSet overload) overload)
+overloaded up (Ended spf overload) = Ended spf (cond up (alsoSet overload) overload)
 
 -- whether it stopped its circuit's T1, here x, for want of a Restart TLV
-unfoldable pub freedIn : Lengths → ℕ → Mode → Bool → Heard → T1 → Freed
-freedIn s clock mode rose d x = freedBy (isRestarting mode) d (firstT1 s clock mode rose x)
+unfoldable pub freedWith : Lengths → ℕ → Mode → Bool → Heard → T1 → Freed
+freedWith s clock mode rose d x = freedBy (isRestarting mode) d (firstT1 s clock mode rose x)
 
 -- all that it orders of the timers; circuit i's T1 begins, is kept or is stopped
 unfoldable pub heardOrders : Lengths → ℕ → ℕ → Levels → Bool → Heard → Timers → HeardOrders
 heardOrders s clock i l rose d t =
     record {
-      outcome = raised (upIn (t .mode) rose) (ordered (heardIn s clock i l rose d) t);
-      freed = cond (isRunning (t .mode)) Kept (freedIn s clock (t .mode) rose d (getD (t .t1s) i noT1));
+      outcome = overloaded (upIn (t .mode) rose) (ordered (heardIn s clock i l rose d) t);
+      freed = cond (isRunning (t .mode)) Kept (freedWith s clock (t .mode) rose d (getD (t .t1s) i noT1));
       hello = beginHello (upIn (t .mode) rose) (getD (t .t1s) i noT1);
     }

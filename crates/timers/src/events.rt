@@ -15,7 +15,7 @@ use crate::hellos::again_flags;
 use crate::hellos::begin_hello;
 use crate::hellos::order_hellos;
 use crate::outcome::TimerOutcome;
-use crate::outcome::raise;
+use crate::outcome::overload_for;
 use crate::outcome::settle;
 use basics::levels::Levels;
 use restart_tlv::flags::Flags;
@@ -191,7 +191,7 @@ pub fn hear_hello(
     let end = settle(h, with_t3(with_mask(h, mask), t3));
     let head = end.head;
     let ended = end.outcome;
-    let outcome = raise(up, ended);
+    let outcome = overload_for(up, ended);
     let orders = HeardOrders {
         outcome,
         freed,

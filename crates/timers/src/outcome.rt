@@ -13,7 +13,7 @@ ghost use Prim.Native.Nat.{ℕ};
 ghost use Rattle.timer_parts.specs.declared.t1.Entry.{Entry};
 ghost use Rattle.timers.specs.Timers.{finish, cancelT2s};
 ghost use Rattle.timers.specs.Memory.{timersOf};
-ghost use Rattle.timers.specs.Outcome.{overloadOf, outcomeWith, outcomeOf, alsoSet, raised};
+ghost use Rattle.timers.specs.Outcome.{overloadOf, outcomeWith, outcomeOf, alsoSet, overloaded};
 
 // Overload is ordered set, clear, both in this order, or not at all.
 pub enum Overload {
@@ -97,8 +97,8 @@ fn set_if(up: bool, overload: Overload) -> Overload
 }
 
 // The outcome of an accepted hello; `up`: in the mode Starting its record becomes UP.
-pub fn raise(up: bool, o: TimerOutcome) -> TimerOutcome
-    ensures { λ r. ⌜ r ≡ raised up o ⌝ }
+pub fn overload_for(up: bool, o: TimerOutcome) -> TimerOutcome
+    ensures { λ r. ⌜ r ≡ overloaded up o ⌝ }
 {
     match o {
         TimerOutcome::Idle => TimerOutcome::Idle,

@@ -7,7 +7,7 @@ use Rattle.timer_parts.specs.T1.{begunBy, heardT1, freedBy}
 use Rattle.timer_parts.specs.declared.t1.T1.{T1}
 use Rattle.timers.specs.Timers.{heardIn, upIn, firstT1}
 use Rattle.timers.specs.Hellos.{beginHello}
-use Rattle.timers.specs.Outcome.{raised, freedIn}
+use Rattle.timers.specs.Outcome.{overloaded, freedWith}
 use Rattle.timers.specs.Memory.{entryAt, timersOf}
 use Rattle.timers.proofs.TimersLaws.{closes, hears, t1-stored, heardIn-is}
 use borrow.Author.Needs.{needs}
@@ -56,14 +56,14 @@ with-t3-requires c κs = search needs
 settle-requires : tie.Need-settle-requires
 settle-requires c κs = search needs
 
-raise-requires : tie.Need-raise-requires
-raise-requires c κs = search needs
+overload-for-requires : tie.Need-overload-for-requires
+overload-for-requires c κs = search needs
 
 same-length : tie.Need-same-length
 same-length c = search needs
 
 returns : tie.Need-returns
-unfolding freedIn
+unfolding freedWith
 returns c = let a = c .before .before .before .before .before .before .before .before .before .before .before .before .before .before .before .before .before .before .before .before .args in
     let st = c .before .before .before .before .before .before .before .before .store-t1 in
     let ld = c .before .before .before .before .before .before .before .before .before .before .before .before .before .before .before .before .load-t1 in
@@ -82,7 +82,7 @@ returns c = let a = c .before .before .before .before .before .before .before .b
     (closes (heardIn (a .s) (a .clock) (a .i) (a .l) (a .rose) (a .d)) (timersOf (a .h) e) _ _ _
     (c .before .before .before .with-t3 .ensures f ∙ heardIn-is (a .s) (a .clock) (a .i) (a .l) (a .rose) (a .d) (a .h) e _ _ stored (c .before .before .before .before .before .hear-t3 .ensures))
     (c .before .before .settle .ensures e f))
-    (c .raise .ensures ∙ ap (λ (b : Bool). raised (b && a .rose) (c .before .before .settle .result .outcome)) (is .ensures))
+    (c .overload-for .ensures ∙ ap (λ (b : Bool). overloaded (b && a .rose) (c .before .before .settle .result .outcome)) (is .ensures))
     (c .before .before .before .before .before .before .before .before .before .before .before .freed-by .ensures ∙ ap (λ (b : Bool). freedBy b (a .d) (bb .result)) (c .before .before .before .before .before .before .before .before .before .before .before .before .is-restarting .ensures)
     ∙ ap (freedBy (isRestarting (a .h .mode)) (a .d)) first)
     (c .before .before .before .before .before .before .before .before .before .before .before .before .before .before .before .begin-hello .ensures ∙ ap (λ (b : Bool). beginHello (b && a .rose) (ld .result)) (is .ensures)
@@ -106,6 +106,6 @@ hear-hello-spec =
     with-mask-requires
     with-t3-requires
     settle-requires
-    raise-requires
+    overload-for-requires
     same-length
     returns)

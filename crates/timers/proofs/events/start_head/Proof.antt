@@ -1,5 +1,5 @@
 -- The mode decides `startHead`.
-use Rattle.timers.specs.Events.{headIn}
+use Rattle.timers.specs.Events.{headBy}
 use borrow.Author.Needs.{needs}
 use Rattle.timers.proofs.events.start_head.Statement.{statement}
 use Rattle.timers.proofs.events.start_head.Tie as tie
@@ -47,15 +47,15 @@ start-t2s-requires-3 : tie.Need-start-t2s-requires-3
 start-t2s-requires-3 c κs = search needs
 
 returns : tie.Need-returns
-unfolding headIn
+unfolding headBy
 returns c = rw (c .before .enum-told .given .1, c .start-t2s .ensures)
 
 returns-2 : tie.Need-returns-2
-unfolding headIn
+unfolding headBy
 returns-2 c = rw (c .before .before .enum-told2 .given .1, c .start-t2s2 .ensures)
 
 returns-3 : tie.Need-returns-3
-unfolding headIn
+unfolding headBy
 returns-3 c = rw (c .before .before .enum-told3 .given .1, c .start-t2s3 .ensures)
 
 pub start-head-spec : {M : Type 1} → statement M

@@ -1,8 +1,8 @@
 -- Each outcome keeps its form.
-use Rattle.timers.specs.Outcome.{raised}
+use Rattle.timers.specs.Outcome.{overloaded}
 use borrow.Author.Needs.{needs}
-use Rattle.timers.proofs.outcome.raise.Statement.{statement}
-use Rattle.timers.proofs.outcome.raise.Tie as tie
+use Rattle.timers.proofs.outcome.overload_for.Statement.{statement}
+use Rattle.timers.proofs.outcome.overload_for.Tie as tie
 
 enum-told : tie.Need-enum-told
 enum-told c = search needs
@@ -20,19 +20,19 @@ set-if-requires-2 : tie.Need-set-if-requires-2
 set-if-requires-2 c κs = search needs
 
 returns : tie.Need-returns
-unfolding raised
+unfolding overloaded
 returns c = rw (c .enum-told .given .1)
 
 returns-2 : tie.Need-returns-2
-unfolding raised
+unfolding overloaded
 returns-2 c = rw (c .before .before .o .given .1, c .set-if .ensures)
 
 returns-3 : tie.Need-returns-3
-unfolding raised
+unfolding overloaded
 returns-3 c = rw (c .before .before .o2 .given .1, c .set-if2 .ensures)
 
-pub raise-spec : {M : Type 1} → statement M
-raise-spec =
+pub overload-for-spec : {M : Type 1} → statement M
+overload-for-spec =
     tie.close
     (tie.spec
     enum-told
