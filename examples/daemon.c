@@ -1,6 +1,6 @@
 /* A small speaker of IS-IS hellos on one interface (AF_PACKET; Linux, root): holds P2P or LAN adjacencies, restarts, starts, plans a restart,
- * and answers those that do. It keeps no LSPs: its CSNPs are empty, and its database is complete as soon as no circuit waits for T1. What a daemon of
- * its own would do about SPF, LSPs and forwarding is printed. `make live` runs it against FRR and against itself.
+ * and answers those that do. It keeps no LSPs: its CSNPs are empty, and a level's database is complete with its CSNP set, or, where none comes, as soon
+ * as no T1 runs. What a daemon of its own would do about SPF, LSPs and forwarding is printed. `make live` runs it against FRR and against itself.
  *
  *   daemon NAME INTERFACE p2p|lan SYSTEM_ID IPV4 SECONDS [restart|start] [plan=AT] [reverse=METRIC] [levels=MASK] [priority=N]
  *
@@ -28,7 +28,8 @@ static isis_gr_settings settings;
 static const isis_gr_circuit *const circuit = &settings.circuits[0];
 static const char *name, *interface;
 static uint8_t mode; /* ISIS_GR_MODE_..: as it was set up, and Running once that ended */
-static int fd, begun, noticed, carrier = 1; /* a T1 began, in a start with the first neighbour; the databases were noticed */
+static int fd, carrier = 1;
+static uint8_t begun, sets, noticed; /* masks of levels: whose T1 began, whose CSNP set came, whose database was noticed */
 static unsigned length_of_life, plan_at;
 static uint32_t start_clock, clock_now, reverse, metric;
 static uint8_t ip[4], lan_id[3][7], peer_id[6];
@@ -108,32 +109,36 @@ static void send_hello(uint8_t level, uint8_t flags, const uint8_t *reply, int d
     transmit(level, pdu, hello_end(&h));
 }
 
-static void send_hellos(uint8_t flags) {
-    uint8_t level;
-    for (level = 1; level <= 2 && is_lan(); level++) {
-        if (circuit->levels & 1u << (level - 1)) {
-            send_hello(level, flags, NULL, 0);
-        }
-    }
-    if (!is_lan()) {
-        send_hello(0, flags, NULL, 0);
-    }
-}
-
 static int plans(void) { return plan_at && clock_now - start_clock >= plan_at; }
 
-/* Ordinary hellos: they have the flags of a start (RFC 8706, 3.3.2), or PR while we plan (RFC 8706, 3.2.3). There are none while T1 of a restart runs
-   (RFC 8706, 3.3.1). */
+/* Ordinary hellos, on a LAN of each level: they have the flags of a start (RFC 8706, 3.3.2), or PR while we plan (RFC 8706, 3.2.3). There are none while
+   T1 of a restart runs (RFC 8706, 3.3.1), on a LAN that of the level (RFC 8706, 3.3.3). */
 static void send_ordinary(void) {
-    uint8_t flags = isis_gr_next_hello_flags(&g, CIRCUIT).flags;
-    if (flags != ISIS_GR_FLAG_RR) {
-        send_hellos(flags == 0 && plans() ? HELLO_PR : flags);
+    uint8_t level, sent = 0;
+    for (level = 1; level <= 2; level++) {
+        isis_gr_flags f = isis_gr_next_hello_flags(&g, CIRCUIT, level); /* refused 1 where the level is not enabled */
+        if (f.code == ISIS_GR_OK && f.flags != ISIS_GR_FLAG_RR && (is_lan() || !sent)) { /* on P2P one is for both levels */
+            send_hello(is_lan() ? level : 0, f.flags == 0 && plans() ? HELLO_PR : f.flags, NULL, 0);
+            sent = 1;
+        }
     }
 }
 
-static void send_ordered(uint8_t flags) {
-    say("order: hello with%s%s", flags & ISIS_GR_FLAG_RR ? " RR" : "", flags & ISIS_GR_FLAG_SA ? " SA" : "");
-    send_hellos(flags);
+/* A hello that is ordered, of a level (0 on P2P). */
+static void send_ordered(uint8_t level, uint8_t flags) {
+    say("order: hello with%s%s, level %u", flags & ISIS_GR_FLAG_RR ? " RR" : "", flags & ISIS_GR_FLAG_SA ? " SA" : "", level);
+    begun |= level ? (uint8_t)(1u << (level - 1)) : circuit->levels;
+    send_hello(level, flags, NULL, 0);
+}
+
+/* Those of a mask. */
+static void send_all_ordered(uint16_t hellos, uint8_t flags) {
+    uint8_t level;
+    for (level = 1; level <= 2; level++) {
+        if (isis_gr_hello_ordered(hellos, CIRCUIT, level)) { /* the one of P2P stands at level 1 */
+            send_ordered(is_lan() ? level : 0, flags);
+        }
+    }
 }
 
 /* A complete set of CSNPs of a database that holds nothing: one PDU over the whole range of LSP IDs. */
@@ -236,8 +241,7 @@ static void hello_came(const uint8_t *source, const uint8_t *frame, size_t n) {
         send_ordinary();
     }
     if (r.hello_flags) {
-        begun = 1;
-        send_ordered(r.hello_flags);
+        send_ordered(r.level, r.hello_flags);
     }
     if (r.csnps) {
         send_csnps(r.csnps);
@@ -261,7 +265,8 @@ static void csnp_came(uint8_t level, const uint8_t *pdu, size_t n) {
     static const uint8_t lowest[8] = {0}, highest[8] = {255, 255, 255, 255, 255, 255, 255, 255};
     if (mode != ISIS_GR_MODE_RUNNING && n >= 33 && memcmp(pdu + 17, lowest, 8) == 0 && memcmp(pdu + 25, highest, 8) == 0) {
         isis_gr_noticed answer = isis_gr_csnp_complete(&g, CIRCUIT, level);
-        say("CSNP set of level %u; circuits that wait for T1: %u", level, (unsigned)isis_gr_waiting_circuits(&g).count);
+        sets |= (uint8_t)(1u << (level - 1));
+        say("CSNP set of level %u; T1s that run: %u", level, (unsigned)isis_gr_waiting_t1s(&g).count);
         carry_out(answer.timers);
     }
 }
@@ -291,26 +296,32 @@ static void watch_link(void) {
     }
 }
 
+/* No LSPs are kept here, so that none is wanted. A level waits for no other: on the one interface its own set is all that is to come. Where none comes,
+   the T1s are awaited; each level is noticed, with neighbours or without. */
+static void notice_databases(void) {
+    uint8_t level, ready = begun & sets;
+    if (begun && isis_gr_waiting_t1s(&g).count == 0) {
+        ready = circuit->levels;
+    }
+    for (level = 1; level <= 2 && mode != ISIS_GR_MODE_RUNNING; level++) {
+        uint8_t here = (uint8_t)(1u << (level - 1));
+        if (ready & here && !(noticed & here)) {
+            noticed |= here;
+            say("database of level %u complete", level);
+            carry_out(isis_gr_database_complete(&g, level).timers);
+        }
+    }
+}
+
 static void second(void) {
     isis_gr_ticked t = isis_gr_tick(&g, clock_now);
-    uint8_t level;
     watch_link();
     if (t.lost) {
         say("lost a record");
     }
-    if (t.hellos) {
-        send_ordered(t.hello_flags);
-    }
+    send_all_ordered(t.hellos, t.hello_flags);
     carry_out(t.timers);
-    if (mode != ISIS_GR_MODE_RUNNING && begun && !noticed && isis_gr_waiting_circuits(&g).count == 0) {
-        noticed = 1; /* no LSPs are kept here, so that none is wanted; each level is noticed, with neighbours or without */
-        for (level = 1; level <= 2; level++) {
-            if (circuit->levels & 1u << (level - 1)) {
-                say("database of level %u complete", level);
-                carry_out(isis_gr_database_complete(&g, level).timers);
-            }
-        }
-    }
+    notice_databases();
     if ((clock_now - start_clock) % EACH == 0) {
         send_ordinary();
     }
@@ -368,10 +379,7 @@ int main(int n, char **words) {
         return 2;
     }
     say(begins[mode]);
-    if (started.hellos) {
-        begun = 1;
-        send_ordered(started.hello_flags);
-    }
+    send_all_ordered(started.hellos, started.hello_flags);
     while (clock_now - start_clock < length_of_life) {
         struct pollfd ready = {fd, POLLIN, 0};
         if (poll(&ready, 1, 100) > 0) {

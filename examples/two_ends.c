@@ -6,7 +6,7 @@
  *   0  "The state step", Running: none and Down give INIT, none and Initializing UP, INIT and Up UP; each change is answered by a hello
  *  25  "Timers while Restarting": set up orders RR and starts T1; 28 is T1's first expiry, so the hello is ordered again
  *  28  line 1: expiry 28 + 30, so RA with Remaining Time 30, and on P2P CSNPs of all levels. At A none and Up give UP in the mode Restarting;
- *      T1 stops with the second of the CSNP sets, and no earlier, since the circuit has both levels
+ *      the one T1 of P2P stops with the second of the CSNP sets, and no earlier, since the circuit has both levels
  *  29  no T1 runs: each database notice cancels its level's T2 at once and orders the SPF; with the last the mode ends. T3 stood at 28 + 30
  *  40  line 3: expiry 40 + 120, so PA with 120; at 50 the record is marked Planned, the expiry stays, and PA has 160 - 50
  * 100  line 1 at a Planned record: expiry 100 + the configured 30, so RA with 30; then B does what A did at 28 and 29
@@ -99,7 +99,8 @@ static void send_hello(end *e, uint8_t state, uint8_t flags, const uint8_t *repl
         flags & HELLO_SA ? ", SA" : "", flags & HELLO_PR ? ", PR" : "", flags & HELLO_PA ? ", PA" : "");
 }
 
-/* A hello that is ordered, with the order's flags. RR alone is a restart's: Initializing, whatever the record is (RFC 8706, 3.3.1). */
+/* The hello that is ordered, one for both levels on P2P, with the order's flags. RR alone is a restart's: Initializing, whatever the record is (RFC 8706,
+   3.3.1). */
 static void send_ordered(end *e, uint8_t flags) {
     send_hello(e, flags == ISIS_GR_FLAG_RR ? HELLO_INITIALIZING : shown_state(e), flags, NULL);
 }
@@ -107,7 +108,7 @@ static void send_ordered(end *e, uint8_t flags) {
 /* An ordinary hello: it has the flags of a start (RFC 8706, 3.3.2), or PR while we plan a restart (RFC 8706, 3.2.3). There is none while T1 of a
    restart runs (RFC 8706, 3.3.1). */
 static void send_ordinary(end *e) {
-    uint8_t flags = isis_gr_next_hello_flags(&e->g, CIRCUIT).flags;
+    uint8_t flags = isis_gr_next_hello_flags(&e->g, CIRCUIT, 1).flags; /* on P2P the same at each level */
     if (flags != ISIS_GR_FLAG_RR) {
         send_hello(e, shown_state(e), flags == 0 && e->planning ? HELLO_PR : flags, NULL);
     }
@@ -196,7 +197,7 @@ static void csnps_came(end *e, uint8_t levels) {
     for (level = 1; level <= 2 && e->mode != ISIS_GR_MODE_RUNNING; level++) {
         if (levels & 1u << (level - 1)) {
             isis_gr_noticed n = isis_gr_csnp_complete(&e->g, CIRCUIT, level);
-            say(e, "has the CSNPs of level %u; circuits that wait for T1: %u", level, (unsigned)isis_gr_waiting_circuits(&e->g).count);
+            say(e, "has the CSNPs of level %u; T1s that run: %u", level, (unsigned)isis_gr_waiting_t1s(&e->g).count);
             e->wanted |= (uint8_t)(1u << (level - 1));
             e->asked = now;
             carry_out(e, n.timers);
@@ -204,9 +205,9 @@ static void csnps_came(end *e, uint8_t levels) {
     }
 }
 
-/* No LSP that the CSNPs named is wanted any more, and no circuit waits for T1 any more: in a start none does before its first neighbour. */
+/* No LSP that the CSNPs named is wanted any more, and no T1 runs any more: in a start none does before the first neighbour. */
 static int is_complete(const end *e) {
-    return e->mode != ISIS_GR_MODE_RUNNING && e->begun && !e->wanted && isis_gr_waiting_circuits(&e->g).count == 0;
+    return e->mode != ISIS_GR_MODE_RUNNING && e->begun && !e->wanted && isis_gr_waiting_t1s(&e->g).count == 0;
 }
 
 /* Only then, since a notice cannot be taken back. Each level, with a neighbour or without. */
@@ -229,8 +230,8 @@ static void second(end *e) {
         say(e, "lost its neighbour");
         e->advertised = 0;
     }
-    if (t.hellos) {
-        send_ordered(e, t.hello_flags); /* whatever next_hello_flags says by now */
+    if (isis_gr_hello_ordered(t.hellos, CIRCUIT, 1)) { /* the one hello of P2P */
+        send_ordered(e, t.hello_flags);                /* whatever next_hello_flags says by now */
     }
     carry_out(e, t.timers);
     if (now > e->asked) {
@@ -274,7 +275,7 @@ static void start(end *e, end *other, uint8_t mode) {
     e->begun = e->advertised = e->wanted = 0;
     memset(e->peer, 0, 6);
     say(e, begins[mode]);
-    if (started.hellos) {
+    if (isis_gr_hello_ordered(started.hellos, CIRCUIT, 1)) {
         e->begun = 1;
         send_ordered(e, started.hello_flags);
     }

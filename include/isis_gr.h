@@ -12,8 +12,11 @@
  * Separate gateways may be used by separate threads at one time; one gateway by one at a time.
  *
  * A refusal leaves the gateway and the reply buffer as they were, and the other fields of its answer 0. Circuits are numbered from 1 to 8. A
- * mask over circuits has bit 0 for circuit 1; a mask of levels has bit 0 for level 1 (ISIS_GR_LEVEL_..). An argument `level` is the level's
- * number, 1 or 2, and no mask. Times are seconds.
+ * mask over circuits has bit 0 for circuit 1; a mask of levels has bit 0 for level 1 (ISIS_GR_LEVEL_..). A mask of hellos has two bits
+ * for each circuit, 0 and 1 for circuit 1: on a LAN the hello of level 1 and that of level 2, on P2P the one hello and no other (RFC 8706,
+ * 3.3.3; isis_gr_hello_ordered reads it). An argument `level` is the level's number, 1 or 2, and no mask. Times are seconds.
+ *
+ * T1, its tries and its acknowledgement are one for each enabled level of a LAN, and one for all levels of a P2P circuit.
  */
 #ifndef ISIS_GR_H
 #define ISIS_GR_H
@@ -27,11 +30,11 @@ extern "C" {
 #endif
 
 #define ISIS_GR_VERSION_MAJOR 0
-#define ISIS_GR_VERSION_MINOR 8
+#define ISIS_GR_VERSION_MINOR 9
 
 /* The layout of settings and answers between this header and the archive; it rises whenever one of them changes. The code below is compiled into
    the caller, so set up hands it on: an archive of another layout refuses 12 (isis_gr_fault: ISIS_GR_SETTING_VERSION). */
-#define ISIS_GR_LAYOUT 7u
+#define ISIS_GR_LAYOUT 8u
 
 #define ISIS_GR_GATEWAY_WORDS 640 /* equal to isis_gr_gateway_words(): compare the two at start-up */
 #define ISIS_GR_SETTINGS_OCTETS 169
@@ -122,7 +125,8 @@ typedef struct {
 
 typedef struct {
     uint32_t code;
-    uint8_t hellos;      /* mask of circuits on which to send a hello now (RFC 8706, 3.3.1; none in the mode Starting) */
+    uint16_t hellos;     /* mask of hellos to send now: on every circuit, on a LAN at each enabled level (RFC 8706, 3.3.1; none in the mode
+                            Starting) */
     uint8_t hello_flags; /* ISIS_GR_FLAG_..: the flags of those hellos, RR; 0 where none is ordered */
 } isis_gr_started;
 
@@ -137,12 +141,13 @@ typedef struct {
     uint8_t reply;      /* ISIS_GR_REPLY_..: the Restart TLV of 11 octets in the reply buffer goes into a hello now (RFC 8706, 3.2.1; PA: 3.2.3) */
     uint16_t remaining; /* its Remaining Time */
     uint8_t csnps;      /* mask of levels: send a complete set of CSNPs there and set SRM flags (RFC 8706, 3.2.1) */
-    uint8_t t1_end;     /* ISIS_GR_T1_..: kept; T1 was stopped for want of a Restart TLV; or that, and the adjacency must be made to
-                           reinitialise by a hello with three-way state Down (RFC 8706, 3.3.1; never in the mode Starting) */
-    uint8_t hello_flags; /* 0, or the flags of a hello to send on this circuit now, ISIS_GR_FLAG_SA: T1 began (RFC 8706, 3.3.2) */
+    uint8_t t1_end;     /* ISIS_GR_T1_..: kept; T1 of this P2P circuit was stopped for want of a Restart TLV; or that, and the adjacency must be
+                           made to reinitialise by a hello with three-way state Down (RFC 8706, 3.3.1; never in the mode Starting) */
+    uint8_t hello_flags; /* 0, or the flags of a hello to send on this circuit now, on a LAN of the field level, ISIS_GR_FLAG_SA: its T1 began
+                            (RFC 8706, 3.3.2) */
     isis_gr_timers timers;
     /* the frame's record (the adjacency entry of ISO 10589) */
-    uint8_t level;        /* 1 or 2; 0 on P2P */
+    uint8_t level;        /* that of the frame, 1 or 2; 0 on P2P */
     uint8_t system_id[6]; /* the sender's */
     uint8_t before;       /* ISIS_GR_RECORD_..: how it stood before the frame */
     uint8_t after;        /* ISIS_GR_RECORD_..: how it stands now */
@@ -152,7 +157,7 @@ typedef struct {
 typedef struct {
     uint32_t code;
     uint8_t lost;        /* mask of circuits that lost a record: run what a lost adjacency asks for */
-    uint8_t hellos;      /* mask of circuits on which to send a hello now: T1 expired */
+    uint16_t hellos;     /* mask of hellos to send now: their T1s expired */
     uint8_t hello_flags; /* ISIS_GR_FLAG_..: the flags of those hellos, RR (RFC 8706, 3.3.1) or RR and SA (RFC 8706, 3.3.2); 0 where none is
                             ordered */
     isis_gr_timers timers;
@@ -190,8 +195,8 @@ typedef struct {
 } isis_gr_flags;
 
 typedef struct {
-    uint32_t count; /* circuits that still wait for T1 */
-    uint8_t lowest; /* the lowest of them, 0 for none */
+    uint32_t count; /* T1s that run, 0 to 16: of a LAN one for each level, of P2P one */
+    uint8_t lowest; /* the lowest circuit with one, 0 for none */
 } isis_gr_waiting;
 
 /* ---- the archive's functions: words and octets, packed and unpacked below */
@@ -214,8 +219,8 @@ uint64_t isis_gr_raw_database_complete(uint64_t *gateway, uint8_t level);
 uint32_t isis_gr_raw_look_up(const uint64_t *gateway, uint8_t circuit, uint8_t level, const uint8_t *system_id, const uint8_t *mac,
                              uint64_t *record);
 uint64_t isis_gr_raw_link_metric(const uint64_t *gateway, uint8_t circuit);
-uint32_t isis_gr_raw_next_hello_flags(const uint64_t *gateway, uint8_t circuit);
-uint32_t isis_gr_raw_waiting_circuits(const uint64_t *gateway);
+uint32_t isis_gr_raw_next_hello_flags(const uint64_t *gateway, uint8_t circuit, uint8_t level);
+uint32_t isis_gr_raw_waiting_t1s(const uint64_t *gateway);
 
 /* ---- packing */
 
@@ -295,9 +300,18 @@ static inline isis_gr_started isis_gr_set_up(isis_gr_gateway *gateway, const isi
     isis_gr_put_settings(octets, settings);
     word = isis_gr_raw_set_up(ISIS_GR_LAYOUT, gateway->words, octets);
     s.code = word & 255u;
-    s.hellos = (uint8_t)(word >> 8);
-    s.hello_flags = (uint8_t)(word >> 16);
+    s.hellos = (uint16_t)(word >> 8);
+    s.hello_flags = (uint8_t)(word >> 24);
     return s;
+}
+
+/* 1 where a mask of hellos has that of a LAN circuit at a level (1 or 2), or, asked with level 1 whatever its levels are, the one of a P2P circuit;
+   else 0, also for a circuit that is not 1 to 8 and for a level that is none. */
+static inline int isis_gr_hello_ordered(uint16_t hellos, uint8_t circuit, uint8_t level) {
+    if (circuit < 1 || circuit > ISIS_GR_MAX_CIRCUITS || level < 1 || level > 2) {
+        return 0;
+    }
+    return hellos >> (2 * (circuit - 1) + (level - 1)) & 1;
 }
 
 /* Which setting a set up with these would refuse; ISIS_GR_SETTING_NONE exactly where it would not. */
@@ -344,7 +358,7 @@ static inline isis_gr_ticked isis_gr_tick(isis_gr_gateway *gateway, uint32_t clo
     isis_gr_ticked t;
     t.code = (uint32_t)(word & 255u);
     t.lost = (uint8_t)(word >> 8);
-    t.hellos = (uint8_t)(word >> 16);
+    t.hellos = (uint16_t)(word >> 16);
     t.hello_flags = (uint8_t)(word >> 40);
     t.timers = isis_gr_get_timers(word);
     return t;
@@ -406,19 +420,20 @@ static inline isis_gr_metric isis_gr_link_metric(const isis_gr_gateway *gateway,
     return m;
 }
 
-/* The flags of the Restart TLV in the next hello on a circuit: RR while T1 of a restart runs (RFC 8706, 3.3.1); SA while we start, and RR beside it
-   from the first expiry of T1 while it runs (RFC 8706, 3.3.2). Changes nothing. */
-static inline isis_gr_flags isis_gr_next_hello_flags(const isis_gr_gateway *gateway, uint8_t circuit) {
-    uint32_t word = isis_gr_raw_next_hello_flags(gateway->words, circuit);
+/* The flags of the Restart TLV in the next hello on a circuit at a level (1 or 2; on P2P the one hello, at each enabled level): RR while its T1 of a
+   restart runs (RFC 8706, 3.3.1); SA while we start, and RR beside it from the first expiry of its T1 while that runs (RFC 8706, 3.3.2). Refused 1 for
+   a level that is not enabled there, on P2P too. Changes nothing. */
+static inline isis_gr_flags isis_gr_next_hello_flags(const isis_gr_gateway *gateway, uint8_t circuit, uint8_t level) {
+    uint32_t word = isis_gr_raw_next_hello_flags(gateway->words, circuit, level);
     isis_gr_flags f;
     f.code = word & 255u;
     f.flags = (uint8_t)(word >> 8);
     return f;
 }
 
-/* How many circuits still wait for T1, and the lowest of them. Changes nothing. */
-static inline isis_gr_waiting isis_gr_waiting_circuits(const isis_gr_gateway *gateway) {
-    uint32_t word = isis_gr_raw_waiting_circuits(gateway->words);
+/* How many T1s still run, and the lowest circuit with one. Changes nothing. */
+static inline isis_gr_waiting isis_gr_waiting_t1s(const isis_gr_gateway *gateway) {
+    uint32_t word = isis_gr_raw_waiting_t1s(gateway->words);
     isis_gr_waiting w;
     w.count = word >> 8 & 255u;
     w.lowest = (uint8_t)(word >> 16);

@@ -1,5 +1,5 @@
-/* Uses every function of isis_gr.h once or more: sample runs of document 01, a start (document 02, W-201), and what a refusal leaves. Prints the first
-   thing that differs. */
+/* Uses every function of isis_gr.h once or more: sample runs of document 01, a start (document 02, W-201), and what a refusal leaves. Circuit 1 is P2P with
+   both levels, circuit 2 a LAN with level 2. Prints the first thing that differs. */
 #include "isis_gr.h"
 
 #include "expect.h"
@@ -167,11 +167,13 @@ static void we_restart(void) {
     isis_gr_settings s = settings(ISIS_GR_MODE_RESTARTING, 0);
     isis_gr_ticked t;
     isis_gr_noticed n;
-    EXPECT(isis_gr_set_up(&g, &s).hellos == 3 && isis_gr_set_up(&g, &s).hello_flags == ISIS_GR_FLAG_RR);
-    EXPECT(isis_gr_next_hello_flags(&g, 1).flags == ISIS_GR_FLAG_RR);
-    EXPECT(isis_gr_waiting_circuits(&g).count == 2 && isis_gr_waiting_circuits(&g).lowest == 1);
+    EXPECT(isis_gr_set_up(&g, &s).hellos == 9 && isis_gr_set_up(&g, &s).hello_flags == ISIS_GR_FLAG_RR); /* bits 0 and 3 */
+    EXPECT(isis_gr_next_hello_flags(&g, 1, 1).flags == ISIS_GR_FLAG_RR && isis_gr_next_hello_flags(&g, 1, 2).flags == ISIS_GR_FLAG_RR);
+    EXPECT(isis_gr_next_hello_flags(&g, 2, 2).flags == ISIS_GR_FLAG_RR && isis_gr_next_hello_flags(&g, 2, 1).code == ISIS_GR_REFUSED_NO_CIRCUIT);
+    EXPECT(isis_gr_waiting_t1s(&g).count == 2 && isis_gr_waiting_t1s(&g).lowest == 1);
     t = isis_gr_tick(&g, 3);
-    EXPECT(t.code == ISIS_GR_OK && t.hellos == 3 && t.hello_flags == ISIS_GR_FLAG_RR && t.timers.restart == ISIS_GR_RESTART_GOES_ON);
+    EXPECT(t.code == ISIS_GR_OK && t.hellos == 9 && t.hello_flags == ISIS_GR_FLAG_RR && t.timers.restart == ISIS_GR_RESTART_GOES_ON);
+    EXPECT(isis_gr_hello_ordered(t.hellos, 1, 1) == 1 && isis_gr_hello_ordered(t.hellos, 2, 2) == 1 && isis_gr_hello_ordered(t.hellos, 2, 1) == 0);
     n = isis_gr_csnp_complete(&g, 2, 2);
     EXPECT(n.code == ISIS_GR_OK && n.timers.restart == ISIS_GR_RESTART_GOES_ON);
     n = isis_gr_database_complete(&g, 2);
@@ -179,8 +181,8 @@ static void we_restart(void) {
     isis_gr_tick(&g, 6);
     t = isis_gr_tick(&g, 9); /* the third expiry stops T1; level 2's T2 is cancelled */
     EXPECT(t.hellos == 0 && t.hello_flags == 0 && t.timers.spf == ISIS_GR_LEVEL_2);
-    EXPECT(isis_gr_waiting_circuits(&g).count == 0 && isis_gr_waiting_circuits(&g).lowest == 0);
-    EXPECT(isis_gr_next_hello_flags(&g, 1).flags == 0);
+    EXPECT(isis_gr_waiting_t1s(&g).count == 0 && isis_gr_waiting_t1s(&g).lowest == 0);
+    EXPECT(isis_gr_next_hello_flags(&g, 1, 1).flags == 0);
     t = isis_gr_tick(&g, 60); /* T2 of level 1 expires: the mode ends */
     EXPECT(t.timers.restart == ISIS_GR_RESTART_ENDED && t.timers.spf == ISIS_GR_LEVEL_1 && t.timers.overload == ISIS_GR_OVERLOAD_KEEP);
 }
@@ -194,25 +196,25 @@ static void we_start(void) {
     isis_gr_noticed n;
     uint8_t frame[64], reply[ISIS_GR_REPLY_OCTETS];
     EXPECT(started.code == ISIS_GR_OK && started.hellos == 0 && started.hello_flags == 0);
-    EXPECT(isis_gr_next_hello_flags(&g, 1).flags == ISIS_GR_FLAG_SA && isis_gr_next_hello_flags(&g, 2).flags == ISIS_GR_FLAG_SA);
-    EXPECT(isis_gr_waiting_circuits(&g).count == 0);
+    EXPECT(isis_gr_next_hello_flags(&g, 1, 1).flags == ISIS_GR_FLAG_SA && isis_gr_next_hello_flags(&g, 2, 2).flags == ISIS_GR_FLAG_SA);
+    EXPECT(isis_gr_waiting_t1s(&g).count == 0);
     r = isis_gr_receive(&g, 1, source, frame, hello(frame, 1, 0, 0), reply, sizeof reply); /* UP: T1 begins */
     EXPECT(r.code == ISIS_GR_OK && r.after == ISIS_GR_RECORD_UP && r.hello_flags == ISIS_GR_FLAG_SA);
     EXPECT(r.timers.restart == ISIS_GR_RESTART_GOES_ON && r.timers.overload == ISIS_GR_OVERLOAD_SET);
-    EXPECT(isis_gr_waiting_circuits(&g).count == 1 && isis_gr_waiting_circuits(&g).lowest == 1);
+    EXPECT(isis_gr_waiting_t1s(&g).count == 1 && isis_gr_waiting_t1s(&g).lowest == 1);
     t = isis_gr_tick(&g, 3);
     EXPECT(t.hellos == 1 && t.hello_flags == (ISIS_GR_FLAG_RR | ISIS_GR_FLAG_SA) && t.timers.restart == ISIS_GR_RESTART_GOES_ON);
-    EXPECT(isis_gr_next_hello_flags(&g, 1).flags == (ISIS_GR_FLAG_RR | ISIS_GR_FLAG_SA));
+    EXPECT(isis_gr_next_hello_flags(&g, 1, 2).flags == (ISIS_GR_FLAG_RR | ISIS_GR_FLAG_SA));
     EXPECT(isis_gr_csnp_complete(&g, 1, 1).code == ISIS_GR_OK);
     n = isis_gr_database_complete(&g, 1);
     EXPECT(n.code == ISIS_GR_OK && n.timers.spf == 0); /* T1 runs */
     isis_gr_tick(&g, 6);
     t = isis_gr_tick(&g, 9); /* the third expiry stops T1; level 1's T2 is cancelled */
     EXPECT(t.hellos == 0 && t.hello_flags == 0 && t.timers.spf == ISIS_GR_LEVEL_1 && t.timers.overload == ISIS_GR_OVERLOAD_KEEP);
-    EXPECT(isis_gr_next_hello_flags(&g, 1).flags == ISIS_GR_FLAG_SA);
+    EXPECT(isis_gr_next_hello_flags(&g, 1, 1).flags == ISIS_GR_FLAG_SA);
     n = isis_gr_database_complete(&g, 2);
     EXPECT(n.timers.restart == ISIS_GR_RESTART_ENDED && n.timers.spf == ISIS_GR_LEVEL_2 && n.timers.overload == ISIS_GR_OVERLOAD_CLEAR);
-    EXPECT(isis_gr_next_hello_flags(&g, 1).flags == 0);
+    EXPECT(isis_gr_next_hello_flags(&g, 1, 1).flags == 0);
     EXPECT(isis_gr_database_complete(&g, 2).code == ISIS_GR_REFUSED_NOT_RESTARTING);
 }
 

@@ -45,7 +45,8 @@ static void twelve_refusals(void) {
     l = isis_gr_look_up(&g, LAN, 3, peer, peer_mac);
     EXPECT(l.code == ISIS_GR_REFUSED_NO_CIRCUIT && l.state == 0 && l.expiry == 0 && l.priority == 0 && l.offset == 0);
     EXPECT(isis_gr_link_metric(&g, 0).code == ISIS_GR_REFUSED_NO_CIRCUIT && isis_gr_link_metric(&g, 0).metric == 0);
-    EXPECT(isis_gr_next_hello_flags(&g, 3).code == ISIS_GR_REFUSED_NO_CIRCUIT && isis_gr_next_hello_flags(&g, 3).flags == 0);
+    EXPECT(isis_gr_next_hello_flags(&g, 3, 1).code == ISIS_GR_REFUSED_NO_CIRCUIT && isis_gr_next_hello_flags(&g, 3, 1).flags == 0);
+    EXPECT(isis_gr_next_hello_flags(&g, P2P, 0).code == ISIS_GR_REFUSED_NO_CIRCUIT && isis_gr_next_hello_flags(&g, LAN, 3).code == ISIS_GR_REFUSED_NO_CIRCUIT);
     s.circuits[1].priority = 128;
     EXPECT(isis_gr_set_up(&g, &s).code == ISIS_GR_REFUSED_BAD_SETTING && isis_gr_set_up(&g, &s).hellos == 0 && isis_gr_set_up(&g, &s).hello_flags == 0);
     EXPECT(memcmp(&g, &before, sizeof g) == 0 && reply[0] == 0xEE);
@@ -158,19 +159,19 @@ static void restart_without_neighbours(void) {
     isis_gr_started started = start(ISIS_GR_MODE_RESTARTING, 0, 3, 60);
     isis_gr_ticked t;
     isis_gr_noticed n;
-    EXPECT(started.hellos == 3 && started.hello_flags == ISIS_GR_FLAG_RR);
-    EXPECT(isis_gr_next_hello_flags(&g, LAN).code == ISIS_GR_OK && isis_gr_next_hello_flags(&g, LAN).flags == ISIS_GR_FLAG_RR);
-    EXPECT(isis_gr_waiting_circuits(&g).count == 2 && isis_gr_waiting_circuits(&g).lowest == P2P);
+    EXPECT(started.hellos == ALL && started.hello_flags == ISIS_GR_FLAG_RR);
+    EXPECT(isis_gr_next_hello_flags(&g, LAN, 1).code == ISIS_GR_OK && isis_gr_next_hello_flags(&g, LAN, 1).flags == ISIS_GR_FLAG_RR);
+    EXPECT(isis_gr_waiting_t1s(&g).count == 3 && isis_gr_waiting_t1s(&g).lowest == P2P);
     t = isis_gr_tick(&g, 3);
-    EXPECT(t.hellos == 3 && t.hello_flags == ISIS_GR_FLAG_RR);
+    EXPECT(t.hellos == ALL && t.hello_flags == ISIS_GR_FLAG_RR && isis_gr_hello_ordered(t.hellos, LAN, 2));
     EXPECT(t.timers.restart == ISIS_GR_RESTART_GOES_ON && t.timers.spf == 0 && t.timers.overload == ISIS_GR_OVERLOAD_KEEP);
     n = isis_gr_database_complete(&g, 1);
     EXPECT(n.code == ISIS_GR_OK && n.timers.restart == ISIS_GR_RESTART_GOES_ON && n.timers.spf == 0);
     t = isis_gr_tick(&g, 6);
-    EXPECT(t.hellos == 3);
+    EXPECT(t.hellos == ALL);
     t = isis_gr_tick(&g, 9);
     EXPECT(t.hellos == 0 && t.hello_flags == 0 && t.timers.restart == ISIS_GR_RESTART_GOES_ON && t.timers.spf == ISIS_GR_LEVEL_1);
-    EXPECT(isis_gr_next_hello_flags(&g, LAN).flags == 0);
+    EXPECT(isis_gr_next_hello_flags(&g, LAN, 2).flags == 0);
     n = isis_gr_database_complete(&g, 2); /* no T1 runs: at once */
     EXPECT(n.timers.restart == ISIS_GR_RESTART_ENDED && n.timers.spf == ISIS_GR_LEVEL_2 && n.timers.overload == ISIS_GR_OVERLOAD_KEEP);
     EXPECT(isis_gr_database_complete(&g, 2).code == ISIS_GR_REFUSED_NOT_RESTARTING);
@@ -181,8 +182,8 @@ static void hello_of_the_last_tick(void) {
     isis_gr_ticked t;
     start(ISIS_GR_MODE_RESTARTING, 0, 3, 60);
     t = isis_gr_tick(&g, 60);
-    EXPECT(t.hellos == 3 && t.hello_flags == ISIS_GR_FLAG_RR && t.timers.restart == ISIS_GR_RESTART_ENDED && t.timers.spf == ISIS_GR_LEVEL_BOTH);
-    EXPECT(isis_gr_next_hello_flags(&g, P2P).flags == 0 && isis_gr_tick(&g, 63).hellos == 0);
+    EXPECT(t.hellos == ALL && t.hello_flags == ISIS_GR_FLAG_RR && t.timers.restart == ISIS_GR_RESTART_ENDED && t.timers.spf == ISIS_GR_LEVEL_BOTH);
+    EXPECT(isis_gr_next_hello_flags(&g, P2P, 1).flags == 0 && isis_gr_tick(&g, 63).hellos == 0);
 }
 
 /* RA 20 at clock 0, showing us Up: T3 at 20; T1 (100 s) and T2 (60 s) are later */
@@ -200,7 +201,7 @@ static void overload(void) {
     acknowledged(); /* T3 sets it, T2's expiry clears it */
     t = isis_gr_tick(&g, 20);
     EXPECT(t.timers.overload == ISIS_GR_OVERLOAD_SET && t.timers.restart == ISIS_GR_RESTART_GOES_ON && t.timers.spf == 0);
-    EXPECT(isis_gr_waiting_circuits(&g).count == 0 && isis_gr_waiting_circuits(&g).lowest == 0);
+    EXPECT(isis_gr_waiting_t1s(&g).count == 0 && isis_gr_waiting_t1s(&g).lowest == 0);
     t = isis_gr_tick(&g, 60);
     EXPECT(t.timers.overload == ISIS_GR_OVERLOAD_CLEAR && t.timers.restart == ISIS_GR_RESTART_ENDED && t.timers.spf == ISIS_GR_LEVEL_BOTH);
     EXPECT(t.lost == 1); /* the peer's record, of expiry 27 */
@@ -218,30 +219,33 @@ static void t1_ends(void) {
     start(ISIS_GR_MODE_RESTARTING, 0, 100, 60);
     p2p(HELLO_INITIALIZING, -1, 0);
     EXPECT(receive(P2P, peer_mac).t1_end == ISIS_GR_T1_STOPPED);
-    EXPECT(isis_gr_waiting_circuits(&g).count == 1 && isis_gr_waiting_circuits(&g).lowest == LAN);
+    EXPECT(isis_gr_waiting_t1s(&g).count == 2 && isis_gr_waiting_t1s(&g).lowest == LAN); /* both of the LAN */
     EXPECT(receive(P2P, peer_mac).t1_end == ISIS_GR_T1_KEPT); /* no T1 ran */
     start(ISIS_GR_MODE_RESTARTING, 0, 100, 60);
     p2p(HELLO_UP, -1, 0);
     EXPECT(receive(P2P, peer_mac).t1_end == ISIS_GR_T1_REINITIALISE);
 
-    /* T1 of the LAN is the last: RA that names us, after the sets of both levels; then the whole restart ends in a receive */
+    /* those of the LAN are left: each stops by RA that names us at its level, after its set; then the whole restart ends in a receive */
     EXPECT(isis_gr_csnp_complete(&g, LAN, 1).timers.restart == ISIS_GR_RESTART_GOES_ON && isis_gr_csnp_complete(&g, LAN, 2).code == ISIS_GR_OK);
     EXPECT(isis_gr_database_complete(&g, 1).timers.spf == 0 && isis_gr_database_complete(&g, 2).timers.spf == 0);
     lan(2, third, 64, HELLO_RA, 1);
     r = receive(LAN, third_mac);
-    EXPECT(r.timers.restart == ISIS_GR_RESTART_ENDED && r.timers.spf == ISIS_GR_LEVEL_BOTH && r.timers.overload == ISIS_GR_OVERLOAD_KEEP);
+    EXPECT(r.timers.restart == ISIS_GR_RESTART_GOES_ON && r.timers.spf == ISIS_GR_LEVEL_2 && isis_gr_waiting_t1s(&g).count == 1);
+    lan(1, third, 64, HELLO_RA, 1);
+    r = receive(LAN, third_mac);
+    EXPECT(r.timers.restart == ISIS_GR_RESTART_ENDED && r.timers.spf == ISIS_GR_LEVEL_1 && r.timers.overload == ISIS_GR_OVERLOAD_KEEP);
 }
 
-/* document 02, W-201: T1 of a circuit begins with its first UP record and orders SA, its expiries order RR and SA; each record that becomes UP sets
-   overload, the last T2 clears it */
+/* document 02, W-201 and W-202: T1 begins with the first UP record of its circuit, on a LAN of its level, and orders SA, its expiries order RR and SA; each
+   record that becomes UP sets overload, the last T2 clears it */
 static void start_with_neighbours(void) {
     const uint8_t again = ISIS_GR_FLAG_RR | ISIS_GR_FLAG_SA;
     isis_gr_started started = start(ISIS_GR_MODE_STARTING, 0, 3, 60);
     isis_gr_received r;
     isis_gr_ticked t;
     isis_gr_noticed n;
-    EXPECT(started.hellos == 0 && started.hello_flags == 0 && isis_gr_waiting_circuits(&g).count == 0);
-    EXPECT(isis_gr_next_hello_flags(&g, P2P).flags == ISIS_GR_FLAG_SA && isis_gr_next_hello_flags(&g, LAN).flags == ISIS_GR_FLAG_SA);
+    EXPECT(started.hellos == 0 && started.hello_flags == 0 && isis_gr_waiting_t1s(&g).count == 0);
+    EXPECT(isis_gr_next_hello_flags(&g, P2P, 1).flags == ISIS_GR_FLAG_SA && isis_gr_next_hello_flags(&g, LAN, 2).flags == ISIS_GR_FLAG_SA);
     p2p(HELLO_UP, 0, 0); /* none and Up: nothing is kept, as in the mode Running */
     EXPECT(receive(P2P, peer_mac).after == ISIS_GR_RECORD_NONE);
     p2p(HELLO_DOWN, HELLO_RA, 20); /* no T1 has begun: it acknowledges nothing */
@@ -253,27 +257,35 @@ static void start_with_neighbours(void) {
     EXPECT(r.hello_flags == ISIS_GR_FLAG_SA && r.timers.restart == ISIS_GR_RESTART_GOES_ON && r.timers.overload == ISIS_GR_OVERLOAD_SET);
     r = receive(P2P, peer_mac);
     EXPECT(r.after == ISIS_GR_RECORD_UP && r.hello_flags == 0 && r.timers.overload == ISIS_GR_OVERLOAD_KEEP);
-    EXPECT(isis_gr_tick(&g, 3).hellos == 0 && isis_gr_next_hello_flags(&g, P2P).flags == ISIS_GR_FLAG_SA);
+    EXPECT(isis_gr_tick(&g, 3).hellos == 0 && isis_gr_next_hello_flags(&g, P2P, 2).flags == ISIS_GR_FLAG_SA);
     t = isis_gr_tick(&g, 4); /* 1 + 3 */
     EXPECT(t.hellos == 1 && t.hello_flags == again && t.timers.restart == ISIS_GR_RESTART_GOES_ON);
-    EXPECT(isis_gr_next_hello_flags(&g, P2P).flags == again && isis_gr_next_hello_flags(&g, LAN).flags == ISIS_GR_FLAG_SA);
+    EXPECT(isis_gr_next_hello_flags(&g, P2P, 1).flags == again && isis_gr_next_hello_flags(&g, LAN, 1).flags == ISIS_GR_FLAG_SA);
     lan(1, peer, 5, -1, 1);
     r = receive(LAN, peer_mac);
-    EXPECT(r.hello_flags == ISIS_GR_FLAG_SA && r.timers.overload == ISIS_GR_OVERLOAD_SET && isis_gr_waiting_circuits(&g).count == 2);
-    lan(2, third, 5, -1, 1); /* the second of the circuit */
+    EXPECT(r.hello_flags == ISIS_GR_FLAG_SA && r.level == 1 && r.timers.overload == ISIS_GR_OVERLOAD_SET && isis_gr_waiting_t1s(&g).count == 2);
+    lan(1, third, 5, -1, 1); /* the second of the level */
     r = receive(LAN, third_mac);
-    EXPECT(r.hello_flags == 0 && r.timers.overload == ISIS_GR_OVERLOAD_SET && isis_gr_tick(&g, 7).hellos == 3);
-    t = isis_gr_tick(&g, 10); /* the third expiry on P2P, the second on the LAN */
-    EXPECT(t.hellos == 2 && t.hello_flags == again && isis_gr_next_hello_flags(&g, P2P).flags == ISIS_GR_FLAG_SA);
+    EXPECT(r.hello_flags == 0 && r.timers.overload == ISIS_GR_OVERLOAD_SET && isis_gr_tick(&g, 5).hellos == 0);
+    lan(2, third, 5, -1, 1); /* the first of the other level */
+    r = receive(LAN, third_mac);
+    EXPECT(r.hello_flags == ISIS_GR_FLAG_SA && r.level == 2 && r.timers.overload == ISIS_GR_OVERLOAD_SET && isis_gr_waiting_t1s(&g).count == 3);
+    EXPECT(isis_gr_tick(&g, 7).hellos == 1 + 4); /* 4 + 3: the second expiry on P2P, the first of level 1 */
+    EXPECT(isis_gr_next_hello_flags(&g, LAN, 1).flags == again && isis_gr_next_hello_flags(&g, LAN, 2).flags == ISIS_GR_FLAG_SA);
+    EXPECT(isis_gr_tick(&g, 8).hellos == 8 && isis_gr_next_hello_flags(&g, LAN, 2).flags == again); /* 5 + 3: the first of level 2 */
+    t = isis_gr_tick(&g, 10); /* the third expiry on P2P, the second of level 1 */
+    EXPECT(t.hellos == 4 && t.hello_flags == again && isis_gr_next_hello_flags(&g, P2P, 1).flags == ISIS_GR_FLAG_SA);
 
     EXPECT(isis_gr_csnp_complete(&g, LAN, 1).code == ISIS_GR_OK && isis_gr_csnp_complete(&g, LAN, 2).code == ISIS_GR_OK);
-    EXPECT(isis_gr_database_complete(&g, 1).timers.spf == 0); /* T1 of the LAN runs */
+    EXPECT(isis_gr_database_complete(&g, 1).timers.spf == 0); /* T1 of level 1 runs */
     lan(2, third, 5, HELLO_RA, 1);
+    EXPECT(receive(LAN, third_mac).timers.spf == 0 && isis_gr_waiting_t1s(&g).count == 1 && isis_gr_next_hello_flags(&g, LAN, 1).flags == again);
+    lan(1, third, 5, HELLO_RA, 1);
     r = receive(LAN, third_mac);
     EXPECT(r.timers.restart == ISIS_GR_RESTART_GOES_ON && r.timers.spf == ISIS_GR_LEVEL_1 && r.timers.overload == ISIS_GR_OVERLOAD_KEEP);
     n = isis_gr_database_complete(&g, 2);
     EXPECT(n.timers.restart == ISIS_GR_RESTART_ENDED && n.timers.spf == ISIS_GR_LEVEL_2 && n.timers.overload == ISIS_GR_OVERLOAD_CLEAR);
-    EXPECT(isis_gr_next_hello_flags(&g, LAN).flags == 0 && isis_gr_csnp_complete(&g, LAN, 1).code == ISIS_GR_REFUSED_NOT_RESTARTING);
+    EXPECT(isis_gr_next_hello_flags(&g, LAN, 1).flags == 0 && isis_gr_csnp_complete(&g, LAN, 1).code == ISIS_GR_REFUSED_NOT_RESTARTING);
 }
 
 /* the same: how T1 and the start end */
@@ -283,19 +295,24 @@ static void start_ends(void) {
     start(ISIS_GR_MODE_STARTING, 0, 100, 60);
     p2p(HELLO_INITIALIZING, -1, 0); /* begins T1, and stops it */
     r = receive(P2P, peer_mac);
-    EXPECT(r.hello_flags == ISIS_GR_FLAG_SA && r.t1_end == ISIS_GR_T1_STOPPED && isis_gr_waiting_circuits(&g).count == 0);
+    EXPECT(r.hello_flags == ISIS_GR_FLAG_SA && r.t1_end == ISIS_GR_T1_STOPPED && isis_gr_waiting_t1s(&g).count == 0);
     start(ISIS_GR_MODE_STARTING, 0, 100, 60);
     p2p(HELLO_INITIALIZING, 0, 0);
-    EXPECT(receive(P2P, peer_mac).t1_end == ISIS_GR_T1_KEPT && isis_gr_waiting_circuits(&g).lowest == P2P);
+    EXPECT(receive(P2P, peer_mac).t1_end == ISIS_GR_T1_KEPT && isis_gr_waiting_t1s(&g).lowest == P2P);
     p2p(HELLO_UP, -1, 0); /* with our own circuit ID: a restart would reinitialise */
-    EXPECT(receive(P2P, peer_mac).t1_end == ISIS_GR_T1_STOPPED && isis_gr_waiting_circuits(&g).lowest == 0);
+    EXPECT(receive(P2P, peer_mac).t1_end == ISIS_GR_T1_STOPPED && isis_gr_waiting_t1s(&g).lowest == 0);
 
-    /* the sets come before T1 of the LAN begins; then a second record comes UP with the acknowledgement */
+    /* the sets come before T1s of the LAN begin; no T1 of level 2 runs, so that its T2 goes first; then its T1 begins, and stops by that frame; a second
+       record of level 1 comes UP with the acknowledgement */
     EXPECT(isis_gr_csnp_complete(&g, LAN, 1).code == ISIS_GR_OK && isis_gr_csnp_complete(&g, LAN, 2).code == ISIS_GR_OK);
     lan(1, peer, 5, 0, 1);
     EXPECT(receive(LAN, peer_mac).hello_flags == ISIS_GR_FLAG_SA);
-    EXPECT(isis_gr_database_complete(&g, 1).timers.spf == 0 && isis_gr_database_complete(&g, 2).timers.spf == 0);
+    EXPECT(isis_gr_database_complete(&g, 1).timers.spf == 0 && isis_gr_database_complete(&g, 2).timers.spf == ISIS_GR_LEVEL_2);
     lan(2, third, 5, HELLO_RA, 1);
+    r = receive(LAN, third_mac);
+    EXPECT(r.hello_flags == ISIS_GR_FLAG_SA && r.timers.restart == ISIS_GR_RESTART_GOES_ON && r.timers.overload == ISIS_GR_OVERLOAD_SET);
+    EXPECT(isis_gr_waiting_t1s(&g).count == 1);
+    lan(1, third, 5, HELLO_RA, 1);
     r = receive(LAN, third_mac);
     EXPECT(r.hello_flags == 0 && r.timers.restart == ISIS_GR_RESTART_ENDED && r.timers.overload == ISIS_GR_OVERLOAD_BOTH);
 
@@ -306,30 +323,6 @@ static void start_ends(void) {
     EXPECT(t.timers.restart == ISIS_GR_RESTART_ENDED && t.timers.spf == ISIS_GR_LEVEL_BOTH && t.timers.overload == ISIS_GR_OVERLOAD_CLEAR);
 }
 
-/* what docs/INTEGRATION.md says under "Limits" */
-static void limits(void) {
-    uint8_t id[6], mac[6], n;
-    start(ISIS_GR_MODE_RUNNING, 0, 3, 60);
-    hello_p2p(&h, frame, sizeof frame, ISIS_GR_LEVEL_BOTH, peer, 1); /* Holding Time 1: gone at the next second */
-    hello_three_way(&h, HELLO_INITIALIZING, 9, us, OWN_ID);
-    EXPECT(receive(P2P, peer_mac).after == ISIS_GR_RECORD_UP && isis_gr_tick(&g, 1).lost == 1);
-    p2p(HELLO_INITIALIZING, 0, 0); /* a swapped neighbour: 9 until the old record goes */
-    EXPECT(receive(P2P, peer_mac).after == ISIS_GR_RECORD_UP);
-    hello_p2p(&h, frame, sizeof frame, ISIS_GR_LEVEL_BOTH, third, HOLD);
-    hello_three_way(&h, HELLO_DOWN, 9, NULL, 0);
-    EXPECT(receive(P2P, third_mac).code == ISIS_GR_REFUSED_NO_ROOM && isis_gr_clear(&g, P2P) == ISIS_GR_OK);
-    EXPECT(isis_gr_tick(&g, 2).lost == 0 && receive(P2P, third_mac).after == ISIS_GR_RECORD_INIT);
-    hello_p2p(&h, frame, sizeof frame, ISIS_GR_LEVEL_BOTH, third, HOLD); /* no three-way TLV */
-    EXPECT(receive(P2P, third_mac).code == ISIS_GR_REFUSED_BAD_TLV);
-    memcpy(id, peer, 6);
-    memcpy(mac, peer_mac, 6);
-    for (n = 0; n < 18; n++) { /* eight neighbours of both levels, and the ninth */
-        id[5] = mac[5] = (uint8_t)(2 + n / 2);
-        lan((uint8_t)(1 + n % 2), id, 64, 0, 1);
-        EXPECT(receive(LAN, mac).code == (n < 16 ? ISIS_GR_OK : ISIS_GR_REFUSED_NO_ROOM));
-    }
-}
-
 /* as many circuits as a gateway has, and one more; the octets of the settings are 17 and 19 a circuit */
 static void eight_circuits(void) {
     isis_gr_settings s = settings(ISIS_GR_MODE_RESTARTING, 0, 3, 60);
@@ -338,7 +331,7 @@ static void eight_circuits(void) {
         s.circuits[i] = s.circuits[i % 2];
     }
     s.count = ISIS_GR_MAX_CIRCUITS;
-    EXPECT(isis_gr_set_up(&g, &s).hellos == 255);
+    EXPECT(isis_gr_set_up(&g, &s).hellos == 0xDDDD && isis_gr_waiting_t1s(&g).count == 12); /* P2P and LAN in turns: 1, then 4 and 8 */
     EXPECT(isis_gr_release(&g, ISIS_GR_MAX_CIRCUITS) == ISIS_GR_OK && isis_gr_clear(&g, ISIS_GR_MAX_CIRCUITS + 1) == ISIS_GR_REFUSED_NO_CIRCUIT);
     s.count = ISIS_GR_MAX_CIRCUITS + 1;
     EXPECT(isis_gr_set_up(&g, &s).code == ISIS_GR_REFUSED_BAD_SETTING);
@@ -391,7 +384,6 @@ int main(void) {
     t1_ends();
     start_with_neighbours();
     start_ends();
-    limits();
     eight_circuits();
     each_setting();
     puts("every constant and every field of isis_gr.h: as docs/RULES.md has it");

@@ -1,4 +1,5 @@
-/* The gateway of every_field.c, the hellos of its neighbours, and what they are answered. Circuit 1 is P2P, circuit 2 a LAN; both have both levels. */
+/* The gateway of every_field.c, levels.c and limits.c, the hellos of its neighbours, and what they are answered. Circuit 1 is P2P, circuit 2 a LAN; both
+   have both levels, so that a mask of all hellos has bits 0, 2 and 3. */
 #ifndef NEIGHBOURS_H
 #define NEIGHBOURS_H
 
@@ -14,13 +15,13 @@ static const uint8_t third[6] = {0x19, 0x21, 0x68, 0x00, 0x10, 0x03};
 static const uint8_t our_mac[6] = {2, 0, 0, 0, 0, 1};
 static const uint8_t peer_mac[6] = {2, 0, 0, 0, 0, 2};
 static const uint8_t third_mac[6] = {2, 0, 0, 0, 0, 3};
-enum { P2P = 1, LAN = 2, OWN_ID = 7, HOLD = 27, CONFIGURED = 30 };
+enum { P2P = 1, LAN = 2, OWN_ID = 7, HOLD = 27, CONFIGURED = 30, ALL = 1 + 4 + 8 };
 
 static isis_gr_gateway g;
 static uint8_t frame[256], reply[ISIS_GR_REPLY_OCTETS];
 static hello h;
 
-static isis_gr_settings settings(uint8_t mode, uint32_t clock, uint16_t t1, uint16_t t2) {
+static inline isis_gr_settings settings(uint8_t mode, uint32_t clock, uint16_t t1, uint16_t t2) {
     isis_gr_settings s;
     memset(&s, 0, sizeof s);
     memcpy(s.system_id, us, 6);
@@ -42,7 +43,7 @@ static isis_gr_settings settings(uint8_t mode, uint32_t clock, uint16_t t1, uint
     return s;
 }
 
-static isis_gr_started start(uint8_t mode, uint32_t clock, uint16_t t1, uint16_t t2) {
+static inline isis_gr_started start(uint8_t mode, uint32_t clock, uint16_t t1, uint16_t t2) {
     isis_gr_settings s = settings(mode, clock, t1, t2);
     isis_gr_started started = isis_gr_set_up(&g, &s);
     EXPECT(started.code == ISIS_GR_OK);
@@ -50,7 +51,7 @@ static isis_gr_started start(uint8_t mode, uint32_t clock, uint16_t t1, uint16_t
 }
 
 /* a P2P hello of the peer that names us: without a Restart TLV where flags is negative */
-static void p2p(uint8_t state, int flags, uint16_t remaining) {
+static inline void p2p(uint8_t state, int flags, uint16_t remaining) {
     hello_p2p(&h, frame, sizeof frame, ISIS_GR_LEVEL_BOTH, peer, HOLD);
     hello_three_way(&h, state, 9, us, OWN_ID);
     if (flags >= 0) {
@@ -59,7 +60,7 @@ static void p2p(uint8_t state, int flags, uint16_t remaining) {
 }
 
 /* a LAN hello that lists us or not */
-static void lan(uint8_t level, const uint8_t id[6], uint8_t priority, int flags, size_t listed) {
+static inline void lan(uint8_t level, const uint8_t id[6], uint8_t priority, int flags, size_t listed) {
     static const uint8_t lan_id[7] = {0};
     uint8_t macs[1][6];
     memcpy(macs[0], our_mac, 6);
@@ -70,14 +71,14 @@ static void lan(uint8_t level, const uint8_t id[6], uint8_t priority, int flags,
     }
 }
 
-static isis_gr_received receive(uint8_t circuit, const uint8_t mac[6]) {
+static inline isis_gr_received receive(uint8_t circuit, const uint8_t mac[6]) {
     size_t n = hello_end(&h);
     EXPECT(n > 0);
     return isis_gr_receive(&g, circuit, mac, frame, n, reply, sizeof reply);
 }
 
 /* an answer of a refusal: its number, and the other fields 0 */
-static void refused(uint32_t code, isis_gr_received r) {
+static inline void refused(uint32_t code, isis_gr_received r) {
     static const uint8_t none[6] = {0};
     EXPECT(r.code == code);
     EXPECT(r.reply == ISIS_GR_REPLY_NONE && r.remaining == 0 && r.csnps == 0 && r.t1_end == ISIS_GR_T1_KEPT && r.hello_flags == 0);

@@ -49,8 +49,8 @@ CALL(csnp_complete, isis_gr_raw_csnp_complete(g.words, circuit, level), isis_gr_
 CALL(database_complete, isis_gr_raw_database_complete(g.words, level), isis_gr_database_complete(&g, level).code)
 CALL(look_up, isis_gr_raw_look_up(g.words, circuit, level, frame + 9, source, found), isis_gr_look_up(&g, circuit, level, frame + 9, source).code)
 CALL(link_metric, isis_gr_raw_link_metric(g.words, circuit), isis_gr_link_metric(&g, circuit).code)
-CALL(next_hello_flags, isis_gr_raw_next_hello_flags(g.words, circuit), isis_gr_next_hello_flags(&g, circuit).code)
-CALL(waiting_circuits, isis_gr_raw_waiting_circuits(g.words), isis_gr_waiting_circuits(&g).count & 0u)
+CALL(next_hello_flags, isis_gr_raw_next_hello_flags(g.words, circuit, level), isis_gr_next_hello_flags(&g, circuit, level).code)
+CALL(waiting_t1s, isis_gr_raw_waiting_t1s(g.words), isis_gr_waiting_t1s(&g).count & 0u)
 
 /* a call and its limit */
 #define ROW(name, limit) {#name, limit, raw_##name, c_##name, 0, 0, 0, 0}
@@ -64,9 +64,9 @@ static struct {
     size_t most, most_through;
     unsigned inputs, done;
 } calls[CALLS] = {
-    ROW(gateway_words, 16), ROW(set_up, 64), ROW(fault, 32), ROW(receive, 320), ROW(tick, 128), ROW(release, 64), ROW(clear, 16),
+    ROW(gateway_words, 16), ROW(set_up, 64), ROW(fault, 32), ROW(receive, 320), ROW(tick, 144), ROW(release, 64), ROW(clear, 16),
     ROW(csnp_complete, 96), ROW(database_complete, 96), ROW(look_up, 64), ROW(link_metric, 16), ROW(next_hello_flags, 16),
-    ROW(waiting_circuits, 16),
+    ROW(waiting_t1s, 16),
 };
 
 static size_t depth(void (*what)(void)) {
@@ -303,8 +303,8 @@ static void ask(void) {
     for (circuit = 0; circuit <= ISIS_GR_MAX_CIRCUITS + 1; circuit++) {
         uint8_t router;
         paint(METRIC);
-        paint(FLAGS);
         for (level = 0; level < 4; level++) {
+            paint(FLAGS);
             for (router = 2; router < 3 + ROUTERS; router++) {
                 header(15, router);
                 paint(LOOK_UP);

@@ -1,8 +1,8 @@
 -- The laws of a mask, over its width n: each way in which the code changes or asks a mask, said of the list of its digits.
-use Prim.Native.Nat.{ℕ, zero, suc, _+_, _-_, _*_, _/_, _%_, _^_, _<_, min, max}
+use Prim.Native.Nat.{ℕ, zero, suc, _+_, _-_, _*_, _/_, _%_, _^_, _<_, _≤_, min, max}
 use mathlib.Core.Path.{_≡_, refl, sym, ap, ap₂, _∙_}
-use mathlib.Core.Bool.{true, false, cond, not, _||_}
-use mathlib.Core.List.{_∷_}
+use mathlib.Core.Bool.{true, false, cond, not, _&&_, _||_}
+use mathlib.Core.List.{List, [], _∷_}
 use native.Mathlib.Omega.{arith}
 use native.Mathlib.Nat.{pow-suc, add-zero, div-one, mod-eq-of-lt}
 use lib.Pow.{pow-pos, pow-lt, shr-shr}
@@ -12,8 +12,8 @@ use lib.Bits.{bitAnd, bitOr, and-step, or-step, or-zero-r, and-mask}
 use lib.Count.{ones, ones-step, trailingZeros}
 use Rattle.basics.proofs.BoolLaws.{by-test}
 use borrow.Author.Tests.{eq-eqb, ne-eqb, eqb-true, eqb-false}
-use Rattle.basics.specs.declared.mask.Lowest.the-variants.{Circuit, Nothing}
-use Rattle.basics.specs.Mask.{bitsOf, countTrue, anyTrue, firstTrue}
+use Rattle.basics.specs.declared.places.Lowest.the-variants.{Circuit, Nothing}
+use Rattle.basics.specs.Mask.{bitsOf, countTrue, anyTrue, anyShared, firstPair}
 
 -- one digit as a Bool
 digit : (d : ℕ) → d < 2 → d ≡ cond (eqb d 1) 1 0
@@ -49,21 +49,35 @@ unfolding bitsOf anyTrue
 anyTrue-zero zero m h = let z : m ≡ 0 = omega arith in rw z
 anyTrue-zero (suc n) m h = rw (anyTrue-zero n (m / 2) (half-below n m h)) (halves m)
 
--- trailing zeros give the first true one
-pub trailing-firstTrue : (n m k : ℕ) → m < 2 ^ n → firstTrue (bitsOf n m) k ≡ cond (eqb m 0) Nothing (Circuit (k + trailingZeros n m))
-unfolding bitsOf firstTrue trailingZeros
-trailing-firstTrue zero m k h = let z : m ≡ 0 = omega arith in rw z
-trailing-firstTrue (suc n) m k h =
+low-zero : (m : ℕ) → eqb (m % 2) 1 ≡ false → m % 2 ≡ 0
+low-zero m e = let o = eqb-false (m % 2) 1 e in omega arith
+
+-- trailing zeros, halved, give the first pair with a true one
+unfoldable pub double : ℕ → ℕ
+double zero = zero
+double (suc n) = suc (suc (double n))
+
+pub trailing-firstPair : (n m k : ℕ) → m < 2 ^ double n
+    → firstPair (bitsOf (double n) m) k ≡ cond (eqb m 0) Nothing (Circuit (k + trailingZeros (double n) m / 2))
+unfolding bitsOf firstPair trailingZeros double
+trailing-firstPair zero m k h = let z : m ≡ 0 = omega arith in rw z
+trailing-firstPair (suc n) m k h =
     by-test (eqb (m % 2) 1)
     (λ e. let o : m % 2 ≡ 1 = eqb-true _ _ e in
     rw (e, ne-eqb m 0 (λ (q : m ≡ 0). omega arith), o) (ap Circuit (sym (add-zero k))))
-    (λ e. let o = eqb-false (m % 2) 1 e in let z : m % 2 ≡ 0 = omega arith in
-    rw (e, trailing-firstTrue n (m / 2) (suc k) (half-below n m h), z)
+    (λ e. let z = low-zero m e in
+    by-test (eqb (m / 2 % 2) 1)
+    (λ f. let o : m / 2 % 2 ≡ 1 = eqb-true _ _ f in
+    rw (e, f, ne-eqb m 0 (λ (q : m ≡ 0). omega arith), z, o) (ap Circuit (sym (add-zero k))))
+    (λ f. let y = low-zero (m / 2) f in
+    let ih = trailing-firstPair n (m / 2 / 2) (suc k) (half-below (double n) (m / 2) (half-below (suc (double n)) m h)) in
+    rw (e, f, ih, z, y)
     (by-test (eqb m 0)
-    (λ f. let q : m ≡ 0 = eqb-true _ _ f in rw (f, eq-eqb (m / 2) 0 (omega arith)))
-    (λ f. let q = eqb-false m 0 f in
-    rw (f, ne-eqb (m / 2) 0 (λ (w : m / 2 ≡ 0). omega arith))
-    (let g : suc k + trailingZeros n (m / 2) ≡ k + suc (trailingZeros n (m / 2)) = omega arith in ap Circuit g))))
+    (λ g. let q : m ≡ 0 = eqb-true _ _ g in rw (g, eq-eqb (m / 2 / 2) 0 (omega arith)))
+    (λ g. let q = eqb-false m 0 g in
+    rw (g, ne-eqb (m / 2 / 2) 0 (λ (w : m / 2 / 2 ≡ 0). omega arith))
+    (let t = trailingZeros (double n) (m / 2 / 2) in
+    let w : suc k + t / 2 ≡ k + suc (suc t) / 2 = omega arith in ap Circuit w)))))
 
 -- a number's digits from its lowest one and the rest
 bitsOf-cons : (n a d : ℕ) → d < 2 → bitsOf (suc n) (a * 2 + d) ≡ eqb d 1 ∷ bitsOf n a
@@ -92,6 +106,41 @@ min-none : (d : ℕ) → d < 2 → min d 0 ≡ 0
 min-none zero h = refl
 min-none (suc zero) h = refl
 min-none (suc (suc d)) h = absurd (omega arith)
+
+min-both : (d e : ℕ) → d < 2 → e < 2 → eqb (min d e) 1 ≡ (eqb d 1 && eqb e 1)
+min-both zero zero h k = refl
+min-both zero (suc zero) h k = refl
+min-both zero (suc (suc e)) h k = absurd (omega arith)
+min-both (suc zero) zero h k = refl
+min-both (suc zero) (suc zero) h k = refl
+min-both (suc zero) (suc (suc e)) h k = absurd (omega arith)
+min-both (suc (suc d)) e h k = absurd (omega arith)
+
+min-lt : (d e : ℕ) → d < 2 → e < 2 → min d e < 2
+min-lt zero zero h k = omega arith
+min-lt zero (suc zero) h k = omega arith
+min-lt zero (suc (suc e)) h k = absurd (omega arith)
+min-lt (suc zero) zero h k = omega arith
+min-lt (suc zero) (suc zero) h k = omega arith
+min-lt (suc zero) (suc (suc e)) h k = absurd (omega arith)
+min-lt (suc (suc d)) e h k = absurd (omega arith)
+
+shared-cons : (n a b : ℕ) → ((eqb (a % 2) 1 && eqb (b % 2) 1) || anyShared (bitsOf n (a / 2)) (bitsOf n (b / 2)))
+    ≡ anyShared (bitsOf (suc n) a) (bitsOf (suc n) b)
+unfolding bitsOf anyShared
+shared-cons n a b = refl
+
+shared-none : (a b m : ℕ) → anyTrue (bitsOf 0 m) ≡ anyShared (bitsOf 0 a) (bitsOf 0 b)
+unfolding bitsOf anyTrue anyShared
+shared-none a b m = refl
+
+-- x & y has a digit where both have it
+pub anyTrue-and : (n a b : ℕ) → anyTrue (bitsOf n (bitAnd a b)) ≡ anyShared (bitsOf n a) (bitsOf n b)
+unfolding anyTrue
+anyTrue-and zero a b = shared-none a b (bitAnd a b)
+anyTrue-and (suc n) a b =
+    rw (and-step a b, bitsOf-cons n (bitAnd (a / 2) (b / 2)) (min (a % 2) (b % 2)) (min-lt (a % 2) (b % 2) (omega arith) (omega arith)), min-both (a % 2) (b % 2) (omega arith) (omega arith), anyTrue-and n (a / 2) (b / 2))
+    (shared-cons n a b)
 
 -- x | 1 << i
 pub bitsOf-or : (n m i : ℕ) → i < n → bitsOf n (bitOr m (2 ^ i)) ≡ set (bitsOf n m) i true
@@ -130,3 +179,68 @@ getD-bitsOf (suc n) m zero h = rw div-one
 getD-bitsOf (suc n) m (suc i) h =
     let p : m / 2 / 2 ^ i ≡ m / 2 ^ suc i = shr-shr m 1 i ∙ ap (λ (x : ℕ). m / 2 ^ x) (omega arith) in
     rw (getD-bitsOf n (m / 2) i (omega arith), p)
+
+max-either : (d e : ℕ) → d < 2 → e < 2 → eqb (max d e) 1 ≡ (eqb d 1 || eqb e 1)
+max-either zero zero h k = refl
+max-either zero (suc zero) h k = refl
+max-either zero (suc (suc e)) h k = absurd (omega arith)
+max-either (suc zero) zero h k = refl
+max-either (suc zero) (suc zero) h k = refl
+max-either (suc zero) (suc (suc e)) h k = absurd (omega arith)
+max-either (suc (suc d)) e h k = absurd (omega arith)
+
+-- x | y, its lowest digit and the rest
+or-low : (a b : ℕ) → eqb (bitOr a b % 2) 1 ≡ (eqb (a % 2) 1 || eqb (b % 2) 1)
+or-low a b =
+    let s = or-step a b in
+    let p : bitOr a b % 2 ≡ max (a % 2) (b % 2) = omega arith in
+    rw p (max-either (a % 2) (b % 2) (omega arith) (omega arith))
+
+or-half : (a b : ℕ) → bitOr a b / 2 ≡ bitOr (a / 2) (b / 2)
+or-half a b = let s = or-step a b in omega arith
+
+-- x | y has a digit where one of them has it
+pub getD-or : (n a b i : ℕ) → getD (bitsOf n (bitOr a b)) i false ≡ (getD (bitsOf n a) i false || getD (bitsOf n b) i false)
+unfolding bitsOf
+getD-or zero a b i = refl
+getD-or (suc n) a b zero = or-low a b
+getD-or (suc n) a b (suc i) = rw (or-half a b) (getD-or n (a / 2) (b / 2) i)
+
+-- past a number's width no digit is set
+pub getD-past : (n w m i : ℕ) → m < 2 ^ n → n ≤ i → getD (bitsOf w m) i false ≡ false
+unfolding bitsOf
+getD-past n zero m i h le = refl
+getD-past zero (suc w) m zero h le = let z : m ≡ 0 = omega arith in rw z
+getD-past (suc n) (suc w) m zero h le = absurd (omega arith)
+getD-past zero (suc w) m (suc i) h le = getD-past zero w (m / 2) i (omega arith) (omega arith)
+getD-past (suc n) (suc w) m (suc i) h le = let p = pow-suc 2 n in getD-past n w (m / 2) i (omega arith) (omega arith)
+
+-- ---- two digits for each element of a list
+
+-- the numbers that f gives of a list's elements, each below 4, as digits of one number, the first lowest
+unfoldable pub packed : {A : Type 0} → (A → ℕ) → List A → ℕ
+packed f [] = 0
+packed f (x ∷ l) = f x + 4 * packed f l
+
+bitsOf-two : (n b m : ℕ) → b < 4 → bitsOf (suc (suc n)) (b + 4 * m) ≡ eqb (b % 2) 1 ∷ eqb (b / 2) 1 ∷ bitsOf n m
+unfolding bitsOf
+bitsOf-two n b m h =
+    let p : (b + 4 * m) % 2 ≡ b % 2 = omega arith in
+    let e : (b + 4 * m) / 2 ≡ b / 2 + 2 * m = omega arith in
+    let q : (b / 2 + 2 * m) % 2 ≡ b / 2 = omega arith in
+    let r : (b / 2 + 2 * m) / 2 ≡ m = omega arith in
+    rw (p, e, q, r)
+
+module _ {A : Type 0} (f : A → ℕ) (small : (x : A) → f x < 4) (d : A) where
+  pub packed-at : (n : ℕ) (l : List A) (i : ℕ) → i < length l → length l ≤ n
+      → (getD (bitsOf (double n) (packed f l)) (2 * i) false ≡ eqb (f (getD l i d) % 2) 1)
+      × (getD (bitsOf (double n) (packed f l)) (2 * i + 1) false ≡ eqb (f (getD l i d) / 2) 1)
+  unfolding packed double
+  packed-at n [] i lt le = absurd (omega arith)
+  packed-at zero (x ∷ l) i lt le = absurd (omega arith)
+  packed-at (suc n) (x ∷ l) zero lt le = rw (bitsOf-two (double n) (f x) (packed f l) (small x)) (refl, refl)
+  packed-at (suc n) (x ∷ l) (suc i) lt le =
+      let p : 2 * suc i ≡ suc (suc (2 * i)) = omega arith in
+      let q : 2 * suc i + 1 ≡ suc (suc (2 * i + 1)) = omega arith in
+      let ih = packed-at n l i (omega arith) (omega arith) in
+      rw (q, p, bitsOf-two (double n) (f x) (packed f l) (small x)) ih

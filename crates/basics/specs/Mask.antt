@@ -1,11 +1,11 @@
--- What a mask over circuits means: a Bool for each circuit, circuit 1 (the lowest digit) first. Document 01, "What the gateway
--- holds": 1 to 8 circuits; how many circuits still wait for T1, and the lowest such circuit (or none).
-use Prim.Native.Nat.{ℕ, zero, suc, _+_, _/_, _%_}
-use mathlib.Core.Bool.{Bool, false, cond, _||_}
+-- What a mask over circuits means: a Bool for each circuit, circuit 1 (the lowest digit) first; and a mask with two places for each circuit.
+-- Document 01, "What the gateway holds": 1 to 8 circuits. Document 02, W-202: the count of T1s that wait, "the lowest still a circuit".
+use Prim.Native.Nat.{ℕ, zero, suc, _+_, _*_, _/_, _%_}
+use mathlib.Core.Bool.{Bool, false, cond, _&&_, _||_}
 use mathlib.Core.List.{List, [], _∷_}
 use lib.Dec.{eqb}
-use Rattle.basics.specs.declared.mask.Lowest.{Lowest}
-use Rattle.basics.specs.declared.mask.Lowest.the-variants.{Circuit, Nothing}
+use Rattle.basics.specs.declared.places.Lowest.{Lowest}
+use Rattle.basics.specs.declared.places.Lowest.the-variants.{Circuit, Nothing}
 
 -- the most circuits that a gateway has
 abbrev pub circuits : ℕ
@@ -20,6 +20,13 @@ bitsOf (suc n) m = eqb (m % 2) 1 ∷ bitsOf n (m / 2)
 abbrev pub bits : ℕ → List Bool
 bits m = bitsOf circuits m
 
+-- .. and two for each
+abbrev pub places : ℕ
+places = 2 * circuits
+
+abbrev pub placeBits : ℕ → List Bool
+placeBits m = bitsOf places m
+
 -- how many are true
 unfoldable pub countTrue : List Bool → ℕ
 countTrue [] = 0
@@ -30,7 +37,14 @@ unfoldable pub anyTrue : List Bool → Bool
 anyTrue [] = false
 anyTrue (b ∷ bs) = b || anyTrue bs
 
--- the first one that is, where the list's head has the number k
-unfoldable pub firstTrue : List Bool → ℕ → Lowest
-firstTrue [] k = Nothing
-firstTrue (b ∷ bs) k = cond b (Circuit k) (firstTrue bs (suc k))
+-- whether one is true in both
+unfoldable pub anyShared : List Bool → List Bool → Bool
+anyShared [] ys = false
+anyShared (a ∷ xs) [] = false
+anyShared (a ∷ xs) (b ∷ ys) = (a && b) || anyShared xs ys
+
+-- the first circuit with a true one, where the list's first two are those of circuit k
+unfoldable pub firstPair : List Bool → ℕ → Lowest
+firstPair [] k = Nothing
+firstPair (a ∷ []) k = cond a (Circuit k) Nothing
+firstPair (a ∷ b ∷ bs) k = cond (a || b) (Circuit k) (firstPair bs (suc k))

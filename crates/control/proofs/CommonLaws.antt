@@ -15,7 +15,7 @@ use Rattle.settings.specs.Settings.{enabledLevels}
 use Rattle.settings.proofs.SettingsLaws.{enabled-step}
 use Rattle.timers.specs.Memory.{wordCount, timersAt}
 use Rattle.settings.specs.declared.circuit.Circuit.{Circuit}
-use Rattle.control.specs.Words.{controlWords, sealPlace, countPlace, clockPlace, systemPlace, lengthsPlace, headPlace, entriesPlace, circuitsPlace, sealed, countIn, countOf, circuitAt, circuitsFrom, headOf, entriesOf, lengthsIn, commonOf}
+use Rattle.control.specs.Words.{controlWords, sealPlace, countPlace, clockPlace, systemPlace, lengthsPlace, headPlace, servingPlace, entriesPlace, circuitsPlace, sealed, countIn, countOf, circuitAt, circuitsFrom, headOf, servingIn, servingOf, entriesOf, lengthsIn, commonOf}
 use Rattle.control.specs.Common.{withClock, withTimers, circuitOf, Chooses, noCircuit}
 use Rattle.basics.specs.Mask.{circuits}
 use Rattle.settings.specs.declared.circuit.Chosen.the-variants.{Known, Unknown}
@@ -134,6 +134,9 @@ module _ (a e : ℕ) (ws ws′ : List ℕ) (k : Keeps a e ws ws′) where
       aside i lt (inl h) = inr (omega arith)
       aside i lt (inr h) = inl (omega arith)
 
+  pub serving-kept : (servingPlace < a) ⊎ (e ≤ servingPlace) → servingOf ws′ ≡ servingOf ws
+  serving-kept h = ap servingIn (k servingPlace h)
+
   pub entries-kept : length ws ≡ controlWords → length ws′ ≡ controlWords → e ≤ entriesPlace → entriesOf ws′ ≡ entriesOf ws
   entries-kept l l′ h =
       ext-getD 0 (entriesOf ws′) (entriesOf ws) (long ws′ l′ ∙ sym (long ws l))
@@ -157,11 +160,13 @@ module _ (ws ws′ : List ℕ) where
         sealed-kept clockPlace (clockPlace + 1) ws ws′ k countPlace (omega arith) (inl (omega arith)),
         circuits-kept clockPlace (clockPlace + 1) ws ws′ k 0 (countIn (sealed ws countPlace)) (omega arith),
         head-kept clockPlace (clockPlace + 1) ws ws′ k (omega arith) (inl (omega arith)),
+        serving-kept clockPlace (clockPlace + 1) ws ws′ k (inr (omega arith)),
         entries-kept clockPlace (clockPlace + 1) ws ws′ k l l′ (omega arith),
       )
 
   -- the timers' words
-  pub timers-changed : Keeps headPlace circuitsPlace ws ws′ → commonOf ws′ ≡ withTimers (timersAt (headOf ws′) (entriesOf ws′)) (commonOf ws)
+  pub timers-changed : Keeps headPlace circuitsPlace ws ws′
+      → commonOf ws′ ≡ withTimers (timersAt (servingOf ws′) (headOf ws′) (entriesOf ws′)) (commonOf ws)
   unfolding commonOf countOf
   timers-changed k =
       cc (

@@ -9,11 +9,12 @@ use lib.ListN.{length, getD, set, length-set}
 use lib.Seq.{getD-set-same, getD-set-other}
 use borrow.Author.Tests.{eq-eqb}
 use Rattle.basics.proofs.BitLaws.{bit-back}
+use Rattle.settings.specs.declared.serving.Serving.{Serving}
 use Rattle.timers.specs.Memory.{timersOf, timersAt}
 use Rattle.timers.specs.declared.head.Head.{Head}
-use Rattle.control.specs.Words.{controlWords, sealPlace, headPlace, circuitsPlace, seal, sealed, modeIn, timerIn, t2In, t3In, headIn, headOf, entriesOf, timerDeadline, t3Deadline, commonOf}
+use Rattle.control.specs.Words.{controlWords, sealPlace, headPlace, circuitsPlace, seal, sealed, modeIn, timerIn, t2In, t3In, headIn, headOf, servingOf, entriesOf, timerDeadline, t3Deadline, commonOf}
 use Rattle.control.specs.Common.{withTimers}
-use Rattle.control.proofs.CommonLaws.{Keeps, entries-kept, timers-changed}
+use Rattle.control.proofs.CommonLaws.{Keeps, serving-kept, entries-kept, timers-changed}
 
 pub mode-at : (ws : List ℕ) → modeIn (sealed ws headPlace % 4) ≡ commonOf ws .timers .mode
 unfolding commonOf headOf headIn timersOf
@@ -25,7 +26,7 @@ unfolding headOf
 head-at ws w e = rw e refl
 
 -- the digits of the head's word: the mode, whether each T2 runs and was noticed, T3, the mask
-fields : (m x n y p z k a b e : ℕ) → m < 4 → x < 2 → n < 2 → y < 2 → p < 2 → z < 4 → k < 256
+fields : (m x n y p z k a b e : ℕ) → m < 4 → x < 2 → n < 2 → y < 2 → p < 2 → z < 4 → k < 65536
     → headIn (m + 4 * x + 8 * n + 16 * y + 32 * p + 64 * z + 256 * k) a b e
     ≡ record { mode = modeIn m; mask = k; t2s = record { one = t2In x n a; two = t2In y p b }; t3 = t3In z e }
 unfolding headIn
@@ -42,7 +43,7 @@ fields m x n y p z k a b e hm hx hn hy hp hz hk =
     let e₃ : (y + 2 * p + 4 * z + 16 * k) % 2 ≡ y = omega arith in
     let e₄ : (p + 2 * z + 8 * k) % 2 ≡ p = omega arith in
     let e₅ : (z + 4 * k) % 4 ≡ z = omega arith in
-    let e₆ : k % 256 ≡ k = omega arith in
+    let e₆ : k % 65536 ≡ k = omega arith in
     rw (e₀, q₁, q₂, q₃, q₄, q₅, q₆, e₁, e₂, e₃, e₄, e₅, e₆)
 
 -- the word that a head is stored as
@@ -50,7 +51,7 @@ module _ (h : Head) (m x n y p z : ℕ) where
   pub head-back : (modeIn m ≡ h .mode) × (m < 4)
       → (timerIn x (timerDeadline (h .t2s .one .timer)) ≡ h .t2s .one .timer) × (x < 2) → (n ≡ cond (h .t2s .one .noticed) 1 0) × (n < 2)
       → (timerIn y (timerDeadline (h .t2s .two .timer)) ≡ h .t2s .two .timer) × (y < 2) → (p ≡ cond (h .t2s .two .noticed) 1 0) × (p < 2)
-      → (t3In z (t3Deadline (h .t3)) ≡ h .t3) × (z < 4) → h .mask < 256
+      → (t3In z (t3Deadline (h .t3)) ≡ h .t3) × (z < 4) → h .mask < 65536
       → headIn (m + 4 * x + 8 * n + 16 * y + 32 * p + 64 * z + 256 * h .mask) (timerDeadline (h .t2s .one .timer)) (timerDeadline (h .t2s .two .timer)) (t3Deadline (h .t3)) ≡ h
   head-back hm hx hn hy hp hz hk =
       fields m x n y p z (h .mask) (timerDeadline (h .t2s .one .timer)) (timerDeadline (h .t2s .two .timer)) (t3Deadline (h .t3)) (hm .1) (hx .1) (hn .1) (hy .1) (hp .1) (hz .1) hk
@@ -100,11 +101,13 @@ module _ (ws : List ℕ) (w a b e : ℕ) (len : length ws ≡ controlWords) wher
       )
 
   pub head-stored : (h : Head) → getD ws sealPlace 0 ≡ seal → headIn w a b e ≡ h
-      → commonOf (set4 ws w a b e) ≡ withTimers (timersAt h (entriesOf ws)) (commonOf ws)
+      → commonOf (set4 ws w a b e) ≡ withTimers (timersAt (servingOf ws) h (entriesOf ws)) (commonOf ws)
   head-stored h m p =
       timers-changed ws (set4 ws w a b e) wider
-      ∙ ap (λ (x : Head). withTimers (timersAt x (entriesOf (set4 ws w a b e))) (commonOf ws)) (set4-head m ∙ p)
-      ∙ ap (λ (l : List ℕ). withTimers (timersAt h l) (commonOf ws))
+      ∙ ap (λ (v : Serving). withTimers (timersAt v (headOf (set4 ws w a b e)) (entriesOf (set4 ws w a b e))) (commonOf ws))
+      (serving-kept headPlace (headPlace + 4) ws (set4 ws w a b e) set4-keeps (inr (omega arith)))
+      ∙ ap (λ (x : Head). withTimers (timersAt (servingOf ws) x (entriesOf (set4 ws w a b e))) (commonOf ws)) (set4-head m ∙ p)
+      ∙ ap (λ (l : List ℕ). withTimers (timersAt (servingOf ws) h l) (commonOf ws))
       (entries-kept headPlace (headPlace + 4) ws (set4 ws w a b e) set4-keeps len length-set4 (omega arith))
     where
       wider : Keeps headPlace circuitsPlace ws (set4 ws w a b e)

@@ -6,7 +6,8 @@ use mathlib.Core.Bool.{cond}
 use lib.Dec.{eqb}
 use Rattle.settings.specs.declared.lengths.Lengths.{Lengths}
 use Rattle.settings.specs.declared.circuit.Circuit.{Circuit}
-use Rattle.control.specs.Words.{kindIn, circuitIn, lengthsIn}
+use Rattle.settings.specs.declared.serving.Serving.{Serving}
+use Rattle.control.specs.Words.{kindIn, circuitIn, lengthsIn, servingIn}
 use Rattle.basics.proofs.BitLaws.{bit-back}
 
 -- the digits of a circuit's word: the kind, the two levels, the priority, the holding time, the metric
@@ -46,3 +47,11 @@ lengths-back s ha hb hn =
     let e₁ : (s .t2 + 65536 * s .tries) % 65536 ≡ s .t2 = omega arith in
     let e₂ : s .tries % 256 ≡ s .tries = omega arith in
     rw (e₀, q₁, q₂, e₁, e₂)
+
+pub serving-back : (v : Serving) → v .one < 65536 → v .two < 65536 → servingIn (v .one + 65536 * v .two) ≡ v
+unfolding servingIn
+serving-back v ha hb =
+    let e₀ : (v .one + 65536 * v .two) % 65536 ≡ v .one = omega arith in
+    let q₁ : (v .one + 65536 * v .two) / 65536 ≡ v .two = omega arith in
+    let e₁ : v .two % 65536 ≡ v .two = omega arith in
+    rw (e₀, q₁, e₁)

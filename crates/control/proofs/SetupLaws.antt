@@ -1,5 +1,5 @@
 -- Setup's stores: the circuits, the other settings, and all of it together.
-use Prim.Native.Nat.{ℕ, zero, suc, _+_, _*_, _%_, _<_, _≤_}
+use Prim.Native.Nat.{ℕ, zero, suc, _+_, _-_, _*_, _^_, _%_, _<_, _≤_}
 use native.Mathlib.Omega.{arith}
 use mathlib.Core.Path.{_≡_, refl, ap, sym, _∙_}
 use mathlib.Core.Logic.{inl, inr, _≢_}
@@ -8,6 +8,7 @@ use lib.Dec.{ltb}
 use Rattle.basics.specs.Mask.{circuits}
 use Rattle.basics.proofs.BoolLaws.{by-test}
 use lib.ListN.{length, getD, set, take, length-set}
+use lib.Pow.{pow-mono}
 use lib.Seq.{ext-getD, getD-set-same, getD-set-other}
 use borrow.Author.Tests.{eq-eqb, le-ltb, ltb-true, ltb-false}
 use Rattle.settings.specs.declared.lengths.Lengths.{Lengths}
@@ -17,9 +18,12 @@ use Rattle.timers.specs.Events.{started, startHellos, Starts}
 use Rattle.timers.specs.declared.events.Start.{Start}
 use Rattle.settings.specs.declared.circuit.Circuit.{Circuit}
 use Rattle.settings.specs.declared.setup.Settings.{Settings}
-use Rattle.settings.specs.Settings.{circuitsOf, enabledLevels}
-use Rattle.control.specs.Words.{controlWords, sealPlace, countPlace, clockPlace, systemPlace, lengthsPlace, circuitsPlace, seal, sealed, lengthsIn, circuitIn, circuitAt, circuitsFrom, countOf, commonOf}
-use Rattle.control.specs.Common.{withTimers, presentOf, startOf, setupCommon, noCircuit}
+use Rattle.settings.specs.Settings.{circuitsOf}
+use Rattle.settings.specs.Serving.{servingWith, serving, levelsServed}
+use Rattle.settings.specs.declared.serving.Serving.{Serving}
+use Rattle.settings.proofs.ServingLaws.{serving-below, served-enabled}
+use Rattle.control.specs.Words.{controlWords, sealPlace, countPlace, clockPlace, systemPlace, lengthsPlace, servingPlace, circuitsPlace, seal, sealed, lengthsIn, servingIn, circuitIn, circuitAt, circuitsFrom, countOf, commonOf}
+use Rattle.control.specs.Common.{withTimers, startOf, setupCommon, noCircuit}
 use Rattle.control.proofs.CommonLaws.{length-circuits, circuits-at, Keeps, circuits-kept}
 use Rattle.control.specs.Setup.{Stores, SetsControl}
 
@@ -91,9 +95,32 @@ circuits-take ws i zero k le = refl
 circuits-take ws i (suc n) zero le = absurd (omega arith)
 circuits-take ws i (suc n) (suc k) le = ap (λ (l : List Circuit). circuitAt ws i ∷ l) (circuits-take ws (suc i) n k (omega arith))
 
+-- ---- which T1s the circuits have, from the last circuit to the first
+
+pub serving-none : (ws : List ℕ) (count : ℕ) → record { one = 0; two = 0 } ≡ serving (circuitsFrom ws count (count - count))
+unfolding serving circuitsFrom
+serving-none ws count = let z : count - count ≡ 0 = omega arith in rw z refl
+
+module _ (ws : List ℕ) (i count : ℕ) (found : Serving) (e : found ≡ serving (circuitsFrom ws i (count - i))) (p : 0 < i) where
+  pub serving-fits : i ≤ count → count ≤ circuits → (found .one < 2 ^ 14) × (found .two < 2 ^ 14)
+  serving-fits le h =
+      let n = length-circuits ws i (count - i) in
+      let k : 2 * length (circuitsFrom ws i (count - i)) ≤ 14 = omega (arith, n) in
+      let m : 2 ^ (2 * length (circuitsFrom ws i (count - i))) ≤ 2 ^ 14 = pow-mono k in
+      let b = serving-below (circuitsFrom ws i (count - i)) in
+      rw e (omega (arith, m, b .0), omega (arith, m, b .1))
+
+  pub serving-step : i ≤ count → (s : Circuit) → s ≡ circuitAt ws (i - 1)
+      → servingWith (s .kind) (s .levels) found ≡ serving (circuitsFrom ws (i - 1) (count - (i - 1)))
+  unfolding serving circuitsFrom
+  serving-step le s q =
+      let n : count - (i - 1) ≡ suc (count - i) = omega arith in
+      let j : suc (i - 1) ≡ i = omega arith in
+      rw (n, j, q, e) refl
+
 -- ---- the other settings
 
-module _ (ws : List ℕ) (system clock count w : ℕ) (len : length ws ≡ controlWords) where
+module _ (ws : List ℕ) (system clock count w x : ℕ) (len : length ws ≡ controlWords) where
   abbrev x1 : List ℕ
   x1 = set ws sealPlace seal
 
@@ -106,8 +133,11 @@ module _ (ws : List ℕ) (system clock count w : ℕ) (len : length ws ≡ contr
   abbrev x4 : List ℕ
   x4 = set x3 systemPlace system
 
-  abbrev pub set5 : List ℕ
-  set5 = set x4 lengthsPlace w
+  abbrev x5 : List ℕ
+  x5 = set x4 lengthsPlace w
+
+  abbrev pub set6 : List ℕ
+  set6 = set x5 servingPlace x
 
   far : (xs : List ℕ) (p q v : ℕ) → q < p → getD (set xs p v) q 0 ≡ getD xs q 0
   far xs p q v h = getD-set-other xs p q v 0 (λ (z : q ≡ p). omega arith)
@@ -115,65 +145,74 @@ module _ (ws : List ℕ) (system clock count w : ℕ) (len : length ws ≡ contr
   past : (xs : List ℕ) (p q v : ℕ) → p < q → getD (set xs p v) q 0 ≡ getD xs q 0
   past xs p q v h = getD-set-other xs p q v 0 (λ (z : q ≡ p). omega arith)
 
-  keeps : Keeps 0 5 ws set5
+  keeps : Keeps 0 (servingPlace + 1) ws set6
   keeps q (inl h) = absurd (omega arith)
   keeps q (inr h) =
-      past x4 lengthsPlace q w (omega arith) ∙ past x3 systemPlace q system (omega arith) ∙ past x2 clockPlace q clock (omega arith)
-      ∙ past x1 countPlace q count (omega arith) ∙ past ws sealPlace q seal (omega arith)
+      past x5 servingPlace q x (omega arith) ∙ past x4 lengthsPlace q w (omega arith) ∙ past x3 systemPlace q system (omega arith)
+      ∙ past x2 clockPlace q clock (omega arith) ∙ past x1 countPlace q count (omega arith) ∙ past ws sealPlace q seal (omega arith)
 
-  seal-there : getD set5 sealPlace 0 ≡ seal
+  -- the words ahead of the lengths
+  early : (q : ℕ) → q < lengthsPlace → getD set6 q 0 ≡ getD x4 q 0
+  early q h = far x5 servingPlace q x (omega arith) ∙ far x4 lengthsPlace q w h
+
+  seal-there : getD set6 sealPlace 0 ≡ seal
   seal-there =
-      far x4 lengthsPlace sealPlace w (omega arith) ∙ far x3 systemPlace sealPlace system (omega arith)
-      ∙ far x2 clockPlace sealPlace clock (omega arith) ∙ far x1 countPlace sealPlace count (omega arith)
-      ∙ getD-set-same ws sealPlace seal 0 (omega arith)
+      early sealPlace (omega arith) ∙ far x3 systemPlace sealPlace system (omega arith) ∙ far x2 clockPlace sealPlace clock (omega arith)
+      ∙ far x1 countPlace sealPlace count (omega arith) ∙ getD-set-same ws sealPlace seal 0 (omega arith)
 
-  count-there : getD set5 countPlace 0 ≡ count
+  count-there : getD set6 countPlace 0 ≡ count
   count-there =
-      far x4 lengthsPlace countPlace w (omega arith) ∙ far x3 systemPlace countPlace system (omega arith)
-      ∙ far x2 clockPlace countPlace clock (omega arith) ∙ getD-set-same x1 countPlace count 0 (simp length-set (omega arith))
+      early countPlace (omega arith) ∙ far x3 systemPlace countPlace system (omega arith) ∙ far x2 clockPlace countPlace clock (omega arith)
+      ∙ getD-set-same x1 countPlace count 0 (simp length-set (omega arith))
 
-  clock-there : getD set5 clockPlace 0 ≡ clock
+  clock-there : getD set6 clockPlace 0 ≡ clock
   clock-there =
-      far x4 lengthsPlace clockPlace w (omega arith) ∙ far x3 systemPlace clockPlace system (omega arith)
+      early clockPlace (omega arith) ∙ far x3 systemPlace clockPlace system (omega arith)
       ∙ getD-set-same x2 clockPlace clock 0 (simp length-set (omega arith))
 
-  system-there : getD set5 systemPlace 0 ≡ system
-  system-there = far x4 lengthsPlace systemPlace w (omega arith) ∙ getD-set-same x3 systemPlace system 0 (simp length-set (omega arith))
+  system-there : getD set6 systemPlace 0 ≡ system
+  system-there = early systemPlace (omega arith) ∙ getD-set-same x3 systemPlace system 0 (simp length-set (omega arith))
 
-  counted : count ≤ circuits → countOf set5 ≡ count
+  lengths-there : getD set6 lengthsPlace 0 ≡ w
+  lengths-there = far x5 servingPlace lengthsPlace x (omega arith) ∙ getD-set-same x4 lengthsPlace w 0 (simp length-set (omega arith))
+
+  counted : count ≤ circuits → countOf set6 ≡ count
   unfolding countOf sealed
-  counted h =
-      rw (eq-eqb (getD set5 sealPlace 0) seal seal-there, count-there, le-ltb circuits count h) refl
+  counted h = rw (eq-eqb (getD set6 sealPlace 0) seal seal-there, count-there, le-ltb circuits count h) refl
 
-  pub settings-stored : (lengths : Lengths) → lengthsIn w ≡ lengths → clock < 4294967296 → count ≤ circuits → Stores system lengths clock count ws set5
+  pub settings-stored : (lengths : Lengths) (v : Serving) → lengthsIn w ≡ lengths → servingIn x ≡ v → clock < 4294967296 → count ≤ circuits
+      → Stores system lengths clock count v ws set6
   unfolding commonOf
-  settings-stored lengths e hc hn =
+  settings-stored lengths v e g hc hn =
       let z : clock % 4294967296 ≡ clock = omega arith in
       record {
         sealed = seal-there;
         system = system-there;
-        lengths = ap lengthsIn (getD-set-same x4 lengthsPlace w 0 (simp length-set (omega arith))) ∙ e;
+        lengths = ap lengthsIn lengths-there ∙ e;
         clock = ap (λ (n : ℕ). n % 4294967296) clock-there ∙ z;
-        circuits = ap (circuitsFrom set5 0) (counted hn) ∙ circuits-kept 0 5 ws set5 keeps 0 count (omega arith);
+        serving = ap servingIn (getD-set-same x5 servingPlace x 0 (simp length-set (omega arith))) ∙ g;
+        circuits = ap (circuitsFrom set6 0) (counted hn) ∙ circuits-kept 0 (servingPlace + 1) ws set6 keeps 0 count (omega arith);
       }
 
 -- ---- all of it
 
 module _ (s : Settings) (le : s .count ≤ circuits) (ws mid : List ℕ) (start : Start) where
-  pub all-set : circuitsFrom ws 0 circuits ≡ s .circuits → Stores (s .system) (s .lengths) (s .clock) (s .count) ws mid
-      → start .mode ≡ s .mode → start .lengths ≡ s .lengths → start .clock ≡ s .clock → start .present ≡ presentOf (s .count)
-      → start .levels ≡ enabledLevels (commonOf mid .circuits)
+  pub all-set : circuitsFrom ws 0 circuits ≡ s .circuits → Stores (s .system) (s .lengths) (s .clock) (s .count) (start .serving) ws mid
+      → start .mode ≡ s .mode → start .lengths ≡ s .lengths → start .clock ≡ s .clock → start .serving ≡ serving (circuitsFrom ws 0 (s .count))
+      → start .levels ≡ levelsServed (start .serving)
       → (withTimers (started start) (commonOf mid) ≡ setupCommon s) × (start ≡ startOf s)
   unfolding setupCommon
   all-set c m e₁ e₂ e₃ e₄ e₅ =
-      let k : commonOf mid .circuits ≡ circuitsOf s = m .circuits ∙ circuits-take ws 0 (s .count) circuits le ∙ ap (take (s .count)) c in
-      let q : start ≡ startOf s = begun start (startOf s) e₁ e₂ e₃ e₄ (e₅ ∙ ap enabledLevels k) in
+      let j : circuitsFrom ws 0 (s .count) ≡ circuitsOf s = circuits-take ws 0 (s .count) circuits le ∙ ap (take (s .count)) c in
+      let k : commonOf mid .circuits ≡ circuitsOf s = m .circuits ∙ j in
+      let v : start .serving ≡ serving (circuitsOf s) = e₄ ∙ ap serving j in
+      let q : start ≡ startOf s = begun start (startOf s) e₁ e₂ e₃ v (e₅ ∙ ap levelsServed v ∙ served-enabled (circuitsOf s)) in
       (cc (m .system, m .lengths, m .clock, k, ap started q), q)
     where
-      begun : (a b : Start) → a .mode ≡ b .mode → a .lengths ≡ b .lengths → a .clock ≡ b .clock → a .present ≡ b .present → a .levels ≡ b .levels → a ≡ b
+      begun : (a b : Start) → a .mode ≡ b .mode → a .lengths ≡ b .lengths → a .clock ≡ b .clock → a .serving ≡ b .serving → a .levels ≡ b .levels → a ≡ b
       begun a b p q r t u =
-          let x : _≡_ {A = Start} (record { mode = a .mode; lengths = a .lengths; clock = a .clock; present = a .present; levels = a .levels })
-          (record { mode = b .mode; lengths = b .lengths; clock = b .clock; present = b .present; levels = b .levels }) = rw (p, q, r, t, u) refl in x
+          let x : _≡_ {A = Start} (record { mode = a .mode; lengths = a .lengths; clock = a .clock; serving = a .serving; levels = a .levels })
+          (record { mode = b .mode; lengths = b .lengths; clock = b .clock; serving = b .serving; levels = b .levels }) = rw (p, q, r, t, u) refl in x
 
   pub sets-up : (u : List ℕ) (after : Timers) (hs : Hellos) → (withTimers (started start) (commonOf mid) ≡ setupCommon s) × (start ≡ startOf s)
       → commonOf u ≡ withTimers after (commonOf mid) → Starts start after hs → SetsControl s u hs

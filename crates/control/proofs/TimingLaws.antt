@@ -10,10 +10,10 @@ use lib.ListN.{length, getD}
 use borrow.Author.Tests.{eqb-true}
 use borrow.Rule.Slice.PartMut.{putMid}
 use Rattle.basics.proofs.BoolLaws.{by-test}
-use Rattle.basics.specs.declared.levels.Levels.{Levels}
 use Rattle.timer_parts.specs.declared.heard.Heard.{Heard}
 use Rattle.timer_parts.specs.declared.t1.Freed.the-variants.{Kept}
 use Rattle.settings.specs.declared.lengths.Lengths.{Lengths}
+use Rattle.settings.specs.declared.serving.Serving.{Serving}
 use Rattle.timers.specs.Timers.{Timers, settled, toT3, heardIn}
 use Rattle.timers.specs.Memory.{wordCount, timersOf, timersAt}
 use Rattle.settings.specs.Mode.{isRunning}
@@ -28,9 +28,9 @@ use Rattle.timers.specs.declared.outcome.TimerOutcome.{TimerOutcome}
 use Rattle.timers.specs.declared.outcome.TimerOutcome.the-variants.{Idle}
 use Rattle.timers.proofs.T1sLaws.{bits-none}
 use Rattle.timers.proofs.TimersLaws.{settled-on, ordered-on, hellos-on, settled-off, ordered-off, hellos-off, heard-off}
-use Rattle.control.specs.Words.{controlWords, sealPlace, entriesPlace, circuitsPlace, headPlace, seal, sealed, headOf, entriesOf, commonOf, entriesEnd}
+use Rattle.control.specs.Words.{controlWords, sealPlace, entriesPlace, circuitsPlace, headPlace, seal, sealed, headOf, servingOf, entriesOf, commonOf, entriesEnd}
 use Rattle.control.specs.Common.{Common, withClock, withTimers}
-use Rattle.control.proofs.CommonLaws.{Keeps, timers-changed}
+use Rattle.control.proofs.CommonLaws.{Keeps, serving-kept, timers-changed}
 use Rattle.control.proofs.HeadLaws.{mode-at}
 use Rattle.control.specs.Timing.{On, CommonSettles, CommonHears, CommonTicksOn, CommonTicks}
 use Rattle.basics.proofs.PartLaws.{length-back, part-same, outside}
@@ -48,9 +48,9 @@ on-sealed ws m =
 
 -- ---- the head, and the entries put back
 
-pub timers-now : (ws : List ℕ) (h : Head) → h ≡ headOf ws → timersAt h (entriesOf ws) ≡ commonOf ws .timers
+pub timers-now : (ws : List ℕ) (v : Serving) (h : Head) → v ≡ servingOf ws → h ≡ headOf ws → timersAt v h (entriesOf ws) ≡ commonOf ws .timers
 unfolding commonOf
-timers-now ws h e = rw e refl
+timers-now ws v h g e = rw (g, e) refl
 
 pub on-head : (ws : List ℕ) (h : Head) → h ≡ headOf ws → On ws → isRunning (h .mode) ≡ false
 unfolding commonOf timersOf
@@ -70,11 +70,13 @@ module _ (ws t : List ℕ) (len : length ws ≡ controlWords) (lt : length t ≡
   seal-put m = put-keeps sealPlace (inl (omega arith)) ∙ m
 
   -- then the head is stored
-  pub put-stored : (u : List ℕ) (h : Head) → commonOf u ≡ withTimers (timersAt h (entriesOf back)) (commonOf back)
-      → commonOf u ≡ withTimers (timersAt h t) (commonOf ws)
-  put-stored u h p =
-      p ∙ ap (λ (c : Common). withTimers (timersAt h (entriesOf back)) c) (timers-changed ws back wider)
-      ∙ ap (λ (l : List ℕ). withTimers (timersAt h l) (commonOf ws)) (part-same entriesPlace entriesEnd ws t (omega arith) (omega arith) lt)
+  pub put-stored : (u : List ℕ) (v : Serving) (h : Head) → v ≡ servingOf ws
+      → commonOf u ≡ withTimers (timersAt (servingOf back) h (entriesOf back)) (commonOf back) → commonOf u ≡ withTimers (timersAt v h t) (commonOf ws)
+  put-stored u v h g p =
+      p ∙ ap (λ (c : Common). withTimers (timersAt (servingOf back) h (entriesOf back)) c) (timers-changed ws back wider)
+      ∙ ap (λ (x : Serving). withTimers (timersAt x h (entriesOf back)) (commonOf ws))
+      (serving-kept entriesPlace entriesEnd ws back put-keeps (inl (omega arith)) ∙ sym g)
+      ∙ ap (λ (l : List ℕ). withTimers (timersAt v h l) (commonOf ws)) (part-same entriesPlace entriesEnd ws t (omega arith) (omega arith) lt)
     where
       wider : Keeps headPlace circuitsPlace ws back
       wider q (inl h) = put-keeps q (inl (omega arith))
@@ -91,28 +93,28 @@ module _ (ws u : List ℕ) (after : Timers) (p : commonOf u ≡ withTimers after
         kept = λ r. absurd (true≢false (sym r ∙ m));
       }
 
-  module _ (h : Head) (e : h ≡ headOf ws) where
-    pub settles-here : (f : Timers → Timers) (o : TimerOutcome) → Closes f (timersAt h (entriesOf ws)) after o → CommonSettles f ws u o
-    settles-here f o s = settles-on f o (subst (λ (t : Timers). Closes f t after o) (timers-now ws h e) s)
+  module _ (v : Serving) (h : Head) (g : v ≡ servingOf ws) (e : h ≡ headOf ws) where
+    pub settles-here : (f : Timers → Timers) (o : TimerOutcome) → Closes f (timersAt v h (entriesOf ws)) after o → CommonSettles f ws u o
+    settles-here f o s = settles-on f o (subst (λ (t : Timers). Closes f t after o) (timers-now ws v h g e) s)
 
-    pub hears-here : (lengths : Lengths) (clock i : ℕ) (l : Levels) (rose : Bool) (d : Heard) (o : HeardOrders) → lengths ≡ commonOf ws .lengths
-        → clock ≡ commonOf ws .clock → Hears lengths clock i l rose d (timersAt h (entriesOf ws)) after o → CommonHears i l rose d ws u o
-    hears-here lengths clock i l rose d o j k s =
-        let y = subst (λ (n : ℕ). Hears lengths n i l rose d (timersAt h (entriesOf ws)) after o) k s in
-        let x = subst (λ (t : Timers). Hears (commonOf ws .lengths) (commonOf ws .clock) i l rose d t after o) (timers-now ws h e)
-        (subst (λ (n : Lengths). Hears n (commonOf ws .clock) i l rose d (timersAt h (entriesOf ws)) after o) j y) in
+    pub hears-here : (lengths : Lengths) (clock i : ℕ) (rose : Bool) (d : Heard) (o : HeardOrders) → lengths ≡ commonOf ws .lengths
+        → clock ≡ commonOf ws .clock → Hears lengths clock i rose d (timersAt v h (entriesOf ws)) after o → CommonHears i rose d ws u o
+    hears-here lengths clock i rose d o j k s =
+        let y = subst (λ (n : ℕ). Hears lengths n i rose d (timersAt v h (entriesOf ws)) after o) k s in
+        let x = subst (λ (t : Timers). Hears (commonOf ws .lengths) (commonOf ws .clock) i rose d t after o) (timers-now ws v h g e)
+        (subst (λ (n : Lengths). Hears n (commonOf ws .clock) i rose d (timersAt v h (entriesOf ws)) after o) j y) in
         record {
           common = p ∙ ap (λ (t : Timers). withTimers t (commonOf ws))
-              (x .timers ∙ settled-on (commonOf ws .timers) m (heardIn (commonOf ws .lengths) (commonOf ws .clock) i l rose d));
+              (x .timers ∙ settled-on (commonOf ws .timers) m (heardIn (commonOf ws .lengths) (commonOf ws .clock) i rose d));
           orders = x .orders;
           kept = λ r. absurd (true≢false (sym r ∙ m));
         }
 
     pub ticks-here : (lengths : Lengths) (clock : ℕ) (o : TimerOutcome) (hs : Hellos) → lengths ≡ commonOf ws .lengths
-        → Ticks lengths clock (timersAt h (entriesOf ws)) after o hs → CommonTicksOn clock ws u o hs
+        → Ticks lengths clock (timersAt v h (entriesOf ws)) after o hs → CommonTicksOn clock ws u o hs
     ticks-here lengths clock o hs k s =
-        let x = subst (λ (t : Timers). Ticks (commonOf ws .lengths) clock t after o hs) (timers-now ws h e)
-        (subst (λ (n : Lengths). Ticks n clock (timersAt h (entriesOf ws)) after o hs) k s) in
+        let x = subst (λ (t : Timers). Ticks (commonOf ws .lengths) clock t after o hs) (timers-now ws v h g e)
+        (subst (λ (n : Lengths). Ticks n clock (timersAt v h (entriesOf ws)) after o hs) k s) in
         record {
           settles = settles-on (toT3 (commonOf ws .lengths) clock) o (x .closes);
           hellos = x .hellos ∙ hellos-on (commonOf ws .timers) m (commonOf ws .lengths) clock;
@@ -128,20 +130,20 @@ module _ (ws : List ℕ) (m : isRunning (commonOf ws .timers .mode) ≡ true) wh
         kept = λ r. refl;
       }
 
-  pub hears-still : (i : ℕ) (l : Levels) (rose : Bool) (d : Heard)
-      → CommonHears i l rose d ws ws (record { outcome = Idle; freed = Kept; hello = Nothing })
-  hears-still i l rose d =
+  pub hears-still : (i : ℕ) (rose : Bool) (d : Heard)
+      → CommonHears i rose d ws ws (record { outcome = Idle; freed = Kept; hello = Nothing })
+  hears-still i rose d =
       record {
-        common = settles-still (heardIn (commonOf ws .lengths) (commonOf ws .clock) i l rose d) .common;
-        orders = heard-off (commonOf ws .timers) m (commonOf ws .lengths) (commonOf ws .clock) i l rose d;
+        common = settles-still (heardIn (commonOf ws .lengths) (commonOf ws .clock) i rose d) .common;
+        orders = heard-off (commonOf ws .timers) m (commonOf ws .lengths) (commonOf ws .clock) i rose d;
         kept = λ r. refl;
       }
 
-  pub ticks-still : (clock : ℕ) → CommonTicksOn clock ws ws Idle (record { circuits = helloBits 0; flags = 0 })
+  pub ticks-still : (clock : ℕ) → CommonTicksOn clock ws ws Idle (record { t1s = helloBits 0; flags = 0 })
   ticks-still clock =
       record {
         settles = settles-still (toT3 (commonOf ws .lengths) clock);
-        hellos = ap (λ (l : List Bool). record { circuits = l; flags = 0 }) bits-none ∙ hellos-off (commonOf ws .timers) m (commonOf ws .lengths) clock;
+        hellos = ap (λ (l : List Bool). record { t1s = l; flags = 0 }) bits-none ∙ hellos-off (commonOf ws .timers) m (commonOf ws .lengths) clock;
       }
 
 -- the clock is moved first

@@ -1,5 +1,5 @@
 -- What is not one circuit's own records (document 01, "What the gateway holds"): the settings, the clock and the timers.
-use Prim.Native.Nat.{ℕ, zero, suc, _-_, _^_, _<_, _≤_}
+use Prim.Native.Nat.{ℕ, zero, suc, _<_, _≤_}
 use mathlib.Core.Bool.{false, cond}
 use mathlib.Core.Path.{_≡_}
 use mathlib.Core.List.{List}
@@ -14,6 +14,7 @@ use Rattle.timers.specs.declared.events.Start.{Start}
 use Rattle.settings.specs.declared.circuit.Circuit.{Circuit}
 use Rattle.settings.specs.declared.setup.Settings.{Settings}
 use Rattle.settings.specs.Settings.{circuitsOf, enabledLevels}
+use Rattle.settings.specs.Serving.{serving}
 use Rattle.settings.specs.declared.circuit.Chosen.{Chosen}
 use Rattle.settings.specs.declared.circuit.Chosen.the-variants.{Known, Unknown}
 
@@ -50,10 +51,6 @@ pub record Chooses (c : Common) (n : ℕ) (r : Chosen) : Type 0 where
 
 -- ---- setup
 
--- the mask of the first n circuits
-abbrev pub presentOf : ℕ → ℕ
-presentOf n = 2 ^ n - 1
-
 -- what setup gives to the timers
 abbrev pub startOf : Settings → Start
 startOf s =
@@ -61,7 +58,7 @@ startOf s =
       mode = s .mode;
       lengths = s .lengths;
       clock = s .clock;
-      present = presentOf (s .count);
+      serving = serving (circuitsOf s);
       levels = enabledLevels (circuitsOf s);
     }
 

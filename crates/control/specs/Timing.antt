@@ -1,10 +1,9 @@
 -- What each call says of the control words: the common part that it leaves, and what it orders (document 01, "Timers while
--- Restarting"; document 02, W-201).
+-- Restarting"; document 02, W-201 and W-202).
 use Prim.Native.Nat.{ℕ}
 use mathlib.Core.Bool.{Bool, true, false}
 use mathlib.Core.Path.{_≡_}
 use mathlib.Core.List.{List}
-use Rattle.basics.specs.declared.levels.Levels.{Levels}
 use Rattle.timer_parts.specs.declared.heard.Heard.{Heard}
 use Rattle.timers.specs.Timers.{Timers, settled, toT3, ticked, heard}
 use Rattle.timers.specs.Hellos.{Hellos}
@@ -25,11 +24,11 @@ pub record CommonSettles (f : Timers → Timers) (ws ws′ : List ℕ) (o : Time
   pub outcome : o ≡ ordered f (commonOf ws .timers)
   pub kept : isRunning (commonOf ws .timers .mode) ≡ true → ws′ ≡ ws
 
--- an accepted hello on circuit i, which has the levels l, at the held clock
-pub record CommonHears (i : ℕ) (l : Levels) (rose : Bool) (d : Heard) (ws ws′ : List ℕ) (o : HeardOrders) : Type 0 where
+-- an accepted hello to the T1 in place i, at the held clock
+pub record CommonHears (i : ℕ) (rose : Bool) (d : Heard) (ws ws′ : List ℕ) (o : HeardOrders) : Type 0 where
   pub common : commonOf ws′
-      ≡ withTimers (heard (commonOf ws .lengths) (commonOf ws .clock) i l rose d (commonOf ws .timers)) (commonOf ws)
-  pub orders : o ≡ heardOrders (commonOf ws .lengths) (commonOf ws .clock) i l rose d (commonOf ws .timers)
+      ≡ withTimers (heard (commonOf ws .lengths) (commonOf ws .clock) i rose d (commonOf ws .timers)) (commonOf ws)
+  pub orders : o ≡ heardOrders (commonOf ws .lengths) (commonOf ws .clock) i rose d (commonOf ws .timers)
   pub kept : isRunning (commonOf ws .timers .mode) ≡ true → ws′ ≡ ws
 
 -- a tick's timers, where the clock is moved already

@@ -8,6 +8,7 @@ use lib.ListN.{getD, take, drop}
 use Rattle.basics.specs.declared.kind.CircuitKind.{CircuitKind}
 use Rattle.basics.specs.declared.kind.CircuitKind.the-variants.{Lan, P2p}
 use Rattle.settings.specs.declared.lengths.Lengths.{Lengths}
+use Rattle.settings.specs.declared.serving.Serving.{Serving}
 use Rattle.timer_parts.specs.declared.t2.Timer.{Timer}
 use Rattle.timer_parts.specs.declared.t2.Timer.the-variants.{Stopped, Until}
 use Rattle.timer_parts.specs.declared.t2.T2.{T2}
@@ -46,6 +47,10 @@ lengthsPlace = 4
 abbrev pub headPlace : ℕ
 headPlace = 5
 
+-- which T1s there are
+abbrev pub servingPlace : ℕ
+servingPlace = 9
+
 -- the T1 entries, as the timers' words
 abbrev pub entriesPlace : ℕ
 entriesPlace = 16
@@ -59,8 +64,9 @@ circuitsPlace = 64
 
 -- ---- the seal
 
+-- the octets ISISGR02; it changes whenever these words are laid out anew, so that memory of another layout counts as never set up
 abbrev pub seal : ℕ
-seal = 5283647409863405617
+seal = 5283647409863405618
 
 -- a word of memory that was set up; in any other memory it counts as 0
 unfoldable pub sealed : List ℕ → ℕ → ℕ
@@ -122,7 +128,7 @@ unfoldable pub headIn : ℕ → ℕ → ℕ → ℕ → Head
 headIn w a b c =
     record {
       mode = modeIn (w % 4);
-      mask = w / 256 % 256;
+      mask = w / 256 % 65536;
       t2s = record { one = t2In (w / 4 % 2) (w / 8 % 2) a; two = t2In (w / 16 % 2) (w / 32 % 2) b };
       t3 = t3In (w / 64 % 4) c;
     }
@@ -130,6 +136,13 @@ headIn w a b c =
 -- in memory that was never set up the mode is Running and nothing runs
 unfoldable pub headOf : List ℕ → Head
 headOf ws = headIn (sealed ws headPlace) (getD ws (headPlace + 1) 0) (getD ws (headPlace + 2) 0) (getD ws (headPlace + 3) 0)
+
+-- which T1s there are: a mask for each level
+unfoldable pub servingIn : ℕ → Serving
+servingIn w = record { one = w % 65536; two = w / 65536 % 65536 }
+
+abbrev pub servingOf : List ℕ → Serving
+servingOf ws = servingIn (getD ws servingPlace 0)
 
 abbrev pub entriesOf : List ℕ → List ℕ
 entriesOf ws = take wordCount (drop entriesPlace ws)
@@ -154,5 +167,5 @@ commonOf ws =
       lengths = lengthsIn (getD ws lengthsPlace 0);
       circuits = circuitsFrom ws 0 (countOf ws);
       clock = getD ws clockPlace 0 % 4294967296;
-      timers = timersAt (headOf ws) (entriesOf ws);
+      timers = timersAt (servingOf ws) (headOf ws) (entriesOf ws);
     }

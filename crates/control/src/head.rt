@@ -1,6 +1,6 @@
 // The timers' head in its words (house).
 //
-//   bits   0-1   2       3         4       5         6-7  8-15  16-63
+//   bits   0-1   2       3         4       5         6-7  8-23  24-63
 //          mode  T2 of level 1     T2 of level 2     T3   mask  0
 //                runs    noticed   runs    noticed
 //
@@ -18,7 +18,7 @@ ghost use mathlib.Core.Path.{_≡_};
 ghost use Prim.Native.Nat.{_<_};
 ghost use lib.ListN.{length, getD};
 ghost use Rattle.timers.specs.Memory.{timersAt};
-ghost use Rattle.control.specs.Words.{controlWords, sealPlace, seal, modeIn, timerIn, t2In, t3In, headIn, headOf, entriesOf, timerDeadline, t3Deadline, commonOf};
+ghost use Rattle.control.specs.Words.{controlWords, sealPlace, seal, modeIn, timerIn, t2In, t3In, headIn, headOf, servingOf, entriesOf, timerDeadline, t3Deadline, commonOf};
 ghost use Rattle.control.specs.Common.{withTimers};
 
 fn mode_in(d: u64) -> Mode
@@ -74,7 +74,7 @@ fn head_in(w: u64, a: u64, b: u64, e: u64) -> Head
     let t2s = T2s { one, two };
     Head {
         mode,
-        mask: (w / 256 % 256) as u8,
+        mask: (w / 256 % 65536) as u16,
         t2s,
         t3,
     }
@@ -174,7 +174,7 @@ fn head_word(h: Head) -> u64
 // In memory that was set up.
 pub fn store_head(words: &mut [u64], h: Head)
     requires { ⌜ (length (now words) ≡ controlWords) × (getD (now words) sealPlace 0 ≡ seal) ⌝ }
-    ensures { λ _. ⌜ commonOf (now (words .exit)) ≡ withTimers (timersAt h (entriesOf (now (words .entry)))) (commonOf (now (words .entry))) ⌝ }
+    ensures { λ _. ⌜ commonOf (now (words .exit)) ≡ withTimers (timersAt (servingOf (now (words .entry))) h (entriesOf (now (words .entry)))) (commonOf (now (words .entry))) ⌝ }
 {
     let w = head_word(h);
     let t2s = h.t2s;

@@ -3,9 +3,10 @@ use basics::bits::digit;
 use basics::kind::CircuitKind;
 use settings::circuit::Circuit;
 use settings::lengths::Lengths;
+use settings::serving::Serving;
 ghost use mathlib.Core.Path.{_≡_};
 ghost use Prim.Native.Nat.{_<_};
-ghost use Rattle.control.specs.Words.{kindIn, circuitIn, lengthsIn};
+ghost use Rattle.control.specs.Words.{kindIn, circuitIn, lengthsIn, servingIn};
 
 fn kind_digit(kind: CircuitKind) -> u64
     ensures { λ r. ⌜ (kindIn r ≡ kind) × (r < 2) ⌝ }
@@ -34,6 +35,13 @@ pub fn circuit_word(s: Circuit) -> u64
         + 256 * (priority as u64)
         + 65536 * (hold as u64)
         + 4294967296 * (metric as u64)
+}
+
+// The word of the T1s that there are.
+pub fn serving_word(v: Serving) -> u64
+    ensures { λ r. ⌜ servingIn r ≡ v ⌝ }
+{
+    v.one as u64 + 65536 * (v.two as u64)
 }
 
 // The word of the lengths.

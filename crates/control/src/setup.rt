@@ -2,6 +2,7 @@
 use crate::head::store_head;
 use crate::pack::circuit_word;
 use crate::pack::lengths_word;
+use crate::pack::serving_word;
 use crate::words::CIRCUITS_AT;
 use crate::words::CLOCK_AT;
 use crate::words::COUNT_AT;
@@ -10,11 +11,14 @@ use crate::words::ENTRIES_END;
 use crate::words::LENGTHS_AT;
 use crate::words::SEAL;
 use crate::words::SEAL_AT;
+use crate::words::SERVING_AT;
 use crate::words::SYSTEM_AT;
-use crate::words::levels_of;
+use crate::words::serving_for;
 use settings::circuit::Circuit;
 use settings::lengths::Lengths;
 use settings::mode::Mode;
+use settings::serving::Serving;
+use settings::serving::levels_served;
 use timers::events::Start;
 use timers::events::start_timers;
 use timers::hellos::HelloOrders;
@@ -25,7 +29,6 @@ ghost use lib.ListN.{length};
 ghost use Rattle.timers.specs.Hellos.{hellosOf};
 ghost use Rattle.basics.specs.Mask.{circuits};
 ghost use Rattle.control.specs.Words.{controlWords, circuitAt, circuitsFrom};
-ghost use Rattle.control.specs.Common.{presentOf};
 ghost use Rattle.control.specs.Setup.{settingsOn, Stores, SetsControl};
 
 // Circuit i, from 0.
@@ -41,24 +44,25 @@ pub fn store_circuit(words: &mut [u64], i: usize, s: Circuit)
     words[CIRCUITS_AT + 3 * i + 2] = id as u64;
 }
 
-fn store_settings(words: &mut [u64], system: u64, lengths: Lengths, clock: u32, count: u8)
+fn store_settings(
+    words: &mut [u64],
+    system: u64,
+    lengths: Lengths,
+    clock: u32,
+    count: u8,
+    v: Serving,
+)
     requires { ⌜ (length (now words) ≡ controlWords) × (count ≤ circuits) ⌝ }
-    ensures { λ _. ⌜ Stores system lengths clock count (now (words .entry)) (now (words .exit)) ⌝ }
+    ensures { λ _. ⌜ Stores system lengths clock count v (now (words .entry)) (now (words .exit)) ⌝ }
 {
     let w = lengths_word(lengths);
+    let x = serving_word(v);
     words[SEAL_AT] = SEAL;
     words[COUNT_AT] = count as u64;
     words[CLOCK_AT] = clock as u64;
     words[SYSTEM_AT] = system;
     words[LENGTHS_AT] = w;
-}
-
-// The mask of the first circuits.
-fn present_of(count: u8) -> u8
-    requires { ⌜ count ≤ circuits ⌝ }
-    ensures { λ r. ⌜ r ≡ presentOf count ⌝ }
-{
-    ((1u16 << count) - 1) as u8
+    words[SERVING_AT] = x;
 }
 
 // The settings but for the circuits.
@@ -80,14 +84,14 @@ pub fn begin(words: &mut [u64], s: Basis) -> HelloOrders
     let clock = s.clock;
     let count = s.count;
     let system = s.system;
-    store_settings(words, system, lengths, clock, count);
-    let levels = levels_of(words);
-    let present = present_of(count);
+    let serving = serving_for(words, count as usize);
+    let levels = levels_served(serving);
+    store_settings(words, system, lengths, clock, count, serving);
     let start = Start {
         mode,
         lengths,
         clock,
-        present,
+        serving,
         levels,
     };
     let x = start_timers(&mut words[ENTRIES_AT..ENTRIES_END], start);

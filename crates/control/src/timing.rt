@@ -1,4 +1,4 @@
-// The calls on the timers, over the control words. Circuits count from 0 here. In the mode Running only a tick's clock is written. Where a
+// The calls on the timers, over the control words. T1s' places count from 0. In the mode Running only a tick's clock is written. Where a
 // refusal or a record goes by the mode too, the caller asks for it.
 use crate::head::load_head;
 use crate::head::mode_of;
@@ -8,8 +8,9 @@ use crate::words::ENTRIES_END;
 use crate::words::clock_of;
 use crate::words::lengths_of;
 use crate::words::move_clock;
+use crate::words::serving_of;
 use basics::levels::Levels;
-use basics::mask::Lowest;
+use basics::places::Lowest;
 use restart_tlv::flags::Flags;
 use settings::mode::is_running;
 use timer_parts::heard::Heard;
@@ -22,9 +23,9 @@ ghost use mathlib.Core.Path.{_≡_};
 ghost use Prim.Native.Nat.{_<_};
 ghost use lib.ListN.{length, getD};
 ghost use Rattle.timers.specs.Hellos.{hellosOf};
-ghost use Rattle.basics.specs.Mask.{circuits};
+ghost use Rattle.basics.specs.Mask.{places};
 ghost use Rattle.timer_parts.specs.T1.{helloFlags};
-ghost use Rattle.timers.specs.Timers.{noT1, csnpIn, noticeT2s, countRuns, firstRuns};
+ghost use Rattle.timers.specs.Timers.{noT1, csnpIn, noticeT2s, countRuns, lowestRuns};
 ghost use Rattle.control.specs.Words.{controlWords, commonOf};
 ghost use Rattle.control.specs.Timing.{On, CommonSettles, CommonHears, CommonTicksOn, CommonTicks};
 
@@ -33,20 +34,21 @@ pub struct TickOrders {
     pub outcome: TimerOutcome,
 }
 
-fn hear_in(words: &mut [u64], i: usize, l: Levels, rose: bool, d: Heard) -> HeardOrders
-    requires { ⌜ (length (now words) ≡ controlWords) × (i < circuits) × On (now words) ⌝ }
-    ensures { λ r. ⌜ CommonHears i l rose d (now (words .entry)) (now (words .exit)) r ⌝ }
+fn hear_in(words: &mut [u64], i: usize, rose: bool, d: Heard) -> HeardOrders
+    requires { ⌜ (length (now words) ≡ controlWords) × (i < places) × On (now words) ⌝ }
+    ensures { λ r. ⌜ CommonHears i rose d (now (words .entry)) (now (words .exit)) r ⌝ }
 {
     let h = load_head(words);
+    let v = serving_of(words);
     let s = lengths_of(words);
     let clock = clock_of(words);
     let x = timers::events::hear_hello(
         &mut words[ENTRIES_AT..ENTRIES_END],
         h,
+        v,
         s,
         clock,
         i,
-        l,
         rose,
         d,
     );
@@ -56,10 +58,10 @@ fn hear_in(words: &mut [u64], i: usize, l: Levels, rose: bool, d: Heard) -> Hear
     orders
 }
 
-// An accepted hello on circuit i, which has the levels `l`, at the held clock and in the held mode; `rose`: its record becomes UP.
-pub fn hear(words: &mut [u64], i: usize, l: Levels, rose: bool, d: Heard) -> HeardOrders
-    requires { ⌜ (length (now words) ≡ controlWords) × (i < circuits) ⌝ }
-    ensures { λ r. ⌜ CommonHears i l rose d (now (words .entry)) (now (words .exit)) r ⌝ }
+// An accepted hello to the T1 in place i, at the held clock and in the held mode; `rose`: its record becomes UP.
+pub fn hear(words: &mut [u64], i: usize, rose: bool, d: Heard) -> HeardOrders
+    requires { ⌜ (length (now words) ≡ controlWords) × (i < places) ⌝ }
+    ensures { λ r. ⌜ CommonHears i rose d (now (words .entry)) (now (words .exit)) r ⌝ }
 {
     if is_running(mode_of(words)) {
         return HeardOrders {
@@ -68,16 +70,17 @@ pub fn hear(words: &mut [u64], i: usize, l: Levels, rose: bool, d: Heard) -> Hea
             hello: HelloOrder::Nothing,
         };
     }
-    hear_in(words, i, l, rose, d)
+    hear_in(words, i, rose, d)
 }
 
-// The CSNP sets of the levels `n` are complete on circuit i, which has the levels `l`.
-pub fn notice_csnp(words: &mut [u64], i: usize, l: Levels, n: Levels) -> TimerOutcome
-    requires { ⌜ (length (now words) ≡ controlWords) × (i < circuits) × On (now words) ⌝ }
-    ensures { λ r. ⌜ CommonSettles (csnpIn i l n) (now (words .entry)) (now (words .exit)) r ⌝ }
+// The CSNP sets of the levels `n` are complete, for the T1 in place i.
+pub fn notice_csnp(words: &mut [u64], i: usize, n: Levels) -> TimerOutcome
+    requires { ⌜ (length (now words) ≡ controlWords) × (i < places) × On (now words) ⌝ }
+    ensures { λ r. ⌜ CommonSettles (csnpIn i n) (now (words .entry)) (now (words .exit)) r ⌝ }
 {
     let h = load_head(words);
-    let x = timers::events::notice_csnp(&mut words[ENTRIES_AT..ENTRIES_END], h, i, l, n);
+    let v = serving_of(words);
+    let x = timers::events::notice_csnp(&mut words[ENTRIES_AT..ENTRIES_END], h, v, i, n);
     let head = x.head;
     let outcome = x.outcome;
     store_head(words, head);
@@ -90,7 +93,8 @@ pub fn notice_database(words: &mut [u64], n: Levels) -> TimerOutcome
     ensures { λ r. ⌜ CommonSettles (noticeT2s n) (now (words .entry)) (now (words .exit)) r ⌝ }
 {
     let h = load_head(words);
-    let x = timers::events::notice_database(h, n);
+    let v = serving_of(words);
+    let x = timers::events::notice_database(h, v, n);
     let head = x.head;
     let outcome = x.outcome;
     store_head(words, head);
@@ -103,7 +107,8 @@ fn tick_in(words: &mut [u64], clock: u32) -> TickOrders
 {
     let h = load_head(words);
     let s = lengths_of(words);
-    let x = timers::events::tick_timers(&mut words[ENTRIES_AT..ENTRIES_END], h, s, clock);
+    let v = serving_of(words);
+    let x = timers::events::tick_timers(&mut words[ENTRIES_AT..ENTRIES_END], h, v, s, clock);
     let head = x.head;
     let outcome = x.outcome;
     let hellos = x.hellos;
@@ -118,7 +123,7 @@ fn tick_on(words: &mut [u64], clock: u32) -> TickOrders
     if is_running(mode_of(words)) {
         return TickOrders {
             hellos: HelloOrders {
-                circuits: 0,
+                t1s: 0,
                 flags: Flags::NONE,
             },
             outcome: TimerOutcome::Idle,
@@ -136,16 +141,16 @@ pub fn tick(words: &mut [u64], clock: u32) -> TickOrders
     tick_on(words, clock)
 }
 
-// The flags of the next hello on circuit i.
+// The flags of the next hello of the T1 in place i.
 pub fn next_flags(words: &[u64], i: usize) -> Flags
-    requires { ⌜ (length (now words) ≡ controlWords) × (i < circuits) ⌝ }
+    requires { ⌜ (length (now words) ≡ controlWords) × (i < places) ⌝ }
     ensures { λ r. ⌜ r ≡ helloFlags (commonOf (now (words .entry)) .timers .mode) (getD (commonOf (now (words .entry)) .timers .t1s) i noT1) ⌝ }
 {
     let h = load_head(words);
     timers::events::next_flags(&words[ENTRIES_AT..ENTRIES_END], h, i)
 }
 
-// How many circuits still wait for T1.
+// How many T1s run.
 pub fn count_waiting(words: &[u64]) -> u32
     requires { ⌜ length (now words) ≡ controlWords ⌝ }
     ensures { λ r. ⌜ r ≡ countRuns (commonOf (now (words .entry)) .timers .t1s) ⌝ }
@@ -153,10 +158,10 @@ pub fn count_waiting(words: &[u64]) -> u32
     timers::head::count_waiting(load_head(words))
 }
 
-// The lowest such circuit, by its number from 1.
+// The lowest circuit with one, by its number from 1.
 pub fn lowest_waiting(words: &[u64]) -> Lowest
     requires { ⌜ length (now words) ≡ controlWords ⌝ }
-    ensures { λ r. ⌜ r ≡ firstRuns (commonOf (now (words .entry)) .timers .t1s) 1 ⌝ }
+    ensures { λ r. ⌜ r ≡ lowestRuns (commonOf (now (words .entry)) .timers .t1s) ⌝ }
 {
     timers::head::lowest_waiting(load_head(words))
 }

@@ -1,10 +1,11 @@
 // The control words (house).
 //
-//   word  0     1      2      3          4        5             6, 7          8            9-15   16-31       32-63  64-87     88-127
-//         seal  count  clock  System ID  lengths  timers' head  T2 deadlines  T3 deadline  free   T1 entries  free   circuits  free
+//   word  0     1      2      3          4        5             6, 7          8            9    10-15  16-47       48-63  64-87     88-127
+//         seal  count  clock  System ID  lengths  timers' head  T2 deadlines  T3 deadline  T1s  free   T1 entries  free   circuits  free
 //
-// A circuit has three words: its small fields, its MAC, its extended circuit ID. In memory without the seal the words 1 and 5
-// count as 0: it has no circuits, and no timer runs there.
+// Word 9 says which T1s there are: a mask of those that serve level 1, and of those that serve level 2. A circuit has three words: its
+// small fields, its MAC, its extended circuit ID. In memory without the seal the words 1 and 5 count as 0: it has no circuits, and no
+// timer runs there.
 use basics::kind::CircuitKind;
 use basics::levels::Levels;
 use basics::levels::join_levels;
@@ -12,16 +13,20 @@ use basics::mask::CIRCUITS;
 use settings::circuit::Chosen;
 use settings::circuit::Circuit;
 use settings::lengths::Lengths;
+use settings::serving::Serving;
+use settings::serving::serve_circuit;
 use timers::entries::WORDS;
 ghost use mathlib.Core.Path.{_≡_};
 ghost use Prim.Native.Nat.{_<_, _≤_};
 ghost use lib.ListN.{length};
 ghost use Rattle.basics.specs.Mask.{circuits};
 ghost use Rattle.settings.specs.Settings.{enabledLevels};
-ghost use Rattle.control.specs.Words.{controlWords, sealed, countOf, kindIn, circuitIn, circuitAt, lengthsIn, commonOf};
+ghost use Rattle.settings.specs.Serving.{serving};
+ghost use Rattle.control.specs.Words.{controlWords, sealed, countOf, kindIn, circuitIn, circuitAt, circuitsFrom, lengthsIn, servingIn, servingOf, commonOf};
 ghost use Rattle.control.specs.Common.{withClock, Chooses};
 
-pub const SEAL: u64 = 5283647409863405617;
+// The octets ISISGR02: of this layout.
+pub const SEAL: u64 = 5283647409863405618;
 
 pub const SEAL_AT: usize = 0;
 
@@ -34,6 +39,8 @@ pub const SYSTEM_AT: usize = 3;
 pub const LENGTHS_AT: usize = 4;
 
 pub const HEAD_AT: usize = 5;
+
+pub const SERVING_AT: usize = 9;
 
 pub const ENTRIES_AT: usize = 16;
 
@@ -172,6 +179,40 @@ pub fn levels_of(words: &[u64]) -> Levels
         let levels = one.levels;
         found = join_levels(found, levels);
         i += 1;
+    }
+    found
+}
+
+fn serving_in(w: u64) -> Serving
+    ensures { λ r. ⌜ r ≡ servingIn w ⌝ }
+{
+    Serving {
+        one: (w % 65536) as u16,
+        two: (w / 65536 % 65536) as u16,
+    }
+}
+
+// Which T1s there are.
+pub fn serving_of(words: &[u64]) -> Serving
+    requires { ⌜ length (now words) ≡ controlWords ⌝ }
+    ensures { λ r. ⌜ r ≡ servingOf (now (words .entry)) ⌝ }
+{
+    serving_in(words[SERVING_AT])
+}
+
+// Which T1s the first `count` circuits have; from the last of them to the first.
+pub fn serving_for(words: &[u64], count: usize) -> Serving
+    requires { ⌜ (length (now words) ≡ controlWords) × (count ≤ circuits) ⌝ }
+    ensures { λ r. ⌜ r ≡ serving (circuitsFrom (now (words .entry)) 0 count) ⌝ }
+{
+    let mut found = Serving { one: 0, two: 0 };
+    let mut i = count;
+    while 0 < i {
+        i -= 1;
+        let one = load_circuit(words, i);
+        let kind = one.kind;
+        let levels = one.levels;
+        found = serve_circuit(kind, levels, found);
     }
     found
 }

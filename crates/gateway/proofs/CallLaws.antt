@@ -26,13 +26,14 @@ use Rattle.basics.specs.declared.kind.CircuitKind.{CircuitKind}
 use Rattle.basics.specs.declared.kind.CircuitKind.the-variants.{Lan}
 use Rattle.basics.specs.Mask.{bitsOf, circuits}
 use Rattle.timer_parts.specs.T1.{helloFlags}
-use Rattle.basics.specs.declared.mask.Lowest.{Lowest}
+use Rattle.basics.specs.declared.places.Lowest.{Lowest}
 use Rattle.timers.specs.Hellos.{Hellos}
-use Rattle.timers.specs.Timers.{Timers, toT3, csnpIn, noticeT2s, noT1, countRuns, firstRuns}
+use Rattle.timers.specs.Timers.{Timers, toT3, csnpIn, noticeT2s, noT1, countRuns, lowestRuns}
 use Rattle.settings.specs.Mode.{isRunning}
 use Rattle.timers.specs.Outcome.{ordered, tickHellos}
 use Rattle.timers.specs.declared.outcome.TimerOutcome.{TimerOutcome}
 use Rattle.settings.specs.Settings.{enabledLevels}
+use Rattle.settings.specs.Serving.{placeOf}
 use Rattle.settings.specs.declared.circuit.Circuit.{Circuit}
 use Rattle.control.specs.Words.{countOf, commonOf, controlWords}
 use Rattle.control.specs.Common.{Common}
@@ -43,7 +44,7 @@ use Rattle.model.specs.Numbers.{refusalNo, someWaits, lowestNo}
 use Rattle.model.specs.Answers.{Answer, Refused, Ticked, Told, Fact, Done, Noticed, Looked, Metric, HelloFlags, Waits, timersAnswer, recordAnswer, lostBits}
 use Rattle.model.specs.Gateway.{Gateway, Room, withSlots, withRooms, withCommon, noRoom, renew, roomOf}
 use Rattle.model.specs.Receive.{Acted, refuse}
-use Rattle.model.specs.Step.{Call, Judged, Refused as RefusedCall, Tell, Release, Clear, CsnpComplete, LookUp, LinkMetric, NextHello, Tick, DatabaseComplete, Waiting, Over, told, act, asksLevel, csnpComplete, lookUp, linkMetricOf, nextHello, noticeOf, settledBy, lift, noneOf, quiet, tickOf, databaseOf, judge, carry, sweptRoom, lapsed, step}
+use Rattle.model.specs.Step.{Call, Judged, Refused as RefusedCall, Tell, Release, Clear, CsnpComplete, LookUp, LinkMetric, NextHello, Tick, DatabaseComplete, Waiting, Over, told, act, asksLevel, csnpOf, csnpComplete, lookUp, linkMetricOf, flagsAt, nextHello, noticeOf, settledBy, lift, noneOf, quiet, tickOf, databaseOf, judge, carry, sweptRoom, lapsed, step}
 use Rattle.gateway.specs.Words.{gatewayWords, roomPlace, gatewayOf, Meets}
 use Rattle.basics.specs.Lists.{part}
 use Rattle.gateway.proofs.WordLaws.{along, asks, common-at, common-put, room-put, room-at, room-of, renew-at, same-room}
@@ -108,13 +109,14 @@ module _ (ws : List ℕ) (n : ℕ) (len : length ws ≡ gatewayWords) where
       unfolding lift csnpComplete gatewayOf
       csnp-outside m = rw (has, m) refl
 
-      pub csnp-taken : (m : isRunning (commonOf (part 0 controlWords ws) .timers .mode) ≡ false) (on : Levels) (se : on ≡ onlyLevel level) (u : List ℕ) (lu : length u ≡ controlWords) (o : TimerOutcome)
-          → CommonSettles (csnpIn (n - 1) (s .levels) on) (part 0 controlWords ws) u o
+      pub csnp-taken : (m : isRunning (commonOf (part 0 controlWords ws) .timers .mode) ≡ false) (on : Levels) (se : on ≡ onlyLevel level) (i : ℕ)
+          → i ≡ placeOf (s .kind) (n - 1) level → (u : List ℕ) (lu : length u ≡ controlWords) (o : TimerOutcome) → CommonSettles (csnpIn i on) (part 0 controlWords ws) u o
           → Meets (Told (Noticed (timersAnswer o))) (lift g n (csnpComplete n s level)) ws (putMid 0 controlWords ws u) []
       unfolding csnpComplete gatewayOf
-      csnp-taken m on se u lu o h =
-          let f : Timers → Timers = csnpIn (n - 1) (s .levels) (onlyLevel level) in
-          let h′ : CommonSettles f (part 0 controlWords ws) u o = subst (λ (x : Levels). CommonSettles (csnpIn (n - 1) (s .levels) x) (part 0 controlWords ws) u o) se h in
+      csnp-taken m on se i ie u lu o h =
+          let h′ : CommonSettles (csnpOf n s level) (part 0 controlWords ws) u o =
+          subst (λ (x : Levels). CommonSettles (csnpIn (placeOf (s .kind) (n - 1) level) x) (part 0 controlWords ws) u o) se
+          (subst (λ (j : ℕ). CommonSettles (csnpIn j on) (part 0 controlWords ws) u o) ie h) in
           common-acts (csnpComplete n s level) (Noticed (timersAnswer o)) u lu (rw (has, m) (ap (λ (x : TimerOutcome). Told (Noticed (timersAnswer x))) (h′ .outcome))) (rw (has, m) refl) (rw (has, m) (h′ .common)) (rw (has, m) refl)
 
   -- look up
@@ -142,10 +144,20 @@ module _ (ws : List ℕ) (n : ℕ) (len : length ws ≡ gatewayWords) where
       (ap (λ (x : ℕ). Told (Metric x)) (e ∙ ap (linkMetric (s .kind) (s .metric)) (f ∙ ap firstState (room-of ws n lo hi)))) refl refl refl
 
   -- flags of the next hello
-  pub flags : (s : Circuit) (f : Flags) → f ≡ helloFlags (commonOf (part 0 controlWords ws) .timers .mode) (getD (commonOf (part 0 controlWords ws) .timers .t1s) (n - 1) noT1)
-      → Meets (Told (HelloFlags (f .bits))) (lift g n (act n s NextHello)) ws ws []
-  unfolding act nextHello gatewayOf
-  flags s f e = asks ws n (act n s NextHello) (Told (HelloFlags (f .bits))) (ap (λ (x : Flags). Told (HelloFlags (x .bits))) e) refl refl refl
+  module _ (s : Circuit) (level : ℕ) where
+    pub flags-off : hasLevel (s .levels) level ≡ false → lift g n (refuse [] NoCircuit) ≡ lift g n (nextHello n s level)
+    unfolding lift nextHello
+    flags-off e = rw e refl
+
+    pub flags : (i : ℕ) (f : Flags) → hasLevel (s .levels) level ≡ true → i ≡ placeOf (s .kind) (n - 1) level
+        → f ≡ helloFlags (commonOf (part 0 controlWords ws) .timers .mode) (getD (commonOf (part 0 controlWords ws) .timers .t1s) i noT1)
+        → Meets (Told (HelloFlags (f .bits))) (lift g n (nextHello n s level)) ws ws []
+    unfolding nextHello gatewayOf
+    flags i f has ie e =
+        let p : f .bits ≡ flagsAt n s level (commonOf (part 0 controlWords ws) .timers) =
+        ap (λ (x : Flags). x .bits) e
+        ∙ ap (λ (j : ℕ). helloFlags (commonOf (part 0 controlWords ws) .timers .mode) (getD (commonOf (part 0 controlWords ws) .timers .t1s) j noT1) .bits) ie in
+        asks ws n (nextHello n s level) (Told (HelloFlags (f .bits))) (rw has (ap (λ (x : ℕ). Told (HelloFlags x)) p)) (rw has refl) (rw has refl) (rw has refl)
 
 pub asks-lan : (kind : CircuitKind) (l : Levels) (level : ℕ) (r : Bool) → kind ≡ Lan → r ≡ hasLevel l level → r ≡ asksLevel kind l level
 asks-lan kind l level r e h = rw e h
@@ -155,6 +167,10 @@ module _ (g : Gateway) (n : ℕ) (s : Circuit) where
   pub csnp-is : (level : ℕ) → lift g n (csnpComplete n s level) ≡ lift g n (act n s (CsnpComplete level))
   unfolding lift act
   csnp-is level = refl
+
+  pub flags-is : (level : ℕ) → lift g n (nextHello n s level) ≡ lift g n (act n s (NextHello level))
+  unfolding lift act
+  flags-is level = refl
 
   pub look-is : (k : Key) → lift g n (lookUp s k) ≡ lift g n (act n s (LookUp k))
   unfolding lift act
@@ -264,8 +280,8 @@ module _ (ws : List ℕ) where
             kept = λ x z. absurd (let y : _≡_ {A = ℕ} 0 1 = cc in omega arith);
           })
 
-  -- circuits that wait for T1
-  pub waits : (k : ℕ) (low : Lowest) → k ≡ countRuns (cs .timers .t1s) → low ≡ firstRuns (cs .timers .t1s) 1 → Meets (Told (Waits k (someWaits low) (lowestNo low))) (step gw (Over Waiting)) ws ws []
+  -- the T1s that run
+  pub waits : (k : ℕ) (low : Lowest) → k ≡ countRuns (cs .timers .t1s) → low ≡ lowestRuns (cs .timers .t1s) → Meets (Told (Waits k (someWaits low) (lowestNo low))) (step gw (Over Waiting)) ws ws []
   unfolding step judge carry gatewayOf
   waits k low e f = record { answer = λ i. Told (Waits (e i) (someWaits (f i)) (lowestNo (f i))); reply = refl; next = refl; kept = λ x y. refl }
 

@@ -29,7 +29,6 @@ use Rattle.adjacency.specs.declared.record.Phase.{Phase}
 use Rattle.adjacency.specs.declared.step.Here.{Here}
 use Rattle.slots.specs.Slots.{tableOf, roomWords}
 use Rattle.adjacency.specs.declared.place.Slot.{Slot}
-use Rattle.basics.specs.declared.levels.Levels.{Levels}
 use Rattle.timer_parts.specs.declared.heard.Heard.{Heard}
 use Rattle.timers.specs.declared.events.HeardOrders.{HeardOrders}
 use Rattle.settings.specs.declared.circuit.Circuit.{Circuit}
@@ -46,15 +45,15 @@ use Rattle.model.specs.declared.answers.Orders.{Orders}
 use Rattle.model.specs.Numbers.{refusalNo}
 use Rattle.model.specs.Answers.{Refused, Received, frameAnswer, changeOf}
 use Rattle.model.specs.Gateway.{Gateway, Room, withRooms, withCommon, renew, roomOf}
-use Rattle.model.specs.Receive.{refuse, hereOf, rankOf, hasRisen, saidOf, ordersOf, accepted, reacted, decidedIn, checked, readIn, receive}
+use Rattle.model.specs.Receive.{refuse, hereOf, rankOf, hasRisen, saidOf, t1Of, ordersOf, accepted, reacted, decidedIn, checked, readIn, receive}
 use Rattle.model.specs.Step.{Receive, act, lift}
 use Rattle.gateway.specs.Words.{gatewayWords, roomPlace, gatewayOf, circuitHeld, Meets}
 use Rattle.basics.specs.Lists.{part}
 use Rattle.gateway.proofs.WordLaws.{along, refuses, common-at, common-put, common-stays, room-put, room-same, room-of, renew-at}
 
-pub hears-said : {i : ℕ} {l : Levels} {rose rose′ : Bool} {d d′ : Heard} {ws u : List ℕ} {o : HeardOrders} → rose ≡ rose′ → d ≡ d′ → CommonHears i l rose d ws u o
-    → CommonHears i l rose′ d′ ws u o
-hears-said r e h = rw (← r, ← e) h
+pub hears-said : {i i′ : ℕ} {rose rose′ : Bool} {d d′ : Heard} {ws u : List ℕ} {o : HeardOrders} → i ≡ i′ → rose ≡ rose′ → d ≡ d′ → CommonHears i rose d ws u o
+    → CommonHears i′ rose′ d′ ws u o
+hears-said p r e h = rw (← p, ← r, ← e) h
 
 pub of-circuit : {n : ℕ} {s s′ : Circuit} {h : Hello} {reply : Acknowledgement} {line : Line} {change : Change} {ws u : List ℕ} {o : Orders} → s ≡ s′
     → GivesOrders n s h reply line change ws u o → GivesOrders n s′ h reply line change ws u o
@@ -194,7 +193,7 @@ module _ (ws : List ℕ) (n : ℕ) (s : Circuit) (h : Hello) (reply : Acknowledg
 
   pub gives : (rank : Rank) (cs : Csnps) (timed : HeardOrders) (u : List ℕ) → length u ≡ controlWords → rank ≡ rankOf s h
       → cs ≡ csnpsIn rank line (s .levels) (h .link) (tableOf (part at (at + roomWords - at) ws))
-      → CommonHears (n - 1) (s .levels) (hasRisen change) (saidOf (commonOf (part 0 controlWords ws)) s h) (part 0 controlWords ws) u timed
+      → CommonHears (t1Of n s h) (hasRisen change) (saidOf (commonOf (part 0 controlWords ws)) s h) (part 0 controlWords ws) u timed
       → GivesOrders n s h reply line change ws (putMid 0 controlWords ws u)
       (record { reply = reply; csnps = cs; outcome = timed .outcome; freed = timed .freed; hello = timed .hello; change = change })
   unfolding gatewayOf

@@ -1,4 +1,4 @@
--- What a frame that was accepted orders (document 01, "Marks and holding time" and "Timers while Restarting"; document 02, W-201), of the words
+-- What a frame that was accepted orders (document 01, "Marks and holding time" and "Timers while Restarting"; document 02, W-201 and W-202), of the words
 -- as the record's change left them.
 use Prim.Native.Nat.{ℕ}
 use mathlib.Core.Path.{_≡_}

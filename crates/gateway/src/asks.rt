@@ -1,4 +1,4 @@
-// What is asked of a gateway: a record, the link metric, the next hello's flags, the circuits that wait for T1. Nothing is changed.
+// What is asked of a gateway: a record, the link metric, the next hello's flags, the T1s that run. Nothing is changed.
 use adjacency::keys::key_on;
 use adjacency::record::Adjacency;
 use adjacency::record::Key;
@@ -21,6 +21,7 @@ use room::place::found;
 use room::search::first_state;
 use settings::circuit::Chosen;
 use settings::circuit::Circuit;
+use settings::serving::place_of;
 use slots::slot::ROOM_WORDS;
 ghost use mathlib.Core.Path.{_≡_};
 ghost use mathlib.Core.List.{[]};
@@ -29,7 +30,7 @@ ghost use lib.ListN.{length};
 ghost use Rattle.basics.specs.Mask.{circuits};
 ghost use Rattle.model.specs.Answers.{Told, recordAnswer, lookedOf, metricOf, flagsOf, waitingOf};
 ghost use Rattle.model.specs.Answers.{Looked as LookedFact};
-ghost use Rattle.model.specs.Step.{asksLevel, lookUp, lift, step, At, Over, LookUp, LinkMetric, NextHello};
+ghost use Rattle.model.specs.Step.{asksLevel, lookUp, nextHello, lift, step, At, Over, LookUp, LinkMetric, NextHello};
 ghost use Rattle.model.specs.Step.{Waiting as Waits};
 ghost use Rattle.gateway.specs.Words.{gatewayWords, gatewayOf, Meets};
 
@@ -95,16 +96,29 @@ pub(crate) fn metric_in(gateway: &[u64], n: u8) -> Metric
     Metric::Link(link_metric(kind, s.metric, stood))
 }
 
-pub(crate) fn flags_in(gateway: &[u64], n: u8) -> NextFlags
-    requires { ⌜ length (now gateway) ≡ gatewayWords ⌝ }
-    ensures { λ r. ⌜ Meets (flagsOf r) (step (gatewayOf (now (gateway .entry))) (At n NextHello)) (now (gateway .entry)) (now (gateway .entry)) [] ⌝ }
+fn flags_on(gateway: &[u64], n: u8, s: Circuit, level: u8) -> NextFlags
+    requires { ⌜ (length (now gateway) ≡ gatewayWords) × (0 < n) × (n ≤ circuits) ⌝ }
+    ensures { λ r. ⌜ Meets (flagsOf r) (lift (gatewayOf (now (gateway .entry))) n (nextHello n s level)) (now (gateway .entry)) (now (gateway .entry)) [] ⌝ }
 {
-    let Chosen::Known(_) = circuit_of(&gateway[0..CONTROL_WORDS], n) else {
+    let kind = s.kind;
+    let levels = s.levels;
+    if !has_level(levels, level) {
         return NextFlags::Refused(Refusal::NoCircuit);
-    };
-    let i = n as usize - 1;
+    }
+    let i = place_of(kind, n as usize - 1, level);
     let flags = next_flags(&gateway[0..CONTROL_WORDS], i);
     NextFlags::Next(flags)
+}
+
+// The flags of the next hello on a circuit, at a level.
+pub(crate) fn flags_in(gateway: &[u64], n: u8, level: u8) -> NextFlags
+    requires { ⌜ length (now gateway) ≡ gatewayWords ⌝ }
+    ensures { λ r. ⌜ Meets (flagsOf r) (step (gatewayOf (now (gateway .entry))) (At n (NextHello level))) (now (gateway .entry)) (now (gateway .entry)) [] ⌝ }
+{
+    let Chosen::Known(s) = circuit_of(&gateway[0..CONTROL_WORDS], n) else {
+        return NextFlags::Refused(Refusal::NoCircuit);
+    };
+    flags_on(gateway, n, s, level)
 }
 
 pub(crate) fn waiting_in(gateway: &[u64]) -> Waiting

@@ -128,15 +128,15 @@ pub fn link_metric(gateway: &[u64; GATEWAY_WORDS], circuit: u8) -> Metric
     metric_in(gateway, circuit)
 }
 
-// The flags that the next hello on a circuit carries.
-pub fn next_hello_flags(gateway: &[u64; GATEWAY_WORDS], circuit: u8) -> NextFlags
-    ensures { λ r. ⌜ Meets (flagsOf r) (step (gatewayOf (now (gateway .entry))) (At circuit NextHello)) (now (gateway .entry)) (now (gateway .entry)) [] ⌝ }
+// The flags that the next hello on a circuit carries, on a LAN that of a level; on P2P the one hello's at each of its levels.
+pub fn next_hello_flags(gateway: &[u64; GATEWAY_WORDS], circuit: u8, level: u8) -> NextFlags
+    ensures { λ r. ⌜ Meets (flagsOf r) (step (gatewayOf (now (gateway .entry))) (At circuit (NextHello level))) (now (gateway .entry)) (now (gateway .entry)) [] ⌝ }
 {
-    flags_in(gateway, circuit)
+    flags_in(gateway, circuit, level)
 }
 
-// How many circuits still wait for T1, and the lowest of them.
-pub fn waiting_circuits(gateway: &[u64; GATEWAY_WORDS]) -> Waiting
+// How many T1s run, and the lowest circuit with one.
+pub fn waiting_t1s(gateway: &[u64; GATEWAY_WORDS]) -> Waiting
     ensures { λ r. ⌜ Meets (waitingOf r) (step (gatewayOf (now (gateway .entry))) (Over Waits)) (now (gateway .entry)) (now (gateway .entry)) [] ⌝ }
 {
     waiting_in(gateway)

@@ -32,6 +32,7 @@ use room::duty::csnps_in;
 use settings::circuit::Chosen;
 use settings::circuit::Circuit;
 use settings::mode::is_restarting;
+use settings::serving::place_of;
 use slots::slot::ROOM_WORDS;
 use timer_parts::heard::Heard;
 use timer_parts::heard::heard_of;
@@ -81,6 +82,7 @@ fn order_in(
 {
     let i = n as usize - 1;
     let s = load_circuit(&gateway[0..CONTROL_WORDS], i);
+    let kind = s.kind;
     let levels = s.levels;
     let link = frame.link;
     let rank = Rank {
@@ -93,7 +95,8 @@ fn order_in(
     let before = change.before;
     let after = change.after;
     let rose = rises(before, after);
-    let x = hear(&mut gateway[0..CONTROL_WORDS], i, levels, rose, said);
+    let at = place_of(kind, i, change.level);
+    let x = hear(&mut gateway[0..CONTROL_WORDS], at, rose, said);
     let outcome = x.outcome;
     let freed = x.freed;
     let hello = x.hello;

@@ -1,4 +1,4 @@
-// The daemon's notices that a CSNP set, or a level's database, is complete (document 01, "Timers while Restarting"; document 02, W-201).
+// The daemon's notices that a CSNP set, or a level's database, is complete (document 01, "Timers while Restarting"; document 02, W-201 and W-202).
 use basics::levels::has_level;
 use basics::levels::only_level;
 use basics::refusal::Refusal;
@@ -12,6 +12,7 @@ use model::answers::Noticed;
 use settings::circuit::Chosen;
 use settings::circuit::Circuit;
 use settings::mode::is_running;
+use settings::serving::place_of;
 ghost use mathlib.Core.Path.{_≡_};
 ghost use mathlib.Core.List.{[]};
 ghost use Prim.Native.Nat.{_<_, _≤_};
@@ -26,6 +27,7 @@ fn csnp_on(gateway: &mut [u64], n: u8, s: Circuit, level: u8) -> Noticed
     requires { ⌜ (length (now gateway) ≡ gatewayWords) × (0 < n) × (n ≤ circuits) ⌝ }
     ensures { λ r. ⌜ Meets (noticedOf r) (lift (gatewayOf (now (gateway .entry))) n (csnpComplete n s level)) (now (gateway .entry)) (now (gateway .exit)) [] ⌝ }
 {
+    let kind = s.kind;
     let levels = s.levels;
     if !has_level(levels, level) {
         return Noticed::Refused(Refusal::NoCircuit);
@@ -34,8 +36,8 @@ fn csnp_on(gateway: &mut [u64], n: u8, s: Circuit, level: u8) -> Noticed
         return Noticed::Refused(Refusal::NotRestarting);
     }
     let set = only_level(level);
-    let i = n as usize - 1;
-    let outcome = notice_csnp(&mut gateway[0..CONTROL_WORDS], i, levels, set);
+    let i = place_of(kind, n as usize - 1, level);
+    let outcome = notice_csnp(&mut gateway[0..CONTROL_WORDS], i, set);
     Noticed::Done(outcome)
 }
 

@@ -77,7 +77,7 @@ pub(crate) fn tick_in(gateway: &mut [u64], clock: u32) -> Ticked
         return Ticked::Done {
             lost: 0,
             hellos: HelloOrders {
-                circuits: 0,
+                t1s: 0,
                 flags: Flags::NONE,
             },
             outcome: TimerOutcome::Idle,

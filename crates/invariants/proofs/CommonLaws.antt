@@ -1,29 +1,34 @@
 -- What every call leaves of the common part, whatever it answers: setup's settings, a clock that does not fall, and timers of which setup's
 -- settings and the mode say what they said before.
-use Prim.Native.Nat.{ℕ, zero, suc, _-_, _≤_, _<_}
+use Prim.Native.Nat.{ℕ, zero, suc, _-_, _≤_}
 use native.Mathlib.Omega.{arith}
-use mathlib.Core.Path.{_≡_, refl, ap, _∙_}
+use mathlib.Core.Path.{_≡_, refl, _∙_}
 use mathlib.Core.Bool.{Bool, true, false}
-use mathlib.Core.List.{List, [], _∷_}
-use lib.ListN.{length, take}
+use mathlib.Core.List.{List}
+use lib.ListN.{length}
 use lib.Dec.{ltb}
-use borrow.Author.Tests.{ltb-true, ltb-false}
-use Rattle.basics.proofs.BoolLaws.{by-test}
-use Rattle.basics.specs.Lists.{every}
+use borrow.Author.Tests.{ltb-true, ltb-false, not-false}
+use Rattle.basics.proofs.BoolLaws.{by-test, neither}
 use Rattle.basics.specs.Levels.{onlyLevel, hasLevel}
+use Rattle.basics.specs.declared.kind.CircuitKind.{CircuitKind}
+use Rattle.basics.specs.declared.kind.CircuitKind.the-variants.{Lan, P2p}
 use Rattle.basics.specs.declared.levels.Levels.{Levels}
-use Rattle.hello.specs.Hello.{helloRead}
+use Rattle.hello.specs.Hello.{kindOf, helloRead}
 use Rattle.hello.specs.declared.read.Hello.{Hello}
+use Rattle.hello.specs.declared.read.Link.{Link}
+use Rattle.hello.specs.declared.read.Link.the-variants.{Lan as LanLink, P2p as P2pLink}
 use Rattle.hello.specs.declared.read.Read.{Read}
 use Rattle.hello.specs.declared.read.Read.the-variants.{Refused as RefusedRead, Accepted as ReadAs}
-use Rattle.adjacency.specs.Keys.{keyIn}
-use Rattle.adjacency.specs.Step.{wrongSource}
+use Rattle.hello.proofs.KindLaws.{read-kind}
+use Rattle.adjacency.specs.Keys.{levelIn, keyIn}
+use Rattle.adjacency.specs.Step.{levelOff, wrongSource}
 use Rattle.adjacency.specs.declared.react.Reaction.{Reaction}
 use Rattle.adjacency.specs.declared.react.Reaction.the-variants.{Refused as RefusedReaction, Accepted}
 use Rattle.adjacency.specs.declared.record.Key.{Key}
 use Rattle.room.specs.Accept.{decided}
 use Rattle.settings.specs.Mode.{isRunning}
-use Rattle.settings.specs.Settings.{circuitOk, circuitsOf, enabledLevels}
+use Rattle.settings.specs.Settings.{circuitsOf, settingsOk, enabledLevels}
+use Rattle.settings.specs.Serving.{placeOf}
 use Rattle.settings.specs.declared.circuit.Chosen.{Chosen}
 use Rattle.settings.specs.declared.circuit.Chosen.the-variants.{Known, Unknown}
 use Rattle.settings.specs.declared.circuit.Circuit.{Circuit}
@@ -34,19 +39,20 @@ use Rattle.timer_parts.specs.declared.t3.T3.the-variants.{Idle}
 use Rattle.timers.specs.Timers.{Timers, settled, toT3, heardIn, csnpIn, noticeT2s}
 use Rattle.control.specs.Common.{Common, withClock, withTimers, circuitOf, startOf, setupCommon}
 use Rattle.model.specs.Gateway.{Room, Gateway}
-use Rattle.model.specs.Receive.{refuse, hereOf, hasRisen, saidOf, accepted, reacted, decidedIn, checked, readIn, receive}
-use Rattle.model.specs.Step.{Local, Receive, Release, Clear, CsnpComplete, LookUp, LinkMetric, NextHello, Global, Tick, DatabaseComplete, Waiting, Call, At, Over, asksLevel, csnpComplete, lookUp, linkMetricOf, nextHello, act, lift, on, Judged, Refused as RefusedCall, Sweep, Tell, noneOf, tickOf, databaseOf, judge, carry, step}
+use Rattle.model.specs.Receive.{refuse, hereOf, saidOf, t1Of, accepted, reacted, decidedIn, checked, readIn, receive}
+use Rattle.model.specs.Step.{Local, Receive, Release, Clear, CsnpComplete, LookUp, LinkMetric, NextHello, Global, Tick, DatabaseComplete, Waiting, Call, At, Over, asksLevel, csnpOf, csnpComplete, lookUp, linkMetricOf, nextHello, act, lift, on, Judged, Refused as RefusedCall, Sweep, Tell, noneOf, tickOf, databaseOf, judge, carry, step}
 use Rattle.invariants.specs.Invariants.{Quiet, Restarts, NoT3, SetupSettings, SetupTimers, Onward}
 use Rattle.invariants.proofs.QuietLaws.{started-quiet, started-restarts, started-no-t3, settled-quiet, settled-mode, settled-no-t3, settled-restarts, toT3-mode, heardIn-mode, csnpIn-mode, noticeT2s-mode, toT3-idle, heardIn-idle, csnpIn-idle, noticeT2s-idle}
+use Rattle.invariants.proofs.InRange.{Stands, circuits-ok, tries-ok, t1-asked}
 use Rattle.invariants.proofs.SetupTimersLaws.{started-kept, settled-kept, later-kept, toT3-kept, heardIn-kept, csnpIn-kept, noticeT2s-kept}
 
 -- ---- the timers
 
--- the settings are still setup's, and N is not 0
+-- the settings are still setup's, and in range
 pub record Set (l : Lengths) (cs : List Circuit) (s : Settings) : Type 0 where
   pub lengths : l ≡ s .lengths
   pub circuits : cs ≡ circuitsOf s
-  pub tries : 0 < s .lengths .tries
+  pub ok : settingsOk s ≡ true
 
 abbrev pub KeptBy : Lengths → List Circuit → ℕ → Timers → Timers → Type 0
 KeptBy l cs clock t next = (s : Settings) → Set l cs s → SetupTimers s clock t → SetupTimers s clock next
@@ -57,30 +63,25 @@ pub record Own (l : Lengths) (cs : List Circuit) (clock : ℕ) (t next : Timers)
   pub idle : t .t3 ≡ Idle → next .t3 ≡ Idle
   pub kept : KeptBy l cs clock t next
 
-length-first : {A : Type 0} (n : ℕ) (l : List A) → length (take n l) ≤ n
-length-first zero l = omega arith
-length-first (suc n) [] = omega arith
-length-first (suc n) (x ∷ l) = let k = length-first n l in omega arith
-
 module _ (l : Lengths) (cs : List Circuit) (clock : ℕ) (t : Timers) where
   own-tick : Own l cs clock t (toT3 l clock t)
   own-tick = record { mode = toT3-mode l clock t; idle = toT3-idle l clock t; kept = λ s e h. rw (e .lengths) (toT3-kept s clock t h) }
 
-  -- on a circuit that is there
-  own-heard : (i : ℕ) (on : Levels) (rose : Bool) (d : Heard) → i < length cs → Own l cs clock t (heardIn l clock i on rose d t)
-  own-heard i on rose d there =
+  -- to the T1 of circuit i, which is c, at a level that may be asked for there
+  own-heard : (i : ℕ) (c : Circuit) (level : ℕ) (rose : Bool) (d : Heard) → Stands cs i c → asksLevel (c .kind) (c .levels) level ≡ true
+      → Own l cs clock t (heardIn l clock (placeOf (c .kind) i level) rose d t)
+  own-heard i c level rose d stands on =
+      let p = placeOf (c .kind) i level in
       record {
-        mode = heardIn-mode l clock i on rose d t;
-        idle = heardIn-idle l clock i on rose d t;
+        mode = heardIn-mode l clock p rose d t;
+        idle = heardIn-idle l clock p rose d t;
         kept = λ s e h.
-            let k = length-first (s .count) (s .circuits) in
-            let le : suc i ≤ s .count = omega (arith, ap length (e .circuits)) in
-            rw (e .lengths) (heardIn-kept s clock t h i on rose d le (e .tries));
+            rw (e .lengths)
+            (heardIn-kept s clock t h p rose d (t1-asked s (e .ok) i c (rw (e .circuits) at stands) level on) (tries-ok s (e .ok)));
       }
 
-  own-csnp : (i : ℕ) (on n : Levels) → Own l cs clock t (csnpIn i on n t)
-  own-csnp i on n =
-      record { mode = csnpIn-mode i on n t; idle = csnpIn-idle i on n t; kept = λ s e h. csnpIn-kept s clock t h i on n }
+  own-csnp : (i : ℕ) (n : Levels) → Own l cs clock t (csnpIn i n t)
+  own-csnp i n = record { mode = csnpIn-mode i n t; idle = csnpIn-idle i n t; kept = λ s e h. csnpIn-kept s clock t h i n }
 
   own-database : (n : Levels) → Own l cs clock t (noticeT2s n t)
   own-database n = record { mode = noticeT2s-mode n t; idle = noticeT2s-idle n t; kept = λ s e h. noticeT2s-kept s clock t h n }
@@ -130,33 +131,49 @@ keeps-settled c f own =
 
 -- ---- the calls on a circuit
 
--- a circuit that is known is there
-known-there : (c : Common) (n : ℕ) (s : Circuit) → circuitOf c n ≡ Known s → n - 1 < length (c .circuits)
+-- a circuit that is known stands in its place
+pub known-stands : (c : Common) (n : ℕ) (s : Circuit) → circuitOf c n ≡ Known s → Stands (c .circuits) (n - 1) s
 unfolding circuitOf
-known-there c zero s e = absurd (let z : _≡_ {A = ℕ} 0 1 = cc in omega arith)
-known-there c (suc i) s e =
-    by-test (ltb i (length (c .circuits))) (λ a. let z : i < length (c .circuits) = ltb-true i (length (c .circuits)) a in omega arith)
+known-stands c zero s e = absurd (let z : _≡_ {A = ℕ} 0 1 = cc in omega arith)
+known-stands c (suc i) s e =
+    by-test (ltb i (length (c .circuits)))
+    (λ a. let q : suc i - 1 ≡ i = omega arith in rw q (ltb-true i (length (c .circuits)) a, (let w = rw a at e in cc)))
     (λ a. absurd (let w = rw a at e in let z : _≡_ {A = ℕ} 0 1 = cc in omega arith))
 
-module _ (n : ℕ) (s : Circuit) (c : Common) (r : Room) (known : circuitOf c n ≡ Known s) where
-  reacted-keeps : (h : Hello) (k : Key) (b : List ℕ) (a : Reaction) → Keeps c (reacted n s h k b a c r .common)
-  unfolding reacted accepted refuse
-  reacted-keeps h k b (RefusedReaction x) = keeps-same c
-  reacted-keeps h k b (Accepted after reply line) =
-      keeps-settled c (heardIn (c .lengths) (c .clock) (n - 1) (s .levels) _ (saidOf c s h))
-      (own-heard (c .lengths) (c .circuits) (c .clock) (c .timers) (n - 1) (s .levels) _ (saidOf c s h) (known-there c n s known))
+-- the level of a frame that refusal 7 lets pass may be asked for
+pub level-passes : (kind : CircuitKind) (l : Levels) (link : Link) → kindOf link ≡ kind → levelOff l link ≡ false
+    → asksLevel kind l (levelIn link) ≡ true
+level-passes Lan l (LanLink level priority listed) e off = not-false (hasLevel l level) off
+level-passes Lan l (P2pLink t) e off = cc
+level-passes P2p l link e off = refl
 
-  read-keeps : (mac : ℕ) (b : List ℕ) (x : Read) → Keeps c (readIn n s mac b x c r .common)
+source-passes : (s : Circuit) (own : ℕ) (h : Hello) → kindOf (h .link) ≡ s .kind → wrongSource (s .levels) own h ≡ false
+    → asksLevel (s .kind) (s .levels) (levelIn (h .link)) ≡ true
+unfolding wrongSource
+source-passes s own h e pass = level-passes (s .kind) (s .levels) (h .link) e (neither (levelOff (s .levels) (h .link)) _ pass .0)
+
+module _ (n : ℕ) (s : Circuit) (c : Common) (r : Room) (known : circuitOf c n ≡ Known s) where
+  reacted-keeps : (h : Hello) → asksLevel (s .kind) (s .levels) (levelIn (h .link)) ≡ true → (k : Key) (b : List ℕ) (a : Reaction)
+      → Keeps c (reacted n s h k b a c r .common)
+  unfolding reacted accepted refuse
+  reacted-keeps h on k b (RefusedReaction x) = keeps-same c
+  reacted-keeps h on k b (Accepted after reply line) =
+      keeps-settled c (heardIn (c .lengths) (c .clock) (t1Of n s h) _ (saidOf c s h))
+      (own-heard (c .lengths) (c .circuits) (c .clock) (c .timers) (n - 1) s (levelIn (h .link)) _ (saidOf c s h) (known-stands c n s known) on)
+
+  read-keeps : (mac : ℕ) (frame b : List ℕ) (x : Read) → helloRead (s .kind) (s .mac) frame ≡ x → Keeps c (readIn n s mac b x c r .common)
   unfolding readIn checked decidedIn refuse
-  read-keeps mac b (RefusedRead x) = keeps-same c
-  read-keeps mac b (ReadAs h) =
+  read-keeps mac frame b (RefusedRead x) q = keeps-same c
+  read-keeps mac frame b (ReadAs h) q =
+      let kind = read-kind (s .kind) (s .mac) frame h q in
       by-test (wrongSource (s .levels) (c .system) h) (λ e. rw e (keeps-same c))
-      (λ e. rw e (reacted-keeps h (keyIn (s .kind) mac h) b (decided (hereOf c s) (keyIn (s .kind) mac h) h (r .slots))))
+      (λ e. rw e
+      (reacted-keeps h (source-passes s (c .system) h kind e) (keyIn (s .kind) mac h) b (decided (hereOf c s) (keyIn (s .kind) mac h) h (r .slots))))
 
   receive-keeps : (mac : ℕ) (frame b : List ℕ) → Keeps c (receive n s mac frame b c r .common)
   unfolding receive refuse
   receive-keeps mac frame b =
-      by-test (ltb (length b) 11) (λ e. rw e (keeps-same c)) (λ e. rw e (read-keeps mac b (helloRead (s .kind) (s .mac) frame)))
+      by-test (ltb (length b) 11) (λ e. rw e (keeps-same c)) (λ e. rw e (read-keeps mac frame b (helloRead (s .kind) (s .mac) frame) refl))
 
   csnp-keeps : (level : ℕ) → Keeps c (csnpComplete n s level c r .common)
   unfolding csnpComplete refuse
@@ -165,8 +182,8 @@ module _ (n : ℕ) (s : Circuit) (c : Common) (r : Room) (known : circuitOf c n 
       (λ e. by-test (isRunning (c .timers .mode))
       (λ m. rw (e, m) (keeps-same c))
       (λ m. rw (e, m)
-      (keeps-settled c (csnpIn (n - 1) (s .levels) (onlyLevel level))
-      (own-csnp (c .lengths) (c .circuits) (c .clock) (c .timers) (n - 1) (s .levels) (onlyLevel level)))))
+      (keeps-settled c (csnpOf n s level)
+      (own-csnp (c .lengths) (c .circuits) (c .clock) (c .timers) (placeOf (s .kind) (n - 1) level) (onlyLevel level)))))
       (λ e. rw e (keeps-same c))
 
   look-keeps : (k : Key) → Keeps c (lookUp s k c r .common)
@@ -174,15 +191,19 @@ module _ (n : ℕ) (s : Circuit) (c : Common) (r : Room) (known : circuitOf c n 
   look-keeps k =
       by-test (asksLevel (s .kind) (s .levels) (k .level)) (λ e. rw e (keeps-same c)) (λ e. rw e (keeps-same c))
 
+  flags-keeps : (level : ℕ) → Keeps c (nextHello n s level c r .common)
+  unfolding nextHello refuse
+  flags-keeps level = by-test (hasLevel (s .levels) level) (λ e. rw e (keeps-same c)) (λ e. rw e (keeps-same c))
+
   pub act-keeps : (l : Local) → Keeps c (act n s l c r .common)
-  unfolding act linkMetricOf nextHello
+  unfolding act linkMetricOf
   act-keeps (Receive mac frame b) = receive-keeps mac frame b
   act-keeps Release = keeps-same c
   act-keeps Clear = keeps-same c
   act-keeps (CsnpComplete level) = csnp-keeps level
   act-keeps (LookUp k) = look-keeps k
   act-keeps LinkMetric = keeps-same c
-  act-keeps NextHello = keeps-same c
+  act-keeps (NextHello level) = flags-keeps level
 
 -- ---- the calls that name none
 
@@ -268,19 +289,19 @@ pub record CommonOk (s : Settings) (c : Common) : Type 0 where
   pub quiet : Quiet (c .timers)
   pub restarts : Restarts s (c .timers)
   pub no-t3 : NoT3 (c .timers)
-  pub tries : 0 < s .lengths .tries
+  pub ok : settingsOk s ≡ true
   pub timers : SetupTimers s (c .clock) (c .timers)
 
-pub common-new : (s : Settings) → every circuitOk (circuitsOf s) ≡ true → 0 < s .lengths .tries → CommonOk s (setupCommon s)
+pub common-new : (s : Settings) → settingsOk s ≡ true → CommonOk s (setupCommon s)
 unfolding setupCommon
-common-new s ok tries =
+common-new s ok =
     record {
       settings = record { system = refl; lengths = refl; circuits = refl };
       quiet = started-quiet (startOf s);
-      restarts = started-restarts s ok;
+      restarts = started-restarts s (circuits-ok s ok);
       no-t3 = started-no-t3 (startOf s);
-      tries = tries;
-      timers = started-kept s tries;
+      ok = ok;
+      timers = started-kept s (tries-ok s ok);
     }
 
 pub common-moved : (s : Settings) (c d : Common) → Moves c d → CommonOk s c → CommonOk s d
@@ -295,6 +316,6 @@ common-moved s c d m h =
       quiet = m .quiet (h .quiet);
       restarts = m .restarts s (h .restarts);
       no-t3 = m .no-t3 (h .no-t3);
-      tries = h .tries;
-      timers = m .kept s (record { lengths = h .settings .lengths; circuits = h .settings .circuits; tries = h .tries }) (h .timers);
+      ok = h .ok;
+      timers = m .kept s (record { lengths = h .settings .lengths; circuits = h .settings .circuits; ok = h .ok }) (h .timers);
     }

@@ -1,5 +1,5 @@
 -- What holds of every gateway from setup on, told room by room; that setup gives it; and how rooms are found after a call.
-use Prim.Native.Nat.{ℕ, zero, suc, _≤_, _<_}
+use Prim.Native.Nat.{ℕ, zero, suc, _-_, _≤_, _<_}
 use native.Mathlib.Omega.{arith}
 use mathlib.Core.Path.{_≡_, refl, _∙_}
 use mathlib.Core.Bool.{Bool, true, false}
@@ -8,20 +8,16 @@ use lib.ListN.{length, getD, set, length-take}
 use lib.Seq.{getD-take}
 use lib.Dec.{ltb}
 use borrow.Author.Tests.{ltb-true}
-use Rattle.basics.specs.Mask.{circuits}
-use Rattle.basics.proofs.BoolLaws.{by-test, both}
+use Rattle.basics.proofs.BoolLaws.{by-test}
 use Rattle.adjacency.specs.Record.{expiryOf}
 use Rattle.adjacency.specs.declared.record.Key.{Key}
 use Rattle.adjacency.specs.declared.record.State.{State}
 use Rattle.adjacency.specs.declared.place.Slot.{Slot}
 use Rattle.room.specs.Table.{crowded, put, sweep, emptyRoom}
 use Rattle.room.specs.Gather.{gather}
-use Rattle.settings.specs.Settings.{between, circuitOk, circuitsOf, lengthsOk, settingsOk}
-use Rattle.basics.specs.Lists.{every}
-use Rattle.basics.specs.Levels.{someOn}
+use Rattle.settings.specs.Settings.{circuitsOf, settingsOk}
 use Rattle.settings.specs.declared.circuit.Circuit.{Circuit}
 use Rattle.settings.specs.declared.setup.Settings.{Settings}
-use Rattle.settings.proofs.SettingsLaws.{between-true}
 use Rattle.control.specs.Common.{noCircuit, circuitOf, setupCommon}
 use Rattle.settings.specs.declared.circuit.Chosen.{Chosen}
 use Rattle.settings.specs.declared.circuit.Chosen.the-variants.{Known, Unknown}
@@ -29,7 +25,8 @@ use Rattle.timers.specs.Hellos.{Hellos}
 use Rattle.model.specs.Gateway.{Room, Gateway, numbered, renew, noRoom, roomOf, newRoom, newGateway, Started, setup}
 use Rattle.model.specs.Step.{sweptRoom}
 use Rattle.invariants.specs.Invariants.{Each, end, roomFor, Span, KeyFits}
-use Rattle.invariants.proofs.CommonLaws.{CommonOk, common-new}
+use Rattle.invariants.proofs.CommonLaws.{known-stands, CommonOk, common-new}
+use Rattle.invariants.proofs.InRange.{circuit-hold}
 use Rattle.invariants.proofs.RoomLaws.{each-put, each-sweep, NoRecords, no-records-each, no-records-gather, empty-no-records, openPlaces, empty-places, places-put, places-sweep, single-sweep, single-put}
 
 -- ---- a room
@@ -125,20 +122,6 @@ swept-at clock l (suc i) = swept-getD clock l i
 
 -- ---- setup
 
-every-at : {A : Type 0} (p : A → Bool) (l : List A) (i : ℕ) (d : A) → every p l ≡ true → i < length l → p (getD l i d) ≡ true
-unfolding every
-every-at p [] i d e lt = absurd (omega arith)
-every-at p (x ∷ l) zero d e lt = both (p x) (every p l) e .0
-every-at p (x ∷ l) (suc i) d e lt = every-at p l i d (both (p x) (every p l) e .1) (omega arith)
-
-circuit-hold : (c : Circuit) → circuitOk c ≡ true → c .hold ≤ 65535
-unfolding circuitOk
-circuit-hold c e =
-    let a = both (someOn (c .levels)) _ e .1 in
-    let b = both (between 0 (c .priority) 127) _ a .1 in
-    let d = both (between 1 (c .hold) 65535) _ b .0 in
-    between-true 1 (c .hold) 65535 d .1
-
 new-at : (l : List Circuit) (i : ℕ) (d : Circuit) → i < length l → getD (map newRoom l) i noRoom ≡ newRoom (getD l i d)
 new-at [] i d lt = absurd (omega arith)
 new-at (c ∷ l) zero d lt = refl
@@ -150,21 +133,9 @@ new-no-records (c ∷ l) zero = empty-no-records (c .kind)
 new-no-records (c ∷ l) (suc i) = new-no-records l i
 
 module _ (s : Settings) (ok : settingsOk s ≡ true) where
-  circuits-ok : every circuitOk (circuitsOf s) ≡ true
-  unfolding settingsOk
-  circuits-ok =
-      let a = both (between 1 (s .count) circuits) _ ok .1 in
-      both (every circuitOk (circuitsOf s)) _ a .0
-
   new-hold : (n : ℕ) (c : Circuit) → circuitOf (setupCommon s) n ≡ Known c → c .hold ≤ 65535
-  unfolding circuitOf setupCommon
-  new-hold zero c e = absurd (let z : _≡_ {A = ℕ} 0 1 = cc in omega arith)
-  new-hold (suc i) c e =
-      by-test (ltb i (length (circuitsOf s)))
-      (λ a.
-      let z : getD (circuitsOf s) i (noCircuit) ≡ c = cc in
-      rw (← z) (circuit-hold (getD (circuitsOf s) i (noCircuit)) (every-at circuitOk (circuitsOf s) i (noCircuit) circuits-ok (ltb-true _ _ a))))
-      (λ a. absurd (let z : _≡_ {A = ℕ} 0 1 = cc in omega arith))
+  unfolding setupCommon
+  new-hold n c e = circuit-hold s ok (n - 1) c (known-stands (setupCommon s) n c e)
 
   new-places : (i : ℕ) → i < length (circuitsOf s)
       → openPlaces (getD (map newRoom (s .circuits)) i noRoom .slots) ≡ roomFor (getD (circuitsOf s) i (noCircuit) .kind)
@@ -186,17 +157,9 @@ module _ (s : Settings) (ok : settingsOk s ≡ true) where
   unfolding newGateway setupCommon
   new-rooms = record { hold = new-hold; rooms = new-room }
 
-  new-tries : 0 < s .lengths .tries
-  unfolding settingsOk lengthsOk
-  new-tries =
-      let a = both (between 1 (s .count) circuits) _ ok .1 in
-      let b = both (every circuitOk (circuitsOf s)) _ a .1 in
-      let c = both (between 1 (s .lengths .t1) 65535) _ b .1 in
-      between-true 1 (s .lengths .tries) 255 (both (between 1 (s .lengths .t2) 65535) _ c .1) .0
-
   new-common : CommonOk s (newGateway s .common)
   unfolding newGateway
-  new-common = common-new s circuits-ok new-tries
+  new-common = common-new s ok
 
 -- ---- both parts of the gateway, of setup's settings
 

@@ -1,6 +1,7 @@
 pub mod NumberedLaws
 pub mod QuietLaws
 pub mod SetupTimersLaws
+pub mod InRange
 pub mod CommonLaws
 pub mod RoomLaws
 pub mod ReactLaws

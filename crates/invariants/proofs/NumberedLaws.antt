@@ -1,12 +1,12 @@
--- A property of each element by its number, of a list that goes on as d past its end: one element renewed keeps it, and so does a map whose
--- function does.
+-- A property of each element by its place, from 0, or by its number, from 1, of a list that goes on as d past its end: one element renewed keeps
+-- it, and so does a map whose function does.
 use Prim.Native.Nat.{ℕ, zero, suc}
 use mathlib.Core.List.{List, [], _∷_, map}
 use lib.ListN.{getD, set}
 use Rattle.model.specs.Gateway.{numbered, renew}
 
 module _ {A : Type 0} (d : A) where
-  set-all : (P : ℕ → A → Type 0) (l : List A) (i : ℕ) (v : A) → ((m : ℕ) → P m (getD l m d)) → P i v → (m : ℕ) → P m (getD (set l i v) m d)
+  pub set-all : (P : ℕ → A → Type 0) (l : List A) (i : ℕ) (v : A) → ((m : ℕ) → P m (getD l m d)) → P i v → (m : ℕ) → P m (getD (set l i v) m d)
   set-all P [] i v h p m = h m
   set-all P (x ∷ l) zero v h p zero = p
   set-all P (x ∷ l) zero v h p (suc m) = h (suc m)
@@ -20,14 +20,8 @@ module _ {A : Type 0} (d : A) where
   renew-all P l (suc i) v h p zero = h zero
   renew-all P l (suc i) v h p (suc m) = set-all (λ k. P (suc k)) l i v (λ k. h (suc k)) p m
 
-  map-getD : (P : ℕ → A → Type 0) (f : A → A) → ((m : ℕ) (x : A) → P m x → P m (f x)) → (l : List A) → ((m : ℕ) → P m (getD l m d))
+  pub map-all : (P : ℕ → A → Type 0) (f : A → A) → ((m : ℕ) (x : A) → P m x → P m (f x)) → (l : List A) → ((m : ℕ) → P m (getD l m d))
       → (m : ℕ) → P m (getD (map f l) m d)
-  map-getD P f k [] h m = h m
-  map-getD P f k (x ∷ l) h zero = k zero x (h zero)
-  map-getD P f k (x ∷ l) h (suc m) = map-getD (λ j. P (suc j)) f (λ j. k (suc j)) l (λ j. h (suc j)) m
-
-  pub map-all : (P : ℕ → A → Type 0) (f : A → A) → ((m : ℕ) (x : A) → P m x → P m (f x)) → (l : List A) → ((m : ℕ) → P m (numbered l m d))
-      → (m : ℕ) → P m (numbered (map f l) m d)
-  unfolding numbered
-  map-all P f k l h zero = h zero
-  map-all P f k l h (suc m) = map-getD (λ j. P (suc j)) f (λ j. k (suc j)) l (λ j. h (suc j)) m
+  map-all P f k [] h m = h m
+  map-all P f k (x ∷ l) h zero = k zero x (h zero)
+  map-all P f k (x ∷ l) h (suc m) = map-all (λ j. P (suc j)) f (λ j. k (suc j)) l (λ j. h (suc j)) m

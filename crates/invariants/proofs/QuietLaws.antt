@@ -13,11 +13,10 @@ use Rattle.basics.specs.declared.levels.Levels.{Levels}
 use Rattle.basics.specs.Levels.{First, isOn, someOn}
 use Rattle.basics.specs.Lists.{every, some}
 use Rattle.settings.specs.declared.circuit.Circuit.{Circuit}
-use Rattle.basics.specs.Mask.{bitsOf}
+use Rattle.basics.specs.Mask.{bitsOf, anyTrue}
 use Rattle.timer_parts.specs.T1.{stopT1}
 use Rattle.timer_parts.specs.T2.{timerRuns, anyT2, startTimer, startT2s}
 use Rattle.timer_parts.specs.T3.{expiresT3, lowerT3, heardT3}
-use Rattle.timer_parts.specs.declared.t3.T3.{T3}
 use Rattle.timer_parts.specs.declared.t3.T3.the-variants.{Idle}
 use Rattle.timer_parts.specs.declared.heard.Heard.{Heard}
 use Rattle.timer_parts.specs.declared.heard.Heard.the-variants.{WithoutTlv, Acknowledged, Plain}
@@ -33,7 +32,7 @@ use Rattle.control.specs.Common.{startOf}
 use Rattle.invariants.specs.Invariants.{Quiet, Restarts, NoT3}
 
 stopped : (l : List T1) → anyRuns (map stopT1 l) ≡ false
-unfolding anyRuns stopT1
+unfolding anyRuns anyTrue stopT1
 stopped [] = refl
 stopped (t ∷ ts) = stopped ts
 
@@ -46,7 +45,7 @@ on-quiet t m = record { t1s = λ e. not-running (t .mode) m e; t2s = λ e. not-r
 
 -- setup
 started-by : (s : Start) (m : Mode) → s .mode ≡ m → Quiet (started s)
-unfolding started headBy startHellos startT1 startT2s startTimer anyRuns anyT2 bitsOf
+unfolding started headBy startHellos startT1 startT2s startTimer anyRuns anyTrue anyT2 bitsOf
 started-by s Running p = record { t1s = λ e. rw p refl; t2s = λ e. rw p refl; t3 = λ e. rw p refl }
 started-by s Restarting p = on-quiet (started s) (rw p refl)
 started-by s Starting p = on-quiet (started s) (rw p refl)
@@ -151,13 +150,13 @@ pub toT3-mode : (s : Lengths) (clock : ℕ) (t : Timers) → toT3 s clock t .mod
 unfolding toT3 cancelT2s expireT2s tickT1s withT1s withT2s
 toT3-mode s clock t = tickT3-mode clock (cancelT2s (expireT2s clock (tickT1s s clock t)))
 
-pub heardIn-mode : (s : Lengths) (clock i : ℕ) (l : Levels) (rose : Bool) (d : Heard) (t : Timers) → heardIn s clock i l rose d t .mode ≡ t .mode
+pub heardIn-mode : (s : Lengths) (clock i : ℕ) (rose : Bool) (d : Heard) (t : Timers) → heardIn s clock i rose d t .mode ≡ t .mode
 unfolding heardIn atT1 withT1s withT3
-heardIn-mode s clock i l rose d t = refl
+heardIn-mode s clock i rose d t = refl
 
-pub csnpIn-mode : (i : ℕ) (l n : Levels) (t : Timers) → csnpIn i l n t .mode ≡ t .mode
+pub csnpIn-mode : (i : ℕ) (n : Levels) (t : Timers) → csnpIn i n t .mode ≡ t .mode
 unfolding csnpIn atT1 withT1s
-csnpIn-mode i l n t = refl
+csnpIn-mode i n t = refl
 
 pub noticeT2s-mode : (n : Levels) (t : Timers) → noticeT2s n t .mode ≡ t .mode
 unfolding noticeT2s withT2s
@@ -180,13 +179,13 @@ heardT3-idle clock (Acknowledged true remaining) = refl
 heardT3-idle clock (Acknowledged false remaining) = refl
 heardT3-idle clock Plain = refl
 
-pub heardIn-idle : (s : Lengths) (clock i : ℕ) (l : Levels) (rose : Bool) (d : Heard) (t : Timers) → t .t3 ≡ Idle → heardIn s clock i l rose d t .t3 ≡ Idle
+pub heardIn-idle : (s : Lengths) (clock i : ℕ) (rose : Bool) (d : Heard) (t : Timers) → t .t3 ≡ Idle → heardIn s clock i rose d t .t3 ≡ Idle
 unfolding heardIn atT1 withT1s withT3
-heardIn-idle s clock i l rose d t e = ap (heardT3 clock d) e ∙ heardT3-idle clock d
+heardIn-idle s clock i rose d t e = ap (heardT3 clock d) e ∙ heardT3-idle clock d
 
-pub csnpIn-idle : (i : ℕ) (l n : Levels) (t : Timers) → t .t3 ≡ Idle → csnpIn i l n t .t3 ≡ Idle
+pub csnpIn-idle : (i : ℕ) (n : Levels) (t : Timers) → t .t3 ≡ Idle → csnpIn i n t .t3 ≡ Idle
 unfolding csnpIn atT1 withT1s
-csnpIn-idle i l n t e = e
+csnpIn-idle i n t e = e
 
 pub noticeT2s-idle : (n : Levels) (t : Timers) → t .t3 ≡ Idle → noticeT2s n t .t3 ≡ Idle
 unfolding noticeT2s withT2s

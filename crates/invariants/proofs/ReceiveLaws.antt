@@ -7,9 +7,8 @@ use mathlib.Core.Bool.{false}
 use mathlib.Core.List.{List, [], _∷_, _++_, append-assoc}
 use lib.ListN.{length, drop}
 use lib.Dec.{ltb}
-use borrow.Author.Tests.{eqb-false, not-false}
+use borrow.Author.Tests.{eqb-false}
 use Rattle.basics.specs.Octets.{big, octetsOf}
-use Rattle.basics.specs.Levels.{hasLevel}
 use Rattle.basics.specs.declared.levels.Levels.{Levels}
 use Rattle.basics.proofs.BoolLaws.{neither, by-test}
 use Rattle.basics.proofs.OctetsLaws.{big-octetsOf}
@@ -18,7 +17,6 @@ use Rattle.restart_tlv.specs.declared.writer.Ack.{Ack}
 use Rattle.hello.specs.Hello.{kindOf, helloRead}
 use Rattle.hello.specs.declared.read.Hello.{Hello}
 use Rattle.hello.specs.declared.read.Link.{Link}
-use Rattle.hello.specs.declared.read.Link.the-variants.{Lan as LanLink, P2p as P2pLink}
 use Rattle.hello.specs.declared.read.Read.{Read}
 use Rattle.hello.specs.declared.read.Read.the-variants.{Refused as RefusedRead, Accepted as ReadAs}
 use Rattle.basics.specs.declared.kind.CircuitKind.{CircuitKind}
@@ -52,6 +50,7 @@ use Rattle.invariants.proofs.RoomLaws.{each-find}
 use Rattle.invariants.proofs.ReactLaws.{SpanIn, Replies, Fair, refused as unfair, accepted as fair, react-fair}
 use Rattle.invariants.proofs.HelloBounds.{Brief, brief-read}
 use Rattle.hello.proofs.KindLaws.{Reads, refused as refused-read, accepted as brief}
+use Rattle.invariants.proofs.CommonLaws.{level-passes}
 use Rattle.invariants.proofs.GatewayLaws.{RoomOk, room-put}
 
 -- ---- what a call on a circuit leaves
@@ -93,8 +92,7 @@ room-sound clock k t (Accepted after reply line) (fair span told gone) =
 level-and-mac : (kind : CircuitKind) (l : Levels) (mac system : ℕ) (link : Link) → kindOf link ≡ kind → levelOff l link ≡ false
     → LevelAndMac kind l (keyOn kind (record { level = levelIn link; system = system; mac = mac }))
 unfolding keyOn
-level-and-mac Lan l mac system (LanLink level priority listed) e off = not-false (hasLevel l level) off
-level-and-mac Lan l mac system (P2pLink t) e off = cc
+level-and-mac Lan l mac system link e off = level-passes Lan l link e off
 level-and-mac P2p l mac system link e off = (refl, refl)
 
 key-system : (kind : CircuitKind) (k : Key) → keyOn kind k .system ≡ k .system

@@ -1,21 +1,21 @@
--- What setup's settings say of the running timers stays true: of each T1 its circuit, its expiries and its deadline, of T2 the level and the
--- deadline, of T3 the last deadline. Setup gives it, and each step of a call keeps it.
-use Prim.Native.Nat.{ℕ, zero, suc, _+_, _/_, _^_, _<_, _≤_}
+-- What setup's settings say of the timers stays true: which T1s there are, of each that runs its place, its expiries and its deadline, of T2 the level
+-- and the deadline, of T3 the last deadline. Setup gives it, and each step of a call keeps it.
+use Prim.Native.Nat.{ℕ, zero, suc, _+_, _<_, _≤_}
 use native.Mathlib.Omega.{arith}
-use native.Mathlib.Nat.{pow-suc}
-use mathlib.Core.Path.{_≡_, refl}
-use mathlib.Core.Bool.{Bool, true, false, cond}
+use mathlib.Core.Path.{_≡_, refl, sym, _∙_}
+use mathlib.Core.Bool.{Bool, true, false, cond, true≢false}
 use mathlib.Core.List.{List, [], _∷_, map}
 use lib.ListN.{getD, set}
 use lib.Dec.{leb, ltb}
-use lib.Pow.{pow-pos}
 use borrow.Author.Tests.{ltb-true}
 use Rattle.basics.specs.Levels.{Level, First, Second, isOn, levelsWith}
-use Rattle.basics.specs.Mask.{bitsOf}
+use Rattle.basics.specs.Mask.{places}
 use Rattle.basics.specs.declared.levels.Levels.{Levels}
 use Rattle.basics.proofs.BoolLaws.{and-left, by-test}
+use Rattle.basics.proofs.MaskLaws.{getD-past}
 use Rattle.settings.specs.Mode.{isRunning}
 use Rattle.settings.specs.Settings.{circuitsOf, enabledLevels}
+use Rattle.settings.specs.Serving.{serving, allT1s, servedAt}
 use Rattle.settings.specs.declared.mode.Mode.{Mode}
 use Rattle.settings.specs.declared.mode.Mode.the-variants.{Running, Restarting, Starting}
 use Rattle.settings.specs.declared.setup.Settings.{Settings}
@@ -36,69 +36,67 @@ use Rattle.timers.specs.Timers.{Timers, withT1s, withT2s, withT3, noT1, atT1, t
 use Rattle.timers.specs.Events.{headBy, startHead, startT1, started}
 use Rattle.timers.specs.Memory.{t1Bits}
 use Rattle.timers.specs.declared.head.Head.{Head}
-use Rattle.control.specs.Common.{presentOf, startOf}
-use Rattle.model.specs.Gateway.{numbered, renew}
-use Rattle.invariants.specs.Invariants.{T1Ends, T1Fits, T2Ends, t3Ends, SetupTimers}
-use Rattle.invariants.proofs.NumberedLaws.{renew-all, map-all}
+use Rattle.control.specs.Common.{startOf}
+use Rattle.invariants.specs.Invariants.{IsT1, T1Ends, T1Fits, T2Ends, t3Ends, SetupTimers}
+use Rattle.invariants.proofs.NumberedLaws.{set-all, map-all}
 
--- ---- T1: no step of a T1 starts one, but on a circuit that is there
+-- ---- T1: no step of a T1 starts one, but where there is one
 
 module _ (s : Settings) (clock : ℕ) where
-  -- a step of the T1 of circuit n keeps what is said of it
+  -- a step of the T1 in place i keeps what is said of it
   abbrev FittingAt : ℕ → (T1 → T1) → Type 0
-  FittingAt n f = (x : T1) → T1Fits s clock n x → T1Fits s clock n (f x)
+  FittingAt i f = (x : T1) → T1Fits s clock i x → T1Fits s clock i (f x)
 
   abbrev Fitting : (T1 → T1) → Type 0
-  Fitting f = (n : ℕ) → FittingAt n f
+  Fitting f = (i : ℕ) → FittingAt i f
 
   stop-fits : Fitting stopT1
   unfolding stopT1
-  stop-fits n x h e = absurd (let z : _≡_ {A = ℕ} 0 1 = cc in omega arith)
+  stop-fits i x h e = absurd (let z : _≡_ {A = ℕ} 0 1 = cc in omega arith)
 
   tick-fits : Fitting (tickT1 (s .lengths) clock)
   unfolding tickT1 again helloDue due
-  tick-fits n x h =
+  tick-fits i x h =
       by-test (helloDue (s .lengths) clock x)
       (λ a. rw a (λ e.
       let k = h (and-left (x .runs) _ (and-left (due clock x) _ a)) in
       record { there = k .there; fewer = hello-tries (s .lengths) clock x a; due = omega arith }))
-      (λ a. by-test (due clock x) (λ b. rw (a, b) (stop-fits n x h)) (λ b. rw (a, b) h))
+      (λ a. by-test (due clock x) (λ b. rw (a, b) (stop-fits i x h)) (λ b. rw (a, b) h))
 
   satisfied-fits : (l : Levels) → Fitting (satisfied l)
   unfolding satisfied
-  satisfied-fits l n x h = by-test (done l (x .entry)) (λ a. rw a (stop-fits n x h)) (λ a. rw a h)
+  satisfied-fits l i x h = by-test (done l (x .entry)) (λ a. rw a (stop-fits i x h)) (λ a. rw a h)
 
-  either-fits : (n : ℕ) (b : Bool) (x y : T1) → T1Fits s clock n x → T1Fits s clock n y → T1Fits s clock n (cond b x y)
-  either-fits n true x y h k = h
-  either-fits n false x y h k = k
+  either-fits : (i : ℕ) (b : Bool) (x y : T1) → T1Fits s clock i x → T1Fits s clock i y → T1Fits s clock i (cond b x y)
+  either-fits i true x y h k = h
+  either-fits i false x y h k = k
 
   heard-fits : (l : Levels) (d : Heard) → Fitting (heardT1 l d)
   unfolding heardT1 acknowledged
-  heard-fits l (WithoutTlv ours) n x h = stop-fits n x h
-  heard-fits l (Acknowledged up remaining) n x h = satisfied-fits l n (acknowledged x) h
-  heard-fits l Plain n x h = h
+  heard-fits l (WithoutTlv ours) i x h = stop-fits i x h
+  heard-fits l (Acknowledged up remaining) i x h = satisfied-fits l i (acknowledged x) h
+  heard-fits l Plain i x h = h
 
-  -- one that begins, on a circuit that is there
-  first-fits : (mode : Mode) (rose : Bool) (n : ℕ) → n ≤ s .count → 0 < s .lengths .tries → FittingAt n (firstT1 (s .lengths) clock mode rose)
+  -- one that begins, where there is one
+  first-fits : (mode : Mode) (rose : Bool) (i : ℕ) → IsT1 s i → 0 < s .lengths .tries → FittingAt i (firstT1 (s .lengths) clock mode rose)
   unfolding begunBy begin
-  first-fits mode rose n there tries x h =
-      either-fits n (begins _ x) (begin (clock + s .lengths .t1) x) x (λ e. record { there = there; fewer = tries; due = omega arith }) h
+  first-fits mode rose i there tries x h =
+      either-fits i (begins _ x) (begin (clock + s .lengths .t1) x) x (λ e. record { there = there; fewer = tries; due = omega arith }) h
 
   csnp-fits : (l m : Levels) → Fitting (λ x. satisfied l (noted m x))
   unfolding noted
-  csnp-fits l m n x h = satisfied-fits l n (noted m x) h
+  csnp-fits l m i x h = satisfied-fits l i (noted m x) h
 
-  -- of all circuits
+  -- in all places
   abbrev AllFitting : List T1 → Type 0
-  AllFitting l = (n : ℕ) → T1Fits s clock n (numbered l n noT1)
+  AllFitting l = (i : ℕ) → T1Fits s clock i (getD l i noT1)
 
   module _ (f : T1 → T1) (l : List T1) (h : AllFitting l) where
     all-fit : Fitting f → AllFitting (map f l)
     all-fit fits = map-all noT1 (T1Fits s clock) f fits l h
 
-    one-fits : (i : ℕ) → FittingAt (suc i) f → AllFitting (set l i (f (getD l i noT1)))
-    unfolding numbered renew
-    one-fits i fits = renew-all noT1 (T1Fits s clock) l (suc i) (f (getD l i noT1)) h (fits (getD l i noT1) (h (suc i)))
+    one-fits : (i : ℕ) → FittingAt i f → AllFitting (set l i (f (getD l i noT1)))
+    one-fits i fits = set-all noT1 (T1Fits s clock) l i (f (getD l i noT1)) h (fits (getD l i noT1) (h i))
 
 -- ---- T2: no step starts one or moves its deadline
 
@@ -157,21 +155,22 @@ heard-due at clock Plain t h = h
 module _ (s : Settings) (clock : ℕ) (t : Timers) (h : SetupTimers s clock t) where
   t1s-kept : (l : List T1) → AllFitting s clock l → SetupTimers s clock (withT1s t l)
   unfolding withT1s
-  t1s-kept l k = record { t1s = k; t2s = h .t2s; t3 = h .t3 }
+  t1s-kept l k = record { serving = h .serving; t1s = k; t2s = h .t2s; t3 = h .t3 }
 
   t2s-kept : (both : T2s) → DueAt (T2Ends s) both → SetupTimers s clock (withT2s t both)
   unfolding withT2s
-  t2s-kept both k = record { t1s = h .t1s; t2s = k; t3 = h .t3 }
+  t2s-kept both k = record { serving = h .serving; t1s = h .t1s; t2s = k; t3 = h .t3 }
 
   t3-kept : (x : T3) → DueBy (t3Ends s) x → SetupTimers s clock (withT3 t x)
   unfolding withT3
-  t3-kept x k = record { t1s = h .t1s; t2s = h .t2s; t3 = k }
+  t3-kept x k = record { serving = h .serving; t1s = h .t1s; t2s = h .t2s; t3 = k }
 
   -- all T1 stop, and T3 ends
   ended : (mode : Mode) (x : T3) → ((deadline : ℕ) → x ≡ Runs deadline → ⊥)
-      → SetupTimers s clock (record { mode = mode; t1s = map stopT1 (t .t1s); t2s = t .t2s; t3 = x })
+      → SetupTimers s clock (record { mode = mode; serving = t .serving; t1s = map stopT1 (t .t1s); t2s = t .t2s; t3 = x })
   ended mode x k =
       record {
+        serving = h .serving;
         t1s = all-fit s clock stopT1 (t .t1s) (h .t1s) (stop-fits s clock);
         t2s = h .t2s;
         t3 = λ deadline e. absurd (k deadline e);
@@ -205,13 +204,13 @@ module _ (s : Settings) (clock : ℕ) (t : Timers) (h : SetupTimers s clock t) w
       by-test (expiresT3 clock (t .t2s) (t .t3))
       (λ a. rw a (ended (t .mode) Expired (λ deadline e. let z : _≡_ {A = ℕ} 0 1 = cc in omega arith))) (λ a. rw a h)
 
-  atT1-kept : (i : ℕ) (f : T1 → T1) → FittingAt s clock (suc i) f → SetupTimers s clock (atT1 i f t)
+  atT1-kept : (i : ℕ) (f : T1 → T1) → FittingAt s clock i f → SetupTimers s clock (atT1 i f t)
   unfolding atT1
   atT1-kept i f fits = t1s-kept _ (one-fits s clock f (t .t1s) (h .t1s) i fits)
 
-  pub csnpIn-kept : (i : ℕ) (l n : Levels) → SetupTimers s clock (csnpIn i l n t)
+  pub csnpIn-kept : (i : ℕ) (n : Levels) → SetupTimers s clock (csnpIn i n t)
   unfolding csnpIn
-  csnpIn-kept i l n = atT1-kept i (λ x. satisfied l (noted n x)) (csnp-fits s clock l n (suc i))
+  csnpIn-kept i n = let l = servedAt (t .serving) i in atT1-kept i (λ x. satisfied l (noted n x)) (csnp-fits s clock l n i)
 
   pub noticeT2s-kept : (n : Levels) → SetupTimers s clock (noticeT2s n t)
   unfolding noticeT2s noticeBoth
@@ -225,12 +224,13 @@ module _ (s : Settings) (clock : ℕ) (t : Timers) (h : SetupTimers s clock t) w
       let b = expireT2s-kept s clock (tickT1s (s .lengths) clock t) a in
       tickT3-kept s clock _ (cancelT2s-kept s clock (expireT2s clock (tickT1s (s .lengths) clock t)) b)
 
-  pub heardIn-kept : (i : ℕ) (l : Levels) (rose : Bool) (d : Heard) → suc i ≤ s .count → 0 < s .lengths .tries
-      → SetupTimers s clock (heardIn (s .lengths) clock i l rose d t)
+  pub heardIn-kept : (i : ℕ) (rose : Bool) (d : Heard) → IsT1 s i → 0 < s .lengths .tries
+      → SetupTimers s clock (heardIn (s .lengths) clock i rose d t)
   unfolding heardIn
-  heardIn-kept i l rose d there tries =
+  heardIn-kept i rose d there tries =
       t3-kept s clock _
-      (atT1-kept s clock t h i _ (λ x k. heard-fits s clock l d (suc i) _ (first-fits s clock (t .mode) rose (suc i) there tries x k)))
+      (atT1-kept s clock t h i _
+      (λ x k. heard-fits s clock (servedAt (t .serving) i) d i _ (first-fits s clock (t .mode) rose i there tries x k)))
       (heardT3 clock d (t .t3)) (heard-due (t3Ends s) clock d (t .t3) (h .t3))
 
   pub settled-kept : (f : Timers → Timers) → SetupTimers s clock (f t) → SetupTimers s clock (settled f t)
@@ -242,21 +242,13 @@ module _ (s : Settings) (clock : ℕ) (t : Timers) (h : SetupTimers s clock t) w
   pub later-kept : (new : ℕ) → clock ≤ new → SetupTimers s new t
   later-kept new le =
       record {
-        t1s = λ n e. let k = h .t1s n e in record { there = k .there; fewer = k .fewer; due = omega arith };
+        serving = h .serving;
+        t1s = λ i e. let k = h .t1s i e in record { there = k .there; fewer = k .fewer; due = omega arith };
         t2s = h .t2s;
         t3 = h .t3;
       }
 
 -- ---- setup
-
--- the digits of a number stand below its width
-below : (n w m i : ℕ) → m < 2 ^ n → getD (bitsOf w m) i false ≡ true → i < n
-unfolding bitsOf
-below n zero m i h e = absurd (let z : _≡_ {A = ℕ} 0 1 = cc in omega arith)
-below zero (suc w) m zero h e = absurd (let z : m ≡ 0 = omega arith in let y = rw z at e in let w : _≡_ {A = ℕ} 0 1 = cc in omega arith)
-below zero (suc w) m (suc i) h e = let k = below zero w (m / 2) i (omega arith) e in omega arith
-below (suc n) (suc w) m zero h e = omega arith
-below (suc n) (suc w) m (suc i) h e = let p = pow-suc 2 n in let k = below n w (m / 2) i (omega arith) e in omega arith
 
 -- a T1 of a mask's digits runs where the digit says so
 started-fits : (P : ℕ → ℕ → ℕ → Type 0) (begun : Bool) (deadline : ℕ) (bs : List Bool) → ((i : ℕ) → getD bs i false ≡ true → P i 0 deadline) → (i : ℕ)
@@ -267,13 +259,18 @@ started-fits P begun deadline [] k i e = absurd (let z : _≡_ {A = ℕ} 0 1 = c
 started-fits P begun deadline (b ∷ bs) k zero e = k zero e
 started-fits P begun deadline (b ∷ bs) k (suc i) e = started-fits (λ j. P (suc j)) begun deadline bs (λ j. k (suc j)) i e
 
+-- a mask of no T1 but those that there are
+abbrev OnlyT1s : Settings → ℕ → Type 0
+OnlyT1s s m = (i : ℕ) → getD (t1Bits m) i false ≡ true → IsT1 s i
+
+no-t1 : (s : Settings) → OnlyT1s s 0
+no-t1 s i e = absurd (true≢false (sym e ∙ getD-past 0 places 0 i (omega arith) (omega arith)))
+
 module _ (s : Settings) (tries : 0 < s .lengths .tries) where
-  started-on : (begun : Bool) (m : ℕ) → m < 2 ^ s .count → AllFitting s (s .clock) (map (startT1 begun (s .clock + s .lengths .t1)) (t1Bits m))
-  unfolding numbered noT1
-  started-on begun m h zero e = absurd (let z : _≡_ {A = ℕ} 0 1 = cc in omega arith)
-  started-on begun m h (suc i) e =
-      started-fits (λ j. T1Ends s (s .clock) (suc j)) begun (s .clock + s .lengths .t1) (t1Bits m)
-      (λ j d. record { there = below (s .count) _ m j h d; fewer = tries; due = omega arith }) i e
+  started-on : (begun : Bool) (m : ℕ) → OnlyT1s s m → AllFitting s (s .clock) (map (startT1 begun (s .clock + s .lengths .t1)) (t1Bits m))
+  started-on begun m known i e =
+      started-fits (T1Ends s (s .clock)) begun (s .clock + s .lengths .t1) (t1Bits m)
+      (λ j d. record { there = known j d; fewer = tries; due = omega arith }) i e
 
 start-timer : (on : Bool) (at deadline : ℕ) → startTimer on at ≡ Until deadline → (on ≡ true) × (deadline ≡ at)
 unfolding startTimer
@@ -292,29 +289,28 @@ none-due P at First deadline e = absurd (let z : _≡_ {A = ℕ} 0 1 = cc in ome
 none-due P at Second deadline e = absurd (let z : _≡_ {A = ℕ} 0 1 = cc in omega arith)
 
 module _ (s : Settings) (tries : 0 < s .lengths .tries) where
-  started-with : (h : Head) → startHead (startOf s) ≡ h → h .mask < 2 ^ s .count → DueAt (T2Ends s) (h .t2s) → DueBy (t3Ends s) (h .t3)
+  started-with : (h : Head) → startHead (startOf s) ≡ h → OnlyT1s s (h .mask) → DueAt (T2Ends s) (h .t2s) → DueBy (t3Ends s) (h .t3)
       → SetupTimers s (s .clock) (started (startOf s))
   unfolding started
-  started-with h e m two three = rw e (record { t1s = started-on s tries _ (h .mask) m; t2s = two; t3 = three })
+  started-with h e m two three = rw e (record { serving = refl; t1s = started-on s tries _ (h .mask) m; t2s = two; t3 = three })
 
   started-by : (m : Mode) → s .mode ≡ m → SetupTimers s (s .clock) (started (startOf s))
   unfolding headBy
   started-by Running p =
       started-with (record { mode = Running; mask = 0; t2s = startT2s (record { one = false; two = false }) 0; t3 = Idle }) (rw p refl)
-      (pow-pos (s .count)) (none-due (T2Ends s) 0)
+      (no-t1 s) (none-due (T2Ends s) 0)
       (λ deadline e. absurd (let z : _≡_ {A = ℕ} 0 1 = cc in omega arith))
   started-by Restarting p =
       let l = enabledLevels (circuitsOf s) in
       let at = s .clock + s .lengths .t2 in
-      let pos = pow-pos (s .count) in
-      started-with (record { mode = Restarting; mask = presentOf (s .count); t2s = startT2s l at; t3 = Runs (s .clock + 65535) }) (rw p refl)
-      (omega arith) (λ k deadline e. let z = start-due l at k deadline e in record { enabled = z .0; due = z .1 })
+      started-with (record { mode = Restarting; mask = allT1s (serving (circuitsOf s)); t2s = startT2s l at; t3 = Runs (s .clock + 65535) }) (rw p refl)
+      (λ i e. e) (λ k deadline e. let z = start-due l at k deadline e in record { enabled = z .0; due = z .1 })
       (λ deadline e. let z : s .clock + 65535 ≡ deadline = cc in omega arith)
   started-by Starting p =
       let l = enabledLevels (circuitsOf s) in
       let at = s .clock + s .lengths .t2 in
       started-with (record { mode = Starting; mask = 0; t2s = startT2s l at; t3 = Idle }) (rw p refl)
-      (pow-pos (s .count)) (λ k deadline e. let z = start-due l at k deadline e in record { enabled = z .0; due = z .1 })
+      (no-t1 s) (λ k deadline e. let z = start-due l at k deadline e in record { enabled = z .0; due = z .1 })
       (λ deadline e. absurd (let z : _≡_ {A = ℕ} 0 1 = cc in omega arith))
 
   pub started-kept : SetupTimers s (s .clock) (started (startOf s))

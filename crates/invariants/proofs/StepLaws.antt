@@ -39,15 +39,19 @@ module _ (n : ℕ) (c : Common) (s : Circuit) (r : Room) (hold : s .hold ≤ 655
   unfolding lookUp refuse
   look-ok k = by-test (asksLevel (s .kind) (s .levels) (k .level)) (λ e. rw e ok) (λ e. rw e ok)
 
+  flags-ok : (level : ℕ) → ActOk c s (nextHello n s level c r)
+  unfolding nextHello refuse
+  flags-ok level = by-test (hasLevel (s .levels) level) (λ e. rw e ok) (λ e. rw e ok)
+
   act-ok : (l : Local) → ((mac : ℕ) (frame b : List ℕ) → l ≡ Receive mac frame b → Octets frame) → ActOk c s (act n s l c r)
-  unfolding act linkMetricOf nextHello
+  unfolding act linkMetricOf
   act-ok (Receive mac frame b) f = receive-ok c s r hold ok n mac b frame (f mac frame b refl)
   act-ok Release f = room-sweep (c .system) (Known s) (c .clock) (c .clock) plannedState (r .slots) (λ v e q. q) ok
   act-ok Clear f = room-empty (c .system) s (c .clock)
   act-ok (CsnpComplete level) f = csnp-ok level
   act-ok (LookUp k) f = look-ok k
   act-ok LinkMetric f = ok
-  act-ok NextHello f = ok
+  act-ok (NextHello level) f = flags-ok level
 
 -- the circuits stay, and so which number is known
 same-circuit : (c d : Common) → d .circuits ≡ c .circuits → (n : ℕ) → circuitOf d n ≡ circuitOf c n

@@ -4,8 +4,9 @@ use mathlib.Core.Path.{_≡_}
 use mathlib.Core.Bool.{Bool, true, false}
 use mathlib.Core.Logic.{_≢_}
 use mathlib.Core.List.{List, [], _∷_}
-use lib.ListN.{length}
+use lib.ListN.{length, getD}
 use Rattle.basics.specs.Octets.{octet, big}
+use Rattle.basics.specs.Mask.{placeBits}
 use Rattle.hello.specs.Hello.{helloRead}
 use Rattle.basics.specs.declared.kind.CircuitKind.{CircuitKind}
 use Rattle.basics.specs.declared.kind.CircuitKind.the-variants.{Lan, P2p}
@@ -32,11 +33,12 @@ use Rattle.settings.specs.declared.mode.Mode.the-variants.{Running, Starting}
 use Rattle.settings.specs.declared.circuit.Circuit.{Circuit}
 use Rattle.settings.specs.declared.setup.Settings.{Settings}
 use Rattle.settings.specs.Settings.{circuitsOf, enabledLevels}
+use Rattle.settings.specs.Serving.{serving, allT1s}
 use Rattle.control.specs.Common.{Common, circuitOf}
 use Rattle.settings.specs.declared.circuit.Chosen.the-variants.{Known, Unknown}
 use Rattle.adjacency.specs.Keys.{keyIn}
 use Rattle.model.specs.Answers.{Received, Ticked, FrameAnswer, TimersAnswer}
-use Rattle.model.specs.Gateway.{Gateway, Started, setup, numbered, roomOf, recordAt}
+use Rattle.model.specs.Gateway.{Gateway, Started, setup, roomOf, recordAt}
 use Rattle.model.specs.Step.{Call, At, Over, Receive, Tick, Outcome, step}
 use Rattle.model.specs.Trace.{after}
 
@@ -163,17 +165,22 @@ pub record Restarts (s : Settings) (t : Timers) : Type 0 where
 pub record NoT3 (t : Timers) : Type 0 where
   pub idle : t .mode ≡ Starting → t .t3 ≡ Idle
 
+-- document 02, W-202: "Each LAN circuit now holds a T1, tries and acknowledgement per level", "P2P keeps one of each": there is a T1 in place i,
+-- counted from 0
+abbrev pub IsT1 : Settings → ℕ → Type 0
+IsT1 s i = getD (placeBits (allT1s (serving (circuitsOf s)))) i false ≡ true
+
 -- "Setup .. starts T1 on each [circuit] .. T1 at its deadline: order the hello again and run from this clock, or stop at the Nth expiry"; document
--- 02, W-201: T1 "begins when a record there first becomes UP". Where a T1 runs its circuit is there, it expired fewer than N times, and its length
+-- 02, W-201: T1 "begins when a record there first becomes UP". Where a T1 runs it is one that there is, it expired fewer than N times, and its length
 -- is all that it waits.
-pub record T1Ends (s : Settings) (clock n tries deadline : ℕ) : Type 0 where
-  pub there : n ≤ s .count
+pub record T1Ends (s : Settings) (clock i tries deadline : ℕ) : Type 0 where
+  pub there : IsT1 s i
   pub fewer : tries < s .lengths .tries
   pub due : deadline ≤ clock + s .lengths .t1
 
--- .. of the T1 of circuit n
+-- .. of the T1 in place i
 abbrev pub T1Fits : Settings → ℕ → ℕ → T1 → Type 0
-T1Fits s clock n t = t .runs ≡ true → T1Ends s clock n (t .entry .tries) (t .entry .deadline)
+T1Fits s clock i t = t .runs ≡ true → T1Ends s clock i (t .entry .tries) (t .entry .deadline)
 
 -- ".. T2 per enabled level ..": it runs for its length from setup on, and no call moves its deadline
 pub record T2Ends (s : Settings) (k : Level) (deadline : ℕ) : Type 0 where
@@ -185,7 +192,9 @@ abbrev pub t3Ends : Settings → ℕ
 t3Ends s = s .clock + 65535
 
 pub record SetupTimers (s : Settings) (clock : ℕ) (t : Timers) : Type 0 where
-  pub t1s : (n : ℕ) → T1Fits s clock n (numbered (t .t1s) n noT1)
+  -- which T1s there are (document 02, W-202), as setup gave them: no call changes it
+  pub serving : t .serving ≡ serving (circuitsOf s)
+  pub t1s : (i : ℕ) → T1Fits s clock i (getD (t .t1s) i noT1)
   pub t2s : (k : Level) (deadline : ℕ) → t2At k (t .t2s) .timer ≡ Until deadline → T2Ends s k deadline
   pub t3 : (deadline : ℕ) → t .t3 ≡ Runs deadline → deadline ≤ t3Ends s
 

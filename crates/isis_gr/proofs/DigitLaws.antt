@@ -9,7 +9,7 @@ use mathlib.Core.List.{List, [], _∷_}
 use lib.ListN.{length}
 use Rattle.basics.proofs.BitLaws.{bit-le}
 use Rattle.basics.specs.Bits.{bitOf}
-use Rattle.basics.specs.Mask.{circuits}
+use Rattle.basics.specs.Mask.{circuits, places}
 use Rattle.basics.specs.declared.levels.Levels.{Levels}
 use Rattle.basics.specs.declared.refusal.Refusal.{Refusal}
 use Rattle.basics.specs.declared.refusal.Refusal.the-variants.{NoCircuit, ReplyRoom, NotHello, BadLength, TlvPastEnd, BadTlv, WrongSource, WrongNeighbor, NoRoom, ClockBack, NotRestarting, BadSetting}
@@ -37,7 +37,7 @@ use Rattle.model.specs.declared.answers.Orders.{Orders}
 use Rattle.model.specs.Numbers.{refusalNo, replyFlags, levelsNo, csnpsNo, freedNo, overloadNo, markNo, phaseNo, stateNo}
 use Rattle.model.specs.Answers.{Answer, Refused, Received, Ticked, Told, Fact, Done, Noticed, Looked, Metric, HelloFlags, Waits, TimersAnswer, FrameAnswer, RecordAnswer, numberOf, timersAnswer, changeAnswer, frameAnswer, stateAnswer, lastOf}
 use Rattle.gateway.specs.Setup.{Begun}
-use Rattle.isis_gr.specs.Words.{maskNo, timersNo, frameNo, changeNo, answerNo, reportNo, recordNo}
+use Rattle.isis_gr.specs.Words.{maskNo, timersNo, changeNo, answerNo, reportNo, recordNo}
 
 -- ---- the range of each part
 
@@ -163,25 +163,25 @@ unfolding maskNo
 mask-below [] = omega arith
 mask-below (b ∷ l) = omega (arith, pow-suc 2 (length l), bit-le b, mask-below l)
 
-mask-octet : (l : List Bool) → length l ≡ circuits → maskNo l < 256
-mask-octet l e = subst (λ (n : ℕ). maskNo l < 2 ^ n) e (mask-below l)
+mask-within : (n : ℕ) (l : List Bool) → length l ≡ n → maskNo l < 2 ^ n
+mask-within n l e = subst (λ (k : ℕ). maskNo l < 2 ^ k) e (mask-below l)
 
-module _ (lost : List Bool) (hellos : Hellos) (o : TimerOutcome) (lm : length lost ≡ circuits) (lh : length (hellos .circuits) ≡ circuits) where
+module _ (lost : List Bool) (hellos : Hellos) (o : TimerOutcome) (lm : length lost ≡ circuits) (lh : length (hellos .t1s) ≡ places) where
   abbrev ticked : ℕ
   ticked = answerNo (Ticked lost hellos (timersAnswer o))
 
-  pub ticked-parts : (ticked / 2 ^ 8 % 256 ≡ maskNo lost) × (ticked / 2 ^ 16 % 256 ≡ maskNo (hellos .circuits))
+  pub ticked-parts : (ticked / 2 ^ 8 % 256 ≡ maskNo lost) × (ticked / 2 ^ 16 % 2 ^ 16 ≡ maskNo (hellos .t1s))
       × (ticked / 2 ^ 32 % 256 ≡ timersNo (timersAnswer o)) × (ticked / 2 ^ 40 ≡ hellos .flags)
   ticked-parts =
-      let a = mask-octet lost lm in
-      let b = mask-octet (hellos .circuits) lh in
+      let a = mask-within circuits lost lm in
+      let b = mask-within places (hellos .t1s) lh in
       let c : timersNo (timersAnswer o) < 256 = timers-parts o .below in
       (omega arith, omega arith, omega arith, omega arith)
 
 -- setup's word
-pub set-up-parts : (hellos : Hellos) → length (hellos .circuits) ≡ circuits
-    → (reportNo (Begun hellos) % 256 ≡ 0) × (reportNo (Begun hellos) / 2 ^ 8 % 256 ≡ maskNo (hellos .circuits)) × (reportNo (Begun hellos) / 2 ^ 16 ≡ hellos .flags)
-set-up-parts hellos e = let a = mask-octet (hellos .circuits) e in (omega arith, omega arith, omega arith)
+pub set-up-parts : (hellos : Hellos) → length (hellos .t1s) ≡ places
+    → (reportNo (Begun hellos) % 256 ≡ 0) × (reportNo (Begun hellos) / 2 ^ 8 % 2 ^ 16 ≡ maskNo (hellos .t1s)) × (reportNo (Begun hellos) / 2 ^ 24 ≡ hellos .flags)
+set-up-parts hellos e = let a = mask-within places (hellos .t1s) e in (omega arith, omega arith, omega arith)
 
 -- a look up's word, and the second of the two words that it writes (the first is the expiry)
 module _ (s : State) (shown : Bool) (low : lastOf s .priority < 256) where
@@ -209,7 +209,7 @@ module _ (s : State) (shown : Bool) (low : lastOf s .priority < 256) where
       let f = bit-le (found .unreachable) in
       (omega arith, omega arith, omega arith, omega arith, omega arith, omega arith, omega arith, omega arith)
 
--- the circuits that wait: at most all of them
+-- the T1s that run: at most all of them
 pub waiting-parts : (count : ℕ) (some : Bool) (lowest : ℕ) → count < 256
     → let w = answerNo (Told (Waits count some lowest)) in
     (w / 2 ^ 8 % 256 ≡ count) × (w / 2 ^ 16 ≡ lowest)

@@ -1,16 +1,16 @@
--- The laws of the exported calls: what the gateway's call meets, told by a number; and how many circuits wait at most.
+-- The laws of the exported calls: what the gateway's call meets, told by a number; and how many T1s run at most.
 use Prim.Native.Nat.{ℕ, _≤_}
 use native.Mathlib.Omega.{arith}
 use mathlib.Core.Path.{_≡_, refl, ap, _∙_}
 use mathlib.Core.Bool.{Bool}
 use mathlib.Core.List.{List, [], _∷_}
 use lib.ListN.{length, set}
-use Rattle.basics.specs.Mask.{circuits}
+use Rattle.basics.specs.Mask.{places, countTrue}
 use Rattle.basics.proofs.BitLaws.{bit-le}
 use Rattle.timer_parts.specs.declared.t1.T1.{T1}
 use Rattle.timers.specs.Timers.{countRuns}
 use Rattle.timers.specs.Memory.{timersOf, t1Bits}
-use Rattle.timers.proofs.T1sLaws.{length-joined}
+use Rattle.timers.proofs.T1sLaws.{length-joined, length-bits}
 use Rattle.control.specs.Words.{commonOf}
 use Rattle.adjacency.specs.declared.record.Adjacency.the-variants.{Present}
 use Rattle.adjacency.specs.declared.record.State.{State}
@@ -19,7 +19,6 @@ use Rattle.model.specs.Answers.{Answer, Told, Looked, Waits, stateAnswer, recor
 use Rattle.model.specs.Step.{Outcome, step, judge, carry, Over}
 use Rattle.model.specs.Step.{Waiting as WaitingCall}
 use Rattle.gateway.specs.Words.{gatewayOf, Meets}
-use Rattle.gateway.proofs.CallLaws.{length-bits}
 use Rattle.isis_gr.specs.Words.{answerNo, changedNo, recordWords, foundWords}
 use Rattle.isis_gr.specs.declared.answers.ReceivedWords.{ReceivedWords}
 use Rattle.isis_gr.specs.Encodes.{Encodes, EncodesFrame, EncodesFound}
@@ -48,15 +47,15 @@ set-both (a ∷ b ∷ []) {x} h e = ap (λ (y : ℕ). x ∷ y ∷ []) e
 set-both (a ∷ b ∷ c ∷ l) h e = absurd (omega arith)
 
 countRuns-le : (l : List T1) → countRuns l ≤ length l
-unfolding countRuns
+unfolding countRuns countTrue
 countRuns-le [] = omega arith
 countRuns-le (t ∷ l) = omega (arith, bit-le (t .runs), countRuns-le l)
 
-t1s-length : (ws : List ℕ) → length (gatewayOf ws .common .timers .t1s) ≡ circuits
+t1s-length : (ws : List ℕ) → length (gatewayOf ws .common .timers .t1s) ≡ places
 unfolding gatewayOf commonOf timersOf
 t1s-length ws = length-joined (t1Bits _) _ ∙ length-bits _
 
-pub waiting-le : {count lowest : ℕ} {some : Bool} {ws : List ℕ} → Meets (Told (Waits count some lowest)) (step (gatewayOf ws) (Over WaitingCall)) ws ws [] → count ≤ circuits
+pub waiting-le : {count lowest : ℕ} {some : Bool} {ws : List ℕ} → Meets (Told (Waits count some lowest)) (step (gatewayOf ws) (Over WaitingCall)) ws ws [] → count ≤ places
 unfolding step judge carry
 waiting-le {count} {ws = ws} m =
     let e : count ≡ countRuns (gatewayOf ws .common .timers .t1s) = cc (m .answer) in

@@ -15,7 +15,7 @@ use Rattle.gateway.specs.Setup.{Report, Refused as RefusedReport, Begun}
 
 -- ---- the parts
 
--- a mask over circuits, the lowest digit for circuit 1
+-- a mask over circuits or over places, the lowest digit for circuit 1
 unfoldable pub maskNo : List Bool → ℕ
 maskNo [] = 0
 maskNo (b ∷ bs) = bitOf b + 2 * maskNo bs
@@ -42,7 +42,7 @@ factNo (Waits count some lowest) = 2 ^ 8 * count + 2 ^ 16 * lowest
 abbrev pub answerNo : Answer → ℕ
 answerNo (Refused n) = n
 answerNo (Received f) = frameNo f
-answerNo (Ticked lost hellos t) = 2 ^ 8 * maskNo lost + 2 ^ 16 * maskNo (hellos .circuits) + 2 ^ 32 * timersNo t + 2 ^ 40 * hellos .flags
+answerNo (Ticked lost hellos t) = 2 ^ 8 * maskNo lost + 2 ^ 16 * maskNo (hellos .t1s) + 2 ^ 32 * timersNo t + 2 ^ 40 * hellos .flags
 answerNo (Told f) = factNo f
 
 -- the second word of an accepted frame: the System ID of the frame's record, its level, its state before and after, whether it is advertised
@@ -58,7 +58,7 @@ changedNo (Told f) = 0
 -- setup
 abbrev pub reportNo : Report → ℕ
 reportNo (RefusedReport n) = n
-reportNo (Begun hellos) = 2 ^ 8 * maskNo (hellos .circuits) + 2 ^ 16 * hellos .flags
+reportNo (Begun hellos) = 2 ^ 8 * maskNo (hellos .t1s) + 2 ^ 24 * hellos .flags
 
 -- ---- what a look up writes
 

@@ -36,7 +36,7 @@ ghost use Prim.Native.Nat.{_≤_};
 ghost use lib.ListN.{length};
 ghost use Rattle.model.specs.Answers.{changeAnswer, frameAnswer, recordAnswer, receivedOf, tickedOf, releasedOf, noticedOf, lookedOf, metricOf, flagsOf, waitingOf};
 ghost use Rattle.adjacency.specs.declared.record.Adjacency.the-variants.{Present};
-ghost use Rattle.basics.specs.Mask.{circuits};
+ghost use Rattle.basics.specs.Mask.{places};
 ghost use Rattle.gateway.specs.Setup.{reportOf};
 ghost use Rattle.isis_gr.specs.Words.{frameNo, changeNo, answerNo, changedNo, reportNo, recordWords, foundWords};
 
@@ -116,7 +116,7 @@ pub(crate) fn ticked_word(a: Ticked) -> u64
             let flags = hellos.flags;
             SIXTH * flags.bits as u64
                 + SECOND * lost as u64
-                + THIRD * hellos.circuits as u64
+                + THIRD * hellos.t1s as u64
                 + FIFTH * outcome_number(outcome) as u64
         }
     }
@@ -171,7 +171,7 @@ pub(crate) fn flags_word(a: NextFlags) -> u32
 }
 
 pub(crate) fn waiting_word(a: Waiting) -> u32
-    requires { ⌜ a .count ≤ circuits ⌝ }
+    requires { ⌜ a .count ≤ places ⌝ }
     ensures { λ r. ⌜ r ≡ answerNo (waitingOf a) ⌝ }
 {
     let low = a.lowest;
@@ -185,7 +185,7 @@ pub(crate) fn set_up_word(a: SetUp) -> u32
         SetUp::Refused(x) => number_of(x) as u32,
         SetUp::Done(hellos) => {
             let flags = hellos.flags;
-            65536 * flags.bits as u32 + 256 * hellos.circuits as u32
+            16777216 * flags.bits as u32 + 256 * hellos.t1s as u32
         }
     }
 }

@@ -27,7 +27,7 @@ use gateway::calls::next_hello_flags;
 use gateway::calls::receive;
 use gateway::calls::release;
 use gateway::calls::tick;
-use gateway::calls::waiting_circuits;
+use gateway::calls::waiting_t1s;
 use model::answers::SetUp;
 ghost use mathlib.Core.Path.{_≡_};
 ghost use mathlib.Core.List.{[]};
@@ -158,18 +158,22 @@ pub extern "C" fn isis_gr_raw_link_metric(gateway: &[u64; GATEWAY_WORDS], circui
     metric_word(link_metric(gateway, circuit))
 }
 
-// The flags of the next hello on a circuit.
+// The flags of the next hello on a circuit, at a level.
 #[no_mangle]
-pub extern "C" fn isis_gr_raw_next_hello_flags(gateway: &[u64; GATEWAY_WORDS], circuit: u8) -> u32
-    ensures { λ r. ⌜ Encodes r (step (gatewayOf (now (gateway .entry))) (At circuit NextHello)) (now (gateway .entry)) (now (gateway .entry)) [] ⌝ }
+pub extern "C" fn isis_gr_raw_next_hello_flags(
+    gateway: &[u64; GATEWAY_WORDS],
+    circuit: u8,
+    level: u8,
+) -> u32
+    ensures { λ r. ⌜ Encodes r (step (gatewayOf (now (gateway .entry))) (At circuit (NextHello level))) (now (gateway .entry)) (now (gateway .entry)) [] ⌝ }
 {
-    flags_word(next_hello_flags(gateway, circuit))
+    flags_word(next_hello_flags(gateway, circuit, level))
 }
 
-// How many circuits wait for T1, and the lowest.
+// How many T1s run, and the lowest circuit with one.
 #[no_mangle]
-pub extern "C" fn isis_gr_raw_waiting_circuits(gateway: &[u64; GATEWAY_WORDS]) -> u32
+pub extern "C" fn isis_gr_raw_waiting_t1s(gateway: &[u64; GATEWAY_WORDS]) -> u32
     ensures { λ r. ⌜ Encodes r (step (gatewayOf (now (gateway .entry))) (Over Waiting)) (now (gateway .entry)) (now (gateway .entry)) [] ⌝ }
 {
-    waiting_word(waiting_circuits(gateway))
+    waiting_word(waiting_t1s(gateway))
 }

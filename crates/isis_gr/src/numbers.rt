@@ -7,7 +7,7 @@ use adjacency::record::Phase;
 use adjacency::record::State;
 use basics::bits::digit;
 use basics::levels::Levels;
-use basics::mask::Lowest;
+use basics::places::Lowest;
 use hello::reverse::ReverseMetric;
 use restart_tlv::flags::Flags;
 use restart_tlv::writer::Ack;

@@ -1,7 +1,7 @@
 -- The bad neighbour's own LAN in two runs: the records of every other MAC are the same by key. A shared call keeps it so until a run
 -- answers 9, and so does one of its own frames in one run alone; and in the mode Running a call on a circuit leaves the common part as
 -- it was. Callers: Near. None opens the frame's decoding, the state step, the reply's octets, line 1's order or the timers.
-use Prim.Native.Nat.{ℕ, _-_}
+use Prim.Native.Nat.{ℕ}
 use mathlib.Core.Path.{_≡_, refl, sym, ap, _∙_}
 use mathlib.Core.Logic.{_≢_}
 use mathlib.Core.Bool.{Bool, true, false, cond, true≢false, false≢true}
@@ -41,7 +41,7 @@ use Rattle.settings.specs.declared.circuit.Circuit.{Circuit}
 use Rattle.control.specs.Common.{Common, withTimers}
 use Rattle.room.specs.Accept.{ifRoom, decided, kept}
 use Rattle.model.specs.Gateway.{Room}
-use Rattle.model.specs.Receive.{Acted, refuse, hereOf, saidOf, accepted, reacted, decidedIn, checked, readIn, isShort, receive}
+use Rattle.model.specs.Receive.{Acted, refuse, hereOf, saidOf, t1Of, accepted, reacted, decidedIn, checked, readIn, isShort, receive}
 use Rattle.model.specs.Step.{Local, Receive, Release, Clear, CsnpComplete, LookUp, LinkMetric, NextHello, csnpComplete, asksLevel, lookUp, linkMetricOf, nextHello, act}
 use Rattle.model.specs.Claim.{Neighbour, isSent, isNine, unordered, comparedThere}
 
@@ -129,7 +129,7 @@ act-its b n s Clear c r lan e = absurd (false≢true e)
 act-its b n s (CsnpComplete level) c r lan e = absurd (false≢true e)
 act-its b n s (LookUp k) c r lan e = absurd (false≢true e)
 act-its b n s LinkMetric c r lan e = absurd (false≢true e)
-act-its b n s NextHello c r lan e = absurd (false≢true e)
+act-its b n s (NextHello level) c r lan e = absurd (false≢true e)
 
 -- ---- a shared call, in both runs
 
@@ -214,7 +214,9 @@ act-both b n s (CsnpComplete level) c r₁ r₂ run lan e near h₁ h₂ =
     rw (csnp-refused n s level c r₁ run, csnp-refused n s level c r₂ run) (record { room = near; answer = refl; reply = refl })
 act-both b n s (LookUp k) c r₁ r₂ run lan e near h₁ h₂ = look-both b s k c r₁ r₂ lan near
 act-both b n s LinkMetric c r₁ r₂ run lan e near h₁ h₂ = record { room = near; answer = cc; reply = refl }
-act-both b n s NextHello c r₁ r₂ run lan e near h₁ h₂ = record { room = near; answer = refl; reply = refl }
+act-both b n s (NextHello level) c r₁ r₂ run lan e near h₁ h₂ =
+    by-test (hasLevel (s .levels) level) (λ q. rw q (record { room = near; answer = refl; reply = refl }))
+    (λ q. rw q (record { room = near; answer = refl; reply = refl }))
 
 -- ---- the common part, in the mode Running
 
@@ -223,7 +225,7 @@ module _ (n : ℕ) (s : Circuit) (c : Common) (r : Room) (run : c .timers .mode 
   unfolding reacted refuse accepted
   reacted-common h k buf (RefusedReaction x) = refl
   reacted-common h k buf (Accepted after reply line) =
-      ap (λ (t : Timers). withTimers t c) (heard-running (c .timers) run (c .lengths) (c .clock) (n - 1) (s .levels) _ (saidOf c s h) .0)
+      ap (λ (t : Timers). withTimers t c) (heard-running (c .timers) run (c .lengths) (c .clock) (t1Of n s h) _ (saidOf c s h) .0)
 
   read-common : (mac : ℕ) (buf : List ℕ) (d : Read) → readIn n s mac buf d c r .common ≡ c
   unfolding readIn checked decidedIn refuse
@@ -240,4 +242,4 @@ module _ (n : ℕ) (s : Circuit) (c : Common) (r : Room) (run : c .timers .mode 
   act-common (CsnpComplete level) = rw (csnp-refused n s level c r run)
   act-common (LookUp k) = by-test (asksLevel (s .kind) (s .levels) (k .level)) (λ e. rw e) (λ e. rw e)
   act-common LinkMetric = refl
-  act-common NextHello = refl
+  act-common (NextHello level) = by-test (hasLevel (s .levels) level) (λ e. rw e) (λ e. rw e)

@@ -83,7 +83,8 @@ act-keeps n s (CsnpComplete level) c r =
 act-keeps n s (LookUp k) c r =
     cond-keeps [] c r (asksLevel (s .kind) (s .levels) (k .level)) _ _ (told-keeps [] c _ r _ _) (refuse-keeps [] c r NoCircuit)
 act-keeps n s LinkMetric c r = told-keeps [] c _ r _ _
-act-keeps n s NextHello c r = told-keeps [] c _ r _ _
+act-keeps n s (NextHello level) c r =
+    cond-keeps [] c r (hasLevel (s .levels) level) _ _ (told-keeps [] c _ r _ _) (refuse-keeps [] c r NoCircuit)
 
 -- ---- every call
 

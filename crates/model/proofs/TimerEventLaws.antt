@@ -1,7 +1,7 @@
 -- The timers after a call are those that its event leaves: stage by stage, then of a whole run.
-use Prim.Native.Nat.{ℕ, _-_}
+use Prim.Native.Nat.{ℕ}
 use mathlib.Core.Path.{_≡_, refl, ap, _∙_}
-use mathlib.Core.Bool.{Bool, true, false, cond}
+use mathlib.Core.Bool.{Bool}
 use mathlib.Core.List.{List, [], _∷_}
 use Rattle.basics.proofs.BoolLaws.{by-test}
 use Rattle.basics.specs.Levels.{hasLevel}
@@ -11,7 +11,6 @@ use Rattle.hello.specs.Hello.{helloRead}
 use Rattle.hello.specs.declared.read.Hello.{Hello}
 use Rattle.hello.specs.declared.read.Read.{Read}
 use Rattle.hello.specs.declared.read.Read.the-variants.{Refused as RefusedRead, Accepted as ReadAs}
-use Rattle.adjacency.specs.Keys.{keyIn}
 use lib.Dec.{eqb}
 use Rattle.adjacency.specs.Record.{isUp, phaseOf}
 use Rattle.adjacency.specs.Step.{wrongSource, rises}
@@ -20,7 +19,6 @@ use Rattle.adjacency.specs.declared.record.Phase.the-variants.{Gone, Init, Up}
 use Rattle.adjacency.specs.declared.react.Reaction.{Reaction}
 use Rattle.adjacency.specs.declared.react.Reaction.the-variants.{Refused as RefusedReaction, Accepted}
 use Rattle.adjacency.specs.declared.record.Key.{Key}
-use Rattle.room.specs.Accept.{decided}
 use Rattle.room.specs.Table.{find}
 use Rattle.model.specs.Numbers.{phaseNo}
 use Rattle.settings.specs.Mode.{isRunning}
@@ -29,12 +27,11 @@ use Rattle.settings.specs.declared.circuit.Circuit.{Circuit}
 use Rattle.settings.specs.declared.circuit.Chosen.{Chosen}
 use Rattle.settings.specs.declared.circuit.Chosen.the-variants.{Known, Unknown}
 use Rattle.control.specs.Common.{Common, circuitOf}
-use Rattle.timers.specs.Timers.{Timers}
 use Rattle.model.specs.Gateway.{Gateway, Room, roomOf}
-use Rattle.model.specs.Receive.{Acted, refuse, hereOf, saidOf, accepted, reacted, decidedIn, checked, readIn, isShort, receive}
-use Rattle.model.specs.Step.{Local, Receive, Release, Clear, CsnpComplete, LookUp, LinkMetric, NextHello, Global, Tick, DatabaseComplete, Waiting, Call, At, Over, Outcome, asksLevel, csnpComplete, lookUp, linkMetricOf, nextHello, act, lift, on, noneOf, isBack, tickOf, databaseOf, judge, carry, step}
+use Rattle.model.specs.Receive.{Acted, refuse, saidOf, t1Of, accepted, reacted, decidedIn, checked, readIn, isShort, receive}
+use Rattle.model.specs.Step.{Local, Receive, Release, Clear, CsnpComplete, LookUp, LinkMetric, NextHello, Global, Tick, DatabaseComplete, Waiting, Call, At, Over, asksLevel, csnpComplete, lookUp, linkMetricOf, nextHello, act, lift, on, noneOf, isBack, tickOf, databaseOf, judge, carry, step}
 use Rattle.model.specs.Trace.{trace, leftBy, after}
-use Rattle.model.specs.TimerEvents.{TimerEvent, Nothing, Hello as Heard, moved, movedAll, heardFrom, offeredOn, offeredOver, offered, whereDone, eventOf, eventsOf}
+use Rattle.model.specs.TimerEvents.{TimerEvent, Hello as Heard, moved, movedAll, heardFrom, offeredOn, offeredOver, offered, whereDone, eventOf, eventsOf}
 
 -- 2 is the number of UP
 up-number : (p : Phase) → eqb (phaseNo p) (phaseNo Up) ≡ isUp p
@@ -52,7 +49,7 @@ module _ (n : ℕ) (s : Circuit) (c : Common) (r : Room) where
   refuse-moves e b x = refl
 
   reacted-moves : (h : Hello) (k : Key) (b : List ℕ) (d : Reaction)
-      → Moves (λ rose. Heard (c .lengths) (c .clock) (n - 1) (s .levels) rose (saidOf c s h)) (reacted n s h k b d c r)
+      → Moves (λ rose. Heard (c .lengths) (c .clock) (t1Of n s h) rose (saidOf c s h)) (reacted n s h k b d c r)
   unfolding reacted accepted moved whereDone rises
   reacted-moves h k b (RefusedReaction x) = refuse-moves _ b x
   reacted-moves h k b (Accepted after reply line) = rw (up-number (phaseOf after), up-number (phaseOf (find k (r .slots)))) refl
@@ -80,7 +77,7 @@ module _ (n : ℕ) (s : Circuit) (c : Common) (r : Room) where
       (λ e. rw e refl)
   act-moves (LookUp k) = by-test (asksLevel (s .kind) (s .levels) (k .level)) (λ e. rw e refl) (λ e. rw e refl)
   act-moves LinkMetric = refl
-  act-moves NextHello = refl
+  act-moves (NextHello level) = by-test (hasLevel (s .levels) level) (λ e. rw e refl) (λ e. rw e refl)
 
 on-moves : (g : Gateway) (n : ℕ) (l : Local) (q : Chosen)
     → on g n l q .next .common .timers ≡ moved (whereDone (on g n l q .answer) (λ rose. offeredOn n (g .common) rose l q)) (g .common .timers)

@@ -1,4 +1,4 @@
--- What calls answer, in numbers (document 01, "What the gateway holds" and "Refusals by number"; document 02, W-201), and for each answer of
+-- What calls answer, in numbers (document 01, "What the gateway holds" and "Refusals by number"; document 02, W-201 and W-202), and for each answer of
 -- the code, case by case, which one it is.
 use Prim.Native.Nat.{ℕ}
 use mathlib.Core.Bool.{Bool, true, false}
@@ -56,7 +56,7 @@ pub record ChangeAnswer : Type 0 where
   pub advertised : Bool
 
 -- an accepted frame: the reply's flags and Remaining Time, whether line 1 orders CSNPs and the levels of its order, T1's end for want of a
--- Restart TLV, the flags of the hello that is ordered on its circuit, the timers, and the frame's record
+-- Restart TLV, the flags of the hello that is ordered on its circuit (on a LAN, of its level), the timers, and the frame's record
 pub record FrameAnswer : Type 0 where
   pub reply : ℕ
   pub time : ℕ
@@ -81,7 +81,7 @@ pub record RecordAnswer : Type 0 where
   pub whole : Bool
   pub unreachable : Bool
 
--- what is told by a call that asks, or that only says it was done; of circuits that wait how many, whether there is a lowest, and which
+-- what is told by a call that asks, or that only says it was done; of the T1s that run how many, whether there is a lowest circuit, and which
 pub data Fact : Type 0 where
   Done : Fact
   Noticed : TimersAnswer → Fact

@@ -34,7 +34,7 @@ isSent b Clear = false
 isSent b (CsnpComplete level) = false
 isSent b (LookUp k) = false
 isSent b LinkMetric = false
-isSent b NextHello = false
+isSent b (NextHello level) = false
 
 unfoldable pub isIts : Neighbour → Call → Bool
 isIts b (At n l) = eqb n (b .circuit) && isSent b l
@@ -112,7 +112,7 @@ comparedThere b Release a = a
 comparedThere b Clear a = a
 comparedThere b (CsnpComplete level) a = a
 comparedThere b LinkMetric a = a
-comparedThere b NextHello a = a
+comparedThere b (NextHello level) a = a
 
 unfoldable pub compared : Neighbour → Call → Answer → Answer
 compared b (At n l) a = cond (eqb n (b .circuit)) (comparedThere b l a) a

@@ -11,3 +11,4 @@ pub mod SampleFrames
 pub mod SampleRuns
 pub mod SampleCalls
 pub mod SampleStarts
+pub mod SampleLevels

@@ -2,12 +2,11 @@
 -- number and values for each of its cases"). Refusals, flags, levels and circuits have document 01's numbers ("Refusals by number", "TLVs
 -- read"); the others are house. Every promise of crates gateway and isis_gr goes by this table, through Answers.
 use Prim.Native.Nat.{ℕ, _+_, _*_}
-use mathlib.Core.List.{List, [], _∷_}
 use mathlib.Core.Bool.{Bool, true, false}
 use Rattle.basics.specs.Bits.{bitOf}
 use Rattle.basics.specs.declared.levels.Levels.{Levels}
-use Rattle.basics.specs.declared.mask.Lowest.{Lowest}
-use Rattle.basics.specs.declared.mask.Lowest.the-variants.{Circuit, Nothing as NoneWaits}
+use Rattle.basics.specs.declared.places.Lowest.{Lowest}
+use Rattle.basics.specs.declared.places.Lowest.the-variants.{Circuit, Nothing as NoneWaits}
 use Rattle.basics.specs.declared.refusal.Refusal.{Refusal}
 use Rattle.basics.specs.declared.refusal.Refusal.the-variants.{NoCircuit, ReplyRoom, NotHello, BadLength, TlvPastEnd, BadTlv, WrongSource, WrongNeighbor, NoRoom, ClockBack, NotRestarting, BadSetting}
 use Rattle.restart_tlv.specs.Flags.{SA}

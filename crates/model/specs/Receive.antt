@@ -1,4 +1,4 @@
--- Receive on a circuit, by stages in the order of the refusals (document 01, "Refusals by number"; document 02, W-201). A stage is a
+-- Receive on a circuit, by stages in the order of the refusals (document 01, "Refusals by number"; document 02, W-201 and W-202). A stage is a
 -- function of the common part and of the circuit's own; n is the circuit's number, s its settings, b the lent reply buffer.
 use Prim.Native.Nat.{ℕ, _-_}
 use mathlib.Core.Bool.{Bool, cond}
@@ -27,6 +27,7 @@ use Rattle.timers.specs.Timers.{Timers, heard}
 use Rattle.settings.specs.Mode.{isRestarting}
 use Rattle.timers.specs.Outcome.{heardOrders}
 use Rattle.timers.specs.declared.events.HeardOrders.{HeardOrders}
+use Rattle.settings.specs.Serving.{placeOf}
 use Rattle.settings.specs.declared.circuit.Circuit.{Circuit}
 use Rattle.control.specs.Common.{Common, withTimers}
 use Rattle.adjacency.specs.Keys.{levelIn, keyIn}
@@ -67,12 +68,16 @@ saidOf c s h = heardOf (c .system) (s .id) h
 abbrev pub hasRisen : Change → Bool
 hasRisen x = rises (x .before) (x .after)
 
--- the timers that the frame leaves, and what it orders of them; circuits' timers count from 0
+-- the place of the frame's T1: on a LAN that of its level, on P2P the circuit's; places count from 0
+abbrev pub t1Of : ℕ → Circuit → Hello → ℕ
+t1Of n s h = placeOf (s .kind) (n - 1) (levelIn (h .link))
+
+-- the timers that the frame leaves, and what it orders of them
 abbrev pub timersAfter : ℕ → Circuit → Hello → Change → Common → Timers
-timersAfter n s h x c = heard (c .lengths) (c .clock) (n - 1) (s .levels) (hasRisen x) (saidOf c s h) (c .timers)
+timersAfter n s h x c = heard (c .lengths) (c .clock) (t1Of n s h) (hasRisen x) (saidOf c s h) (c .timers)
 
 abbrev pub timersOrders : ℕ → Circuit → Hello → Change → Common → HeardOrders
-timersOrders n s h x c = heardOrders (c .lengths) (c .clock) (n - 1) (s .levels) (hasRisen x) (saidOf c s h) (c .timers)
+timersOrders n s h x c = heardOrders (c .lengths) (c .clock) (t1Of n s h) (hasRisen x) (saidOf c s h) (c .timers)
 
 abbrev pub ordersOf : ℕ → Circuit → Hello → Acknowledgement → Line → Change → Common → Room → Orders
 ordersOf n s h reply line change c r =

@@ -1,5 +1,5 @@
 -- Rows beside C1 to C10, as calls on the sample gateway: each refusal, and of two that meet the first (document 01, "Refusals by
--- number"); what a tick marks and a look up tells; which circuits wait. On the right of ≡ stand the document's numbers.
+-- number"); what a tick marks and a look up tells; how many T1s wait. On the right of ≡ stand the document's numbers.
 use Prim.Native.Nat.{ℕ, suc}
 use mathlib.Core.Path.{_≡_}
 use mathlib.Core.Bool.{Bool, true, false}
@@ -10,7 +10,7 @@ use Rattle.model.specs.Answers.{Answer, Refused, Received, Ticked, Told,
 use Rattle.model.specs.Gateway.{Gateway, Refused as RefusedSetup, setup}
 use Rattle.model.specs.Step.{Call, At, Over, Receive, Clear, CsnpComplete, LookUp, LinkMetric, Tick, DatabaseComplete, Waiting, step}
 use Rattle.model.specs.Trace.{Turn, trace, after}
-use Rattle.model.specs.SampleFrames.{settings, frameOf, frameWith, hello, row, lentOctets, callsOf, From}
+use Rattle.model.specs.SampleFrames.{settings, frameOf, frameWith, hello, row, callsOf, From}
 
 -- ---- frames
 
@@ -111,7 +111,7 @@ Twelve = setup (settings Running 16_777_215 80) ≡ RefusedSetup 12
 
 -- a tick without orders that marks circuit 1, or none
 abbrev pub marking : Bool → Answer
-marking first = Ticked (first ∷ replicate 7 false) (record { circuits = replicate 8 false; flags = 0 }) (record { restart = 0; spf = 0; overload = 0 })
+marking first = Ticked (first ∷ replicate 7 false) (record { t1s = replicate 16 false; flags = 0 }) (record { restart = 0; spf = 0; overload = 0 })
 
 -- "A tick removes each record with expiry at or below the clock, and marks its circuit in the answer": the record's expiry is 83 + 27
 abbrev pub Ticks : Type 0
@@ -152,7 +152,7 @@ Clears =
     × (map shown (answers (trace g (At 1 Clear ∷ looking ∷ receive (hello 2 (0 ∷ [])) ∷ looking ∷ [])))
     ≡ (0, false) ∷ (0, false) ∷ (0, false) ∷ (1, false) ∷ []))
 
--- "how many circuits still wait for T1, and the lowest such circuit (or none)": circuit 1 in the mode Restarting, none in Running
+-- how many T1s wait, and the lowest circuit (or none): P2P's one, on circuit 1, in the mode Restarting; none in Running
 abbrev pub Waitings : Type 0
 Waitings =
     From (setup (settings Restarting 10 80)) (λ g. step g (Over Waiting) .answer ≡ Told (Waits 1 true 1))

@@ -7,46 +7,52 @@ use mathlib.Core.Bool.{true, false}
 use mathlib.Core.List.{List, [], _∷_, map}
 use lib.ListN.{length, replicate}
 use Rattle.basics.specs.declared.kind.CircuitKind.the-variants.{Lan}
+use Rattle.basics.specs.declared.levels.Levels.{Levels}
 use Rattle.settings.specs.declared.circuit.Circuit.{Circuit}
 use Rattle.settings.specs.declared.mode.Mode.{Mode}
 use Rattle.settings.specs.declared.mode.Mode.the-variants.{Restarting, Starting}
 use Rattle.settings.specs.declared.setup.Settings.{Settings}
-use Rattle.timers.specs.Hellos.{Hellos}
 use Rattle.model.specs.Answers.{Answer, Refused, Received, Ticked, Told, Done, Noticed, Looked, Metric, HelloFlags, Waits, TimersAnswer, numberOf}
 use Rattle.model.specs.Gateway.{Gateway, Setup, Refused as RefusedSetup, Started, setup}
 use Rattle.model.specs.Step.{Call, At, Over, Receive, CsnpComplete, NextHello, Tick, DatabaseComplete, Waiting, step}
 use Rattle.model.specs.Trace.{Turn, trace}
-use Rattle.model.specs.SampleFrames.{circuit, frameOf, frameWith, hello, acknowledging, receiving, lentOctets, From}
+use Rattle.model.specs.SampleFrames.{circuit, frameOf, hello, acknowledging, receiving, lentOctets, From}
 
 -- ---- settings: from clock 0, T1 10, T2 60
 
-abbrev pub settingsWith : Mode → ℕ → ℕ → Circuit → Settings
-settingsWith mode tries count own =
+abbrev pub settingsOf : Mode → ℕ → ℕ → List Circuit → Settings
+settingsOf mode tries count circuits =
     record {
       system = 0x192168001001;
       lengths = record { t1 = 10; t2 = 60; tries = tries };
       clock = 0;
       mode = mode;
       count = count;
-      circuits = replicate 8 own;
+      circuits = circuits;
     }
+
+abbrev pub settingsWith : Mode → ℕ → ℕ → Circuit → Settings
+settingsWith mode tries count own = settingsOf mode tries count (replicate 8 own)
 
 -- with this N and so many P2P circuits, with both levels
 abbrev pub starting : ℕ → ℕ → Settings
 starting tries count = settingsWith Starting tries count (circuit 10)
 
--- one LAN circuit with level 1
-abbrev pub lan : Circuit
-lan =
+-- a LAN circuit with these levels; with level 1
+abbrev pub lanWith : Levels → Circuit
+lanWith levels =
     record {
       kind = Lan;
-      levels = record { one = true; two = false };
+      levels = levels;
       mac = 0x020000000001;
       priority = 64;
       hold = 30;
       metric = 10;
       id = 0;
     }
+
+abbrev pub lan : Circuit
+lan = lanWith (record { one = true; two = false })
 
 -- ---- frames
 
@@ -57,31 +63,39 @@ plain state = receiving (hello state (0 ∷ 0 ∷ 0 ∷ []))
 abbrev pub withRa : ℕ → Call
 withRa state = receiving (hello state (acknowledging 40))
 
--- .. Up, naming our System ID and this extended circuit ID
-abbrev pub bare : ℕ → Call
-bare id = receiving (frameOf (240 ∷ 15 ∷ 0 ∷ 0 ∷ 0 ∷ 0 ∷ 7 ∷ 0x19 ∷ 0x21 ∷ 0x68 ∷ 0x00 ∷ 0x10 ∷ 0x01 ∷ 0 ∷ 0 ∷ 0 ∷ id ∷ []))
+-- .. Up, naming our System ID and this extended circuit ID; on a circuit, and on circuit 1
+abbrev pub bareOn : ℕ → ℕ → Call
+bareOn n id =
+    At n
+    (Receive 0x020000000002 (frameOf (240 ∷ 15 ∷ 0 ∷ 0 ∷ 0 ∷ 0 ∷ 7 ∷ 0x19 ∷ 0x21 ∷ 0x68 ∷ 0x00 ∷ 0x10 ∷ 0x01 ∷ 0 ∷ 0 ∷ 0 ∷ id ∷ [])) lentOctets)
 
--- a LAN hello of level 1 from 19216800100x with source MAC 02000000000x
-abbrev pub onLan : ℕ → List ℕ → Call
-onLan x tlvs =
-    At 1
+abbrev pub bare : ℕ → Call
+bare id = bareOn 1 id
+
+-- a LAN hello on a circuit, of this level, from 19216800100x with source MAC 02000000000x; on circuit 1, of level 1
+abbrev pub lanHello : ℕ → ℕ → ℕ → List ℕ → Call
+lanHello n level x tlvs =
+    At n
     (Receive (0x020000000000 + x)
-    (0x83 ∷ 27 ∷ 1 ∷ 0 ∷ 15 ∷ 1 ∷ 0 ∷ 0 ∷ 1 ∷ 0x19 ∷ 0x21 ∷ 0x68 ∷ 0x00 ∷ 0x10 ∷ x ∷ 0 ∷ 27 ∷ 0 ∷ (27 + length tlvs) ∷ 64 ∷ 0x19 ∷ 0x21 ∷ 0x68 ∷ 0x00
+    (0x83 ∷ 27 ∷ 1 ∷ 0 ∷ (14 + level) ∷ 1 ∷ 0 ∷ 0 ∷ level ∷ 0x19 ∷ 0x21 ∷ 0x68 ∷ 0x00 ∷ 0x10 ∷ x ∷ 0 ∷ 27 ∷ 0 ∷ (27 + length tlvs) ∷ 64 ∷ 0x19 ∷ 0x21 ∷ 0x68 ∷ 0x00
     ∷ 0x10 ∷ x ∷ 1 ∷ tlvs)
     lentOctets)
 
--- our MAC is listed; RA for this System ID's last octet
+abbrev pub onLan : ℕ → List ℕ → Call
+onLan x tlvs = lanHello 1 1 x tlvs
+
+-- our MAC is listed; RA, with this Remaining Time, for this System ID's last octet
 abbrev pub listing : List ℕ → List ℕ
 listing tlvs = 6 ∷ 6 ∷ 0x02 ∷ 0 ∷ 0 ∷ 0 ∷ 0 ∷ 0x01 ∷ tlvs
 
-abbrev pub answering : ℕ → List ℕ
-answering last = 211 ∷ 9 ∷ 2 ∷ 0 ∷ 40 ∷ 0x19 ∷ 0x21 ∷ 0x68 ∷ 0x00 ∷ 0x10 ∷ last ∷ []
+abbrev pub answering : ℕ → ℕ → List ℕ
+answering time last = 211 ∷ 9 ∷ 2 ∷ 0 ∷ time ∷ 0x19 ∷ 0x21 ∷ 0x68 ∷ 0x00 ∷ 0x10 ∷ last ∷ []
 
 -- ---- what is seen of a call
 
 -- The flags of the hello that it orders (SA 4, RR and SA 5), whether it stopped T1 for want of a Restart TLV (1), whether the start goes on (1) or
 -- ended (2), the levels of the SPF, overload to be set (1), cleared (2) or both (3). After it, the flags of the next hello on circuit 1, and how many
--- circuits wait for T1.
+-- T1s wait.
 pub record Seen : Type 0 where
   pub hello : ℕ
   pub freed : ℕ
@@ -127,8 +141,12 @@ toldIn (Received f) = 0
 toldIn (Ticked lost hellos t) = 0
 toldIn (Refused n) = 0
 
+-- the flags of the next hello on a circuit at a level, and at level 1
+abbrev pub flagsAt : ℕ → ℕ → Gateway → ℕ
+flagsAt n level g = toldIn (step g (At n (NextHello level)) .answer)
+
 abbrev pub flagsOn : ℕ → Gateway → ℕ
-flagsOn n g = toldIn (step g (At n NextHello) .answer)
+flagsOn n g = flagsAt n 1 g
 
 abbrev pub seen : Turn → Seen
 seen t =
@@ -219,7 +237,7 @@ WithoutT3 = Plays (starting 1 1) (plain 1 ∷ receiving (hello 0 (acknowledging 
 abbrev pub OnLan : Type 0
 OnLan =
     Plays (settingsWith Starting 3 1 lan)
-    (onLan 2 [] ∷ onLan 2 (listing []) ∷ At 1 (CsnpComplete 1) ∷ onLan 2 (listing (answering 9)) ∷ Over (DatabaseComplete 1) ∷ onLan 3 (listing (answering 1)) ∷ [])
+    (onLan 2 [] ∷ onLan 2 (listing []) ∷ At 1 (CsnpComplete 1) ∷ onLan 2 (listing (answering 40 9)) ∷ Over (DatabaseComplete 1) ∷ onLan 3 (listing (answering 40 1)) ∷ [])
     (steady 0 ∷ begun ∷ steady 1 ∷ steady 1 ∷ steady 1 ∷ sees 0 0 2 1 3 0 0 ∷ [])
 
 -- ---- the step and the refusals are those of Running

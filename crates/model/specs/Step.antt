@@ -17,11 +17,12 @@ use Rattle.metric.specs.Metric.{linkMetric}
 use Rattle.basics.specs.Mask.{circuits}
 use Rattle.timer_parts.specs.T1.{helloFlags}
 use Rattle.timers.specs.Hellos.{Hellos, noHellos}
-use Rattle.timers.specs.Timers.{Timers, settled, ticked, toT3, csnpIn, noticeT2s, noT1, countRuns, firstRuns}
+use Rattle.timers.specs.Timers.{Timers, settled, ticked, toT3, csnpIn, noticeT2s, noT1, countRuns, lowestRuns}
 use Rattle.settings.specs.Mode.{isRunning}
 use Rattle.timers.specs.Outcome.{ordered, tickHellos}
 use Rattle.timers.specs.declared.outcome.TimerOutcome.the-variants.{Idle}
 use Rattle.settings.specs.Settings.{enabledLevels}
+use Rattle.settings.specs.Serving.{placeOf}
 use Rattle.settings.specs.declared.circuit.Circuit.{Circuit}
 use Rattle.control.specs.Common.{Common, withClock, withTimers, circuitOf}
 use Rattle.settings.specs.declared.circuit.Chosen.{Chosen}
@@ -42,7 +43,7 @@ pub data Local : Type 0 where
   CsnpComplete : (level : ℕ) → Local
   LookUp : Key → Local
   LinkMetric : Local
-  NextHello : Local
+  NextHello : (level : ℕ) → Local
 
 -- those that name none
 pub data Global : Type 0 where
@@ -72,11 +73,14 @@ abbrev pub settledBy : (Timers → Timers) → Common → Common
 settledBy f c = withTimers (settled f (c .timers)) c
 
 -- "CSNP set complete (circuit, level)"; 1 for "a level not enabled there", ahead of 11
+abbrev pub csnpOf : ℕ → Circuit → ℕ → Timers → Timers
+csnpOf n s level t = csnpIn (placeOf (s .kind) (n - 1) level) (onlyLevel level) t
+
 unfoldable pub csnpComplete : ℕ → Circuit → ℕ → Common → Room → Acted
 csnpComplete n s level c r =
     cond (hasLevel (s .levels) level)
     (cond (isRunning (c .timers .mode)) (refuse [] NotRestarting c r)
-    (told (noticeOf (csnpIn (n - 1) (s .levels) (onlyLevel level)) c) (settledBy (csnpIn (n - 1) (s .levels) (onlyLevel level)) c) r))
+    (told (noticeOf (csnpOf n s level) c) (settledBy (csnpOf n s level) c) r))
     (refuse [] NoCircuit c r)
 
 -- the level of a key counts on a LAN alone
@@ -93,9 +97,13 @@ lookUp s k c r =
 unfoldable pub linkMetricOf : Circuit → Common → Room → Acted
 linkMetricOf s c r = told (Metric (linkMetric (s .kind) (s .metric) (firstState (r .slots)))) c r
 
--- "The next hello carries RR exactly while T1 runs"; document 02, W-201: "every hello carries SA"
-unfoldable pub nextHello : ℕ → Common → Room → Acted
-nextHello n c r = told (HelloFlags (helloFlags (c .timers .mode) (getD (c .timers .t1s) (n - 1) noT1) .bits)) c r
+-- "The next hello carries RR exactly while T1 runs"; document 02, W-201: "every hello carries SA"; W-202: "the flags call takes a level". House: 1 for
+-- a level that is not enabled there, on P2P too.
+abbrev pub flagsAt : ℕ → Circuit → ℕ → Timers → ℕ
+flagsAt n s level t = helloFlags (t .mode) (getD (t .t1s) (placeOf (s .kind) (n - 1) level) noT1) .bits
+
+unfoldable pub nextHello : ℕ → Circuit → ℕ → Common → Room → Acted
+nextHello n s level c r = cond (hasLevel (s .levels) level) (told (HelloFlags (flagsAt n s level (c .timers))) c r) (refuse [] NoCircuit c r)
 
 -- Clear (house, beside the calls of document 01): the link went down, and all records of its circuit go; no timer is touched
 unfoldable pub act : ℕ → Circuit → Local → Common → Room → Acted
@@ -105,7 +113,7 @@ act n s Clear c r = told Done c (withSlots r (emptyRoom (s .kind)))
 act n s (CsnpComplete level) c r = csnpComplete n s level c r
 act n s (LookUp k) c r = lookUp s k c r
 act n s LinkMetric c r = linkMetricOf s c r
-act n s NextHello c r = nextHello n c r
+act n s (NextHello level) c r = nextHello n s level c r
 
 -- the reply buffer that a call lends
 abbrev pub lent : Local → List ℕ
@@ -115,7 +123,7 @@ lent Clear = []
 lent (CsnpComplete level) = []
 lent (LookUp k) = []
 lent LinkMetric = []
-lent NextHello = []
+lent (NextHello level) = []
 
 -- a call on circuit n, done on the common part and on its room
 unfoldable pub lift : Gateway → ℕ → (Common → Room → Acted) → Outcome
@@ -166,9 +174,9 @@ databaseOf level c =
     (Tell (settledBy (noticeT2s (onlyLevel level)) c) (Told (noticeOf (noticeT2s (onlyLevel level)) c))))
     (Refused NoCircuit)
 
--- "how many circuits still wait for T1, and the lowest such circuit (or none)"
+-- "how many circuits still wait for T1, and the lowest such circuit (or none)", as document 02, W-202 has it: how many T1s wait
 abbrev pub waitsOf : Timers → Fact
-waitsOf t = let low = firstRuns (t .t1s) 1 in Waits (countRuns (t .t1s)) (someWaits low) (lowestNo low)
+waitsOf t = let low = lowestRuns (t .t1s) in Waits (countRuns (t .t1s)) (someWaits low) (lowestNo low)
 
 unfoldable pub judge : Common → Global → Judged
 judge c (Tick clock) = tickOf clock c

@@ -1,11 +1,12 @@
--- What a call is to the timers (document 01, "Timers while Restarting"; document 02, W-201): one event. The timers after a call are those that its event leaves
--- (proofs/TimerEventLaws), so that a claim about the timers over lists of calls is one about lists of events.
+-- What a call is to the timers (document 01, "Timers while Restarting"; document 02, W-201 and W-202): one event. The timers after a call are those
+-- that its event leaves (proofs/TimerEventLaws), so that a claim about the timers over lists of calls is one about lists of events.
 use Prim.Native.Nat.{ℕ, _-_}
 use mathlib.Core.Bool.{Bool, false, cond, not, _&&_}
 use lib.Dec.{eqb}
 use mathlib.Core.List.{List, [], _∷_, map}
 use Rattle.basics.specs.Levels.{onlyLevel}
 use Rattle.basics.specs.declared.levels.Levels.{Levels}
+use Rattle.settings.specs.Serving.{placeOf}
 use Rattle.hello.specs.Hello.{helloRead}
 use Rattle.hello.specs.declared.read.Read.{Read}
 use Rattle.hello.specs.declared.read.Read.the-variants.{Refused as RefusedRead, Accepted as ReadAs}
@@ -20,25 +21,25 @@ use Rattle.adjacency.specs.declared.record.Phase.the-variants.{Up}
 use Rattle.model.specs.Numbers.{phaseNo}
 use Rattle.model.specs.Answers.{Answer, ChangeAnswer, Refused, Received, Ticked, Told}
 use Rattle.model.specs.Gateway.{Gateway}
-use Rattle.model.specs.Receive.{saidOf}
+use Rattle.model.specs.Receive.{saidOf, t1Of}
 use Rattle.model.specs.Step.{Local, Receive, Release, Clear, CsnpComplete, LookUp, LinkMetric, NextHello, Global, Tick, DatabaseComplete, Waiting, Call, At, Over, noneOf, step}
 use Rattle.model.specs.Trace.{Turn}
 
--- Circuits' places count from 0. A hello: the clock at its arrival, the circuit's levels, whether its record became UP, and what the frame says. A
--- CSNP notice: the circuit's levels, then the notice's.
+-- A hello: the clock at its arrival, the place of its T1, whether its record became UP, and what the frame says. A CSNP notice: the place of its T1,
+-- and the notice's level. Places count from 0.
 pub data TimerEvent : Type 0 where
   Nothing : TimerEvent
-  Hello : Lengths → (clock place : ℕ) → Levels → (rose : Bool) → Heard → TimerEvent
+  Hello : Lengths → (clock place : ℕ) → (rose : Bool) → Heard → TimerEvent
   Clock : Lengths → (clock : ℕ) → TimerEvent
-  CsnpSet : (place : ℕ) (levels notice : Levels) → TimerEvent
+  CsnpSet : (place : ℕ) (notice : Levels) → TimerEvent
   Database : (notice : Levels) → TimerEvent
 
 -- the timers that an event leaves
 unfoldable pub moved : TimerEvent → Timers → Timers
 moved Nothing t = t
-moved (Hello s clock i l rose d) t = heard s clock i l rose d t
+moved (Hello s clock i rose d) t = heard s clock i rose d t
 moved (Clock s clock) t = ticked s clock t
-moved (CsnpSet i l n) t = csnpNoticed i l n t
+moved (CsnpSet i n) t = csnpNoticed i n t
 moved (Database n) t = databaseNoticed n t
 
 unfoldable pub movedAll : List TimerEvent → Timers → Timers
@@ -49,7 +50,7 @@ movedAll (e ∷ es) t = movedAll es (moved e t)
 
 unfoldable pub heardFrom : ℕ → Circuit → Common → Bool → Read → TimerEvent
 heardFrom n s c rose (RefusedRead x) = Nothing
-heardFrom n s c rose (ReadAs h) = Hello (c .lengths) (c .clock) (n - 1) (s .levels) rose (saidOf c s h)
+heardFrom n s c rose (ReadAs h) = Hello (c .lengths) (c .clock) (t1Of n s h) rose (saidOf c s h)
 
 -- what it is if it is not refused; rose: a frame's record became UP
 unfoldable pub offeredOn : ℕ → Common → Bool → Local → Chosen → TimerEvent
@@ -57,10 +58,10 @@ offeredOn n c rose l Unknown = Nothing
 offeredOn n c rose (Receive mac frame b) (Known s) = heardFrom n s c rose (helloRead (s .kind) (s .mac) frame)
 offeredOn n c rose Release (Known s) = Nothing
 offeredOn n c rose Clear (Known s) = Nothing
-offeredOn n c rose (CsnpComplete level) (Known s) = CsnpSet (n - 1) (s .levels) (onlyLevel level)
+offeredOn n c rose (CsnpComplete level) (Known s) = CsnpSet (placeOf (s .kind) (n - 1) level) (onlyLevel level)
 offeredOn n c rose (LookUp k) (Known s) = Nothing
 offeredOn n c rose LinkMetric (Known s) = Nothing
-offeredOn n c rose NextHello (Known s) = Nothing
+offeredOn n c rose (NextHello level) (Known s) = Nothing
 
 -- memory that was never set up holds no timer for a tick
 unfoldable pub offeredOver : Common → Global → TimerEvent

@@ -4,7 +4,7 @@ use adjacency::duty::Csnps;
 use adjacency::marks::Acknowledgement;
 use adjacency::record::Phase;
 use adjacency::record::State;
-use basics::mask::Lowest;
+use basics::places::Lowest;
 use basics::refusal::Refusal;
 use restart_tlv::flags::Flags;
 use timer_parts::t1::Freed;
@@ -22,8 +22,8 @@ pub struct Change {
     pub advertised: bool,
 }
 
-// Of an accepted frame: the reply that was written, line 1's order, how the timers ended and what they order, whether the circuit's T1 was
-// stopped for want of a Restart TLV, the hello that is ordered on the circuit, and what became of the record.
+// Of an accepted frame: the reply that was written, line 1's order, how the timers ended and what they order, whether the frame's T1 was
+// stopped for want of a Restart TLV, the hello that is ordered on the circuit (on a LAN, of its level), and what became of the record.
 pub struct Orders {
     pub reply: Acknowledgement,
     pub csnps: Csnps,
@@ -77,7 +77,7 @@ pub enum NextFlags {
     Next(Flags),
 }
 
-// How many circuits still wait for T1, and the lowest of them.
+// How many T1s run, and the lowest circuit with one.
 pub struct Waiting {
     pub count: u32,
     pub lowest: Lowest,

@@ -1,1 +1,3 @@
 pub mod SettingsLaws
+pub mod ServingLaws
+pub mod SampleRuns

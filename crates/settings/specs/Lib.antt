@@ -1,2 +1,3 @@
 pub mod Mode
 pub mod Settings
+pub mod Serving

@@ -1,5 +1,5 @@
--- The T1 of one circuit (document 01, "Timers while Restarting"; document 02, W-201; RFC 8706, 3.1, 3.3.1 and 3.3.2). N is the tries of
--- the lengths s.
+-- One T1 (document 01, "Timers while Restarting"; document 02, W-201 and W-202; RFC 8706, 3.1 and 3.3). N is the tries of the lengths s; l the levels
+-- that the T1 serves: on a LAN its own, on P2P all of its circuit's.
 use Prim.Native.Nat.{ℕ, _+_}
 use mathlib.Core.Bool.{Bool, true, false, cond, not, _&&_}
 use lib.Dec.{leb, ltb}
@@ -23,8 +23,8 @@ unfoldable pub startEntry : Bool → ℕ → Entry
 startEntry begun deadline =
     record { begun = begun; deadline = deadline; tries = 0; acked = false; sets = record { one = false; two = false } }
 
--- Document 02, W-201: "T1 of a circuit begins when a record there first becomes UP"; up says that one becomes UP, in the mode Starting. House:
--- it begins once, and not again after it stopped or for another record.
+-- Document 02, W-201: "T1 of a circuit begins when a record there first becomes UP"; W-202: on a LAN "with its level's first UP record". up says that
+-- one becomes UP, in the mode Starting. House: it begins once, and not again after it stopped or for another record.
 unfoldable pub begins : Bool → T1 → Bool
 begins up t = up && not (t .entry .begun)
 
@@ -65,7 +65,8 @@ again s clock t =
 unfoldable pub tickT1 : Lengths → ℕ → T1 → T1
 tickT1 s clock t = cond (helloDue s clock t) (again s clock t) (cond (due clock t) (stopT1 t) t)
 
--- "T1 stops when one came and CSNP sets are complete for all the circuit's levels .."
+-- "T1 stops when one came and CSNP sets are complete for all the circuit's levels .."; document 02, W-202: on a LAN "by its own level's
+-- acknowledgement and CSNP set"
 unfoldable pub done : Levels → Entry → Bool
 done l e = e .acked && within l (e .sets)
 

@@ -2,6 +2,6 @@
 // and 3.3.2). No
 // state and no clock of its own; callers: timers, gateway.
 pub mod heard; // heard.rt: what an accepted hello says to the timers
-pub mod t1; // t1.rt: the T1 of one circuit
+pub mod t1; // t1.rt: one T1
 pub mod t2; // t2.rt: the T2 of each level
 pub mod t3; // t3.rt: T3

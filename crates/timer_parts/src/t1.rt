@@ -1,4 +1,4 @@
-// The T1 of one circuit (document 01, "Timers while Restarting"; document 02, W-201; RFC 8706, 3.1, 3.3.1 and 3.3.2).
+// One T1 (document 01, "Timers while Restarting"; document 02, W-201 and W-202; RFC 8706, 3.1 and 3.3).
 use crate::heard::Heard;
 use basics::levels::Levels;
 use basics::levels::is_within;
@@ -50,7 +50,7 @@ pub fn start_entry(begun: bool, deadline: u64) -> Entry
     }
 }
 
-// Whether a T1 begins; `up`: in the mode Starting a record of the circuit becomes UP.
+// Whether a T1 begins; `up`: in the mode Starting a record of its circuit, on a LAN of its level, becomes UP.
 pub fn does_begin(up: bool, t: T1) -> bool
     ensures { λ r. ⌜ r ≡ begins up t ⌝ }
 {
@@ -157,7 +157,7 @@ pub fn stop_t1(t: T1) -> T1
     }
 }
 
-// Whether a T1 of a circuit with the levels `l` has all that it waits for.
+// Whether a T1 that serves the levels `l` has all that it waits for.
 pub fn is_done(l: Levels, e: Entry) -> bool
     ensures { λ r. ⌜ r ≡ done l e ⌝ }
 {
@@ -211,7 +211,7 @@ pub fn note(n: Levels, t: T1) -> T1
     }
 }
 
-// An accepted hello on a circuit with the levels `l`.
+// An accepted hello to a T1 that serves the levels `l`.
 pub fn hear_t1(l: Levels, h: Heard, t: T1) -> T1
     ensures { λ r. ⌜ r ≡ heardT1 l h t ⌝ }
 {
@@ -265,7 +265,7 @@ fn is_late(t: T1) -> bool
     false
 }
 
-// The flags of the circuit's next hello.
+// The flags of the T1's next hello.
 pub fn hello_flags(mode: Mode, t: T1) -> Flags
     ensures { λ r. ⌜ r ≡ helloFlags mode t ⌝ }
 {

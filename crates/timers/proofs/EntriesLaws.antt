@@ -9,8 +9,7 @@ use lib.Dec.{eqb}
 use lib.ListN.{set, length, length-set}
 use lib.Seq.{getD-set-same, getD-set-other}
 use Rattle.basics.proofs.BitLaws.{bit-lt, bit-back}
-use Rattle.basics.specs.Mask.{circuits}
-use Rattle.timers.specs.Memory.{wordCount, entryOf, entryAt}
+use Rattle.timers.specs.Memory.{t1Count, wordCount, entryOf, entryAt}
 
 -- the second word's parts
 pub packs : (d t : ℕ) (a b c g : Bool) → t < 256
@@ -36,7 +35,7 @@ packs d t a b c g h =
         let e₄ : v % 2 ≡ v = omega arith in
         rw (e₀, q₁, q₂, q₃, q₄, e₁, e₂, e₃, e₄)
 
-pub entry-here : (ws : List ℕ) (i a b : ℕ) → length ws ≡ wordCount → i < circuits → entryAt (set (set ws (2 * i) a) (2 * i + 1) b) i ≡ entryOf a b
+pub entry-here : (ws : List ℕ) (i a b : ℕ) → length ws ≡ wordCount → i < t1Count → entryAt (set (set ws (2 * i) a) (2 * i + 1) b) i ≡ entryOf a b
 unfolding entryAt
 entry-here ws i a b l h =
     rw (getD-set-other (set ws (2 * i) a) (2 * i + 1) (2 * i) b 0 (λ (q : 2 * i ≡ 2 * i + 1). omega arith), getD-set-same ws (2 * i) a 0 (omega arith), getD-set-same (set ws (2 * i) a) (2 * i + 1) b 0 (rw length-set (omega arith)))

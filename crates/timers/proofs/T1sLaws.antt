@@ -1,4 +1,4 @@
--- The T1s of all circuits, a list made of a mask's digits and of entries: what each change of the mask and of one entry does to
+-- The T1s in all places, a list made of a mask's digits and of entries: what each change of the mask and of one entry does to
 -- the list, and what is asked of it. Over any list of digits, and so over any width.
 use Prim.Native.Nat.{ℕ, zero, suc, _+_, _<_, _≤_}
 use native.Mathlib.Numerals.{add-one}
@@ -9,13 +9,13 @@ use mathlib.Core.Logic.{_≢_}
 use mathlib.Core.List.{List, [], _∷_, _++_, map, append-nil}
 use lib.ListN.{set, getD, length, take, drop, drop-of-length-le}
 use lib.Seq.{drop-cons, take-suc-set, drop-set-lt, append-snoc, take-all}
-use Rattle.basics.specs.Mask.{circuits, bitsOf, countTrue, anyTrue, firstTrue}
+use Rattle.basics.specs.Mask.{bitsOf}
 use Rattle.timer_parts.specs.T1.{startEntry, stopT1}
 use Rattle.timer_parts.specs.declared.t1.Entry.{Entry}
 use Rattle.timer_parts.specs.declared.t1.T1.{T1}
 use Rattle.basics.proofs.MaskLaws.{length-bitsOf}
-use Rattle.timers.specs.Timers.{anyRuns, countRuns, firstRuns, noT1}
-use Rattle.timers.specs.Memory.{joined, t1Bits}
+use Rattle.timers.specs.Timers.{runsOf, noT1}
+use Rattle.timers.specs.Memory.{t1Count, joined, t1Bits}
 use Rattle.timers.specs.Hellos.{helloBits, noHellos}
 use Rattle.timers.specs.Events.{startT1}
 
@@ -24,25 +24,16 @@ unfolding joined
 length-joined [] e = refl
 length-joined (b ∷ bs) e = ap suc (length-joined bs (λ i. e (suc i)))
 
-pub length-bits : (m : ℕ) → length (t1Bits m) ≡ circuits
-length-bits m = length-bitsOf circuits m
+pub length-bits : (m : ℕ) → length (t1Bits m) ≡ t1Count
+length-bits m = length-bitsOf t1Count m
 
 -- ---- what is asked
 
-pub anyRuns-joined : (bs : List Bool) (e : ℕ → Entry) → anyRuns (joined bs e) ≡ anyTrue bs
-unfolding joined anyRuns anyTrue
-anyRuns-joined [] e = refl
-anyRuns-joined (b ∷ bs) e = rw (anyRuns-joined bs (λ i. e (suc i)))
-
-pub countRuns-joined : (bs : List Bool) (e : ℕ → Entry) → countRuns (joined bs e) ≡ countTrue bs
-unfolding joined countRuns countTrue
-countRuns-joined [] e = refl
-countRuns-joined (b ∷ bs) e = rw (countRuns-joined bs (λ i. e (suc i)))
-
-pub firstRuns-joined : (bs : List Bool) (e : ℕ → Entry) (k : ℕ) → firstRuns (joined bs e) k ≡ firstTrue bs k
-unfolding joined firstRuns firstTrue
-firstRuns-joined [] e k = refl
-firstRuns-joined (b ∷ bs) e k = rw (firstRuns-joined bs (λ i. e (suc i)) (suc k))
+-- those that run are those whose digit is set
+pub runsOf-joined : (bs : List Bool) (e : ℕ → Entry) → runsOf (joined bs e) ≡ bs
+unfolding joined
+runsOf-joined [] e = refl
+runsOf-joined (b ∷ bs) e = ap (λ (l : List Bool). b ∷ l) (runsOf-joined bs (λ i. e (suc i)))
 
 pub getD-joined : (bs : List Bool) (e : ℕ → Entry) (i : ℕ) → i < length bs
     → getD (joined bs e) i noT1 ≡ record { runs = getD bs i false; entry = e i }
@@ -68,7 +59,7 @@ joined-set (a ∷ bs) e f zero b h k =
 joined-set (a ∷ bs) e f (suc i) b h k =
     rw (k zero (λ (q : zero ≡ suc i). omega arith), joined-set bs (λ j. e (suc j)) (λ j. f (suc j)) i b (omega arith) (λ j q. k (suc j) (λ (w : suc j ≡ suc i). q (omega arith))))
 
-pub joined-stored : (m m′ : ℕ) (e f : ℕ → Entry) (i : ℕ) (t : T1) → i < circuits → t1Bits m′ ≡ set (t1Bits m) i (t .runs) → f i ≡ t .entry
+pub joined-stored : (m m′ : ℕ) (e f : ℕ → Entry) (i : ℕ) (t : T1) → i < t1Count → t1Bits m′ ≡ set (t1Bits m) i (t .runs) → f i ≡ t .entry
     → ((j : ℕ) → j ≢ i → f j ≡ e j) → joined (t1Bits m′) f ≡ set (joined (t1Bits m) e) i t
 joined-stored m m′ e f i t h p q r =
     rw p (joined-set (t1Bits m) e f i (t .runs) (rw length-bits h) r ∙ ap (λ (x : Entry). set (joined (t1Bits m) e) i (record { runs = t .runs; entry = x })) q)
@@ -83,8 +74,17 @@ pub joined-stop : (m : ℕ) (e : ℕ → Entry) → joined (t1Bits 0) e ≡ map 
 unfolding bitsOf
 joined-stop m e = sym (none-run (t1Bits m) e)
 
+no-digit : (n j : ℕ) → getD (bitsOf n 0) j false ≡ false
+unfolding bitsOf
+no-digit zero j = refl
+no-digit (suc n) zero = refl
+no-digit (suc n) (suc j) = no-digit n j
+
 -- no hello is ordered: the mask 0
-pub bits-none : helloBits 0 ≡ noHellos .circuits
+pub hello-none : (j : ℕ) → getD (helloBits 0) j false ≡ false
+hello-none j = no-digit t1Count j
+
+pub bits-none : helloBits 0 ≡ noHellos .t1s
 unfolding bitsOf
 bits-none = refl
 
@@ -95,7 +95,7 @@ module _ (begun : Bool) (deadline : ℕ) where
   joined-start [] e h = refl
   joined-start (b ∷ bs) e h = rw (h zero (omega arith), joined-start bs (λ i. e (suc i)) (λ j k. h (suc j) (omega arith)))
 
-  pub joined-started : (m : ℕ) (e : ℕ → Entry) → ((j : ℕ) → j < circuits → e j ≡ startEntry begun deadline)
+  pub joined-started : (m : ℕ) (e : ℕ → Entry) → ((j : ℕ) → j < t1Count → e j ≡ startEntry begun deadline)
       → joined (t1Bits m) e ≡ map (startT1 begun deadline) (t1Bits m)
   joined-started m e h = joined-start (t1Bits m) e (λ j k. h j (rw length-bits at k))
 

@@ -1,5 +1,5 @@
 -- How a call ends, and what it orders, of the timers before it, after its own step, and after all of it (document 01, "Timers
--- while Restarting"; document 02, W-201).
+-- while Restarting"; document 02, W-201 and W-202).
 use Prim.Native.Nat.{ℕ}
 use mathlib.Core.Bool.{Bool, true, false, cond, not, _&&_, _||_}
 use mathlib.Core.List.{map}
@@ -64,15 +64,15 @@ overloaded up Idle = Idle
 overloaded up (Goes spf overload) = Goes spf (cond up (alsoSet overload) overload)
 overloaded up (Ended spf overload) = Ended spf (cond up (alsoSet overload) overload)
 
--- whether it stopped its circuit's T1, here x, for want of a Restart TLV
+-- whether it stopped its T1, here x, for want of a Restart TLV
 unfoldable pub freedWith : Lengths → ℕ → Mode → Bool → Heard → T1 → Freed
 freedWith s clock mode rose d x = freedBy (isRestarting mode) d (firstT1 s clock mode rose x)
 
--- all that it orders of the timers; circuit i's T1 begins, is kept or is stopped
-unfoldable pub heardOrders : Lengths → ℕ → ℕ → Levels → Bool → Heard → Timers → HeardOrders
-heardOrders s clock i l rose d t =
+-- all that it orders of the timers; the T1 in place i begins, is kept or is stopped
+unfoldable pub heardOrders : Lengths → ℕ → ℕ → Bool → Heard → Timers → HeardOrders
+heardOrders s clock i rose d t =
     record {
-      outcome = overloaded (upIn (t .mode) rose) (ordered (heardIn s clock i l rose d) t);
+      outcome = overloaded (upIn (t .mode) rose) (ordered (heardIn s clock i rose d) t);
       freed = cond (isRunning (t .mode)) Kept (freedWith s clock (t .mode) rose d (getD (t .t1s) i noT1));
       hello = beginHello (upIn (t .mode) rose) (getD (t .t1s) i noT1);
     }

@@ -1,11 +1,12 @@
 // The head of the timers: the mode, the mask of running T1s, the T2 of each level, and T3. Each function says what it does to all
-// timers, whatever the entries are.
+// timers, whatever the entries are; where it takes no `v`, also whatever T1s there are.
 use basics::levels::Levels;
-use basics::mask::Lowest;
-use basics::mask::any_bit;
-use basics::mask::count_bits;
-use basics::mask::lowest_bit;
+use basics::places::Lowest;
+use basics::places::count_places;
+use basics::places::lowest_circuit;
+use basics::places::share_place;
 use settings::mode::Mode;
+use settings::serving::Serving;
 use timer_parts::t2::T2s;
 use timer_parts::t2::any_t2;
 use timer_parts::t2::cancel_both;
@@ -17,19 +18,20 @@ ghost use mathlib.Core.Path.{_≡_};
 ghost use Prim.Native.Nat.{ℕ};
 ghost use Rattle.basics.specs.Levels.{levelsWith};
 ghost use Rattle.timer_parts.specs.declared.t1.Entry.{Entry};
-ghost use Rattle.timers.specs.Timers.{withT1s, withT2s, withT3, waits, expireT2s, cancelT2s, noticeT2s, tickT3, finish, countRuns, firstRuns};
+ghost use Rattle.settings.specs.declared.serving.Serving.{Serving};
+ghost use Rattle.timers.specs.Timers.{withT1s, withT2s, withT3, waits, expireT2s, cancelT2s, noticeT2s, tickT3, finish, countRuns, lowestRuns};
 ghost use Rattle.timers.specs.Memory.{joined, timersOf, t1Bits};
 
 pub struct Head {
     pub mode: Mode,
-    pub mask: u8,
+    pub mask: u16,
     pub t2s: T2s,
     pub t3: T3,
 }
 
 // The head with another mask of running T1s.
-pub fn with_mask(h: Head, mask: u8) -> Head
-    ensures { λ r. ⌜ ((e : ℕ → Entry) → timersOf r e ≡ withT1s (timersOf h e) (joined (t1Bits mask) e)) ⌝ }
+pub fn with_mask(h: Head, mask: u16) -> Head
+    ensures { λ r. ⌜ ((v : Serving) (e : ℕ → Entry) → timersOf v r e ≡ withT1s (timersOf v h e) (joined (t1Bits mask) e)) ⌝ }
 {
     let mode = h.mode;
     let t2s = h.t2s;
@@ -44,7 +46,7 @@ pub fn with_mask(h: Head, mask: u8) -> Head
 
 // The head with other T2s.
 fn with_t2s(h: Head, t2s: T2s) -> Head
-    ensures { λ r. ⌜ ((e : ℕ → Entry) → timersOf r e ≡ withT2s (timersOf h e) t2s) ⌝ }
+    ensures { λ r. ⌜ ((v : Serving) (e : ℕ → Entry) → timersOf v r e ≡ withT2s (timersOf v h e) t2s) ⌝ }
 {
     let mode = h.mode;
     let t3 = h.t3;
@@ -58,7 +60,7 @@ fn with_t2s(h: Head, t2s: T2s) -> Head
 
 // The head with another T3.
 pub fn with_t3(h: Head, t3: T3) -> Head
-    ensures { λ r. ⌜ ((e : ℕ → Entry) → timersOf r e ≡ withT3 (timersOf h e) t3) ⌝ }
+    ensures { λ r. ⌜ ((v : Serving) (e : ℕ → Entry) → timersOf v r e ≡ withT3 (timersOf v h e) t3) ⌝ }
 {
     let mode = h.mode;
     let t2s = h.t2s;
@@ -70,25 +72,26 @@ pub fn with_t3(h: Head, t3: T3) -> Head
     }
 }
 
-// The levels whose T2 waits for a T1: each, while any T1 runs.
-fn waiting_levels(h: Head) -> Levels
-    ensures { λ r. ⌜ ((e : ℕ → Entry) → r ≡ levelsWith (λ k. waits k (timersOf h e))) ⌝ }
+// The levels whose T2 waits: each, while a T1 runs that serves it.
+fn waiting_levels(v: Serving, h: Head) -> Levels
+    ensures { λ r. ⌜ ((e : ℕ → Entry) → r ≡ levelsWith (λ k. waits k (timersOf v h e))) ⌝ }
 {
-    let any = any_bit(h.mask);
-    Levels { one: any, two: any }
+    let one = share_place(v.one, h.mask);
+    let two = share_place(v.two, h.mask);
+    Levels { one, two }
 }
 
 // T2 cancelling.
-pub fn cancel_t2s(h: Head) -> Head
-    ensures { λ r. ⌜ ((e : ℕ → Entry) → timersOf r e ≡ cancelT2s (timersOf h e)) ⌝ }
+pub fn cancel_t2s(v: Serving, h: Head) -> Head
+    ensures { λ r. ⌜ ((e : ℕ → Entry) → timersOf v r e ≡ cancelT2s (timersOf v h e)) ⌝ }
 {
     let both = h.t2s;
-    let waits = waiting_levels(h);
+    let waits = waiting_levels(v, h);
     with_t2s(h, cancel_both(waits, both))
 }
 
 fn expire_t2s(clock: u32, h: Head) -> Head
-    ensures { λ r. ⌜ ((e : ℕ → Entry) → timersOf r e ≡ expireT2s clock (timersOf h e)) ⌝ }
+    ensures { λ r. ⌜ ((v : Serving) (e : ℕ → Entry) → timersOf v r e ≡ expireT2s clock (timersOf v h e)) ⌝ }
 {
     let both = h.t2s;
     with_t2s(h, expire_both(clock, both))
@@ -96,14 +99,14 @@ fn expire_t2s(clock: u32, h: Head) -> Head
 
 // The databases of the levels `n` are complete.
 pub fn notice_t2s(n: Levels, h: Head) -> Head
-    ensures { λ r. ⌜ ((e : ℕ → Entry) → timersOf r e ≡ noticeT2s n (timersOf h e)) ⌝ }
+    ensures { λ r. ⌜ ((v : Serving) (e : ℕ → Entry) → timersOf v r e ≡ noticeT2s n (timersOf v h e)) ⌝ }
 {
     let both = h.t2s;
     with_t2s(h, notice_both(n, both))
 }
 
 fn tick_t3(clock: u32, h: Head) -> Head
-    ensures { λ r. ⌜ ((e : ℕ → Entry) → timersOf r e ≡ tickT3 clock (timersOf h e)) ⌝ }
+    ensures { λ r. ⌜ ((v : Serving) (e : ℕ → Entry) → timersOf v r e ≡ tickT3 clock (timersOf v h e)) ⌝ }
 {
     let mode = h.mode;
     let t2s = h.t2s;
@@ -120,15 +123,15 @@ fn tick_t3(clock: u32, h: Head) -> Head
 }
 
 // A tick's steps after T1: T2 expiry, T2 cancelling, T3.
-pub fn tick_head(clock: u32, h: Head) -> Head
-    ensures { λ r. ⌜ ((e : ℕ → Entry) → timersOf r e ≡ tickT3 clock (cancelT2s (expireT2s clock (timersOf h e)))) ⌝ }
+pub fn tick_head(v: Serving, clock: u32, h: Head) -> Head
+    ensures { λ r. ⌜ ((e : ℕ → Entry) → timersOf v r e ≡ tickT3 clock (cancelT2s (expireT2s clock (timersOf v h e)))) ⌝ }
 {
-    tick_t3(clock, cancel_t2s(expire_t2s(clock, h)))
+    tick_t3(clock, cancel_t2s(v, expire_t2s(clock, h)))
 }
 
 // The end of the mode, where no T2 runs.
 pub fn end_restart(h: Head) -> Head
-    ensures { λ r. ⌜ ((e : ℕ → Entry) → timersOf r e ≡ finish (timersOf h e)) ⌝ }
+    ensures { λ r. ⌜ ((v : Serving) (e : ℕ → Entry) → timersOf v r e ≡ finish (timersOf v h e)) ⌝ }
 {
     let t2s = h.t2s;
     if any_t2(t2s) {
@@ -142,16 +145,16 @@ pub fn end_restart(h: Head) -> Head
     }
 }
 
-// How many circuits still wait for T1.
+// How many T1s run.
 pub fn count_waiting(h: Head) -> u32
-    ensures { λ r. ⌜ ((e : ℕ → Entry) → r ≡ countRuns (timersOf h e .t1s)) ⌝ }
+    ensures { λ r. ⌜ ((v : Serving) (e : ℕ → Entry) → r ≡ countRuns (timersOf v h e .t1s)) ⌝ }
 {
-    count_bits(h.mask)
+    count_places(h.mask)
 }
 
-// The lowest such circuit, by its number from 1.
+// The lowest circuit with one, by its number from 1.
 pub fn lowest_waiting(h: Head) -> Lowest
-    ensures { λ r. ⌜ ((e : ℕ → Entry) → r ≡ firstRuns (timersOf h e .t1s) 1) ⌝ }
+    ensures { λ r. ⌜ ((v : Serving) (e : ℕ → Entry) → r ≡ lowestRuns (timersOf v h e .t1s)) ⌝ }
 {
-    lowest_bit(h.mask)
+    lowest_circuit(h.mask)
 }

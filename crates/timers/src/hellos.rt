@@ -1,5 +1,5 @@
-// Orders for hellos (document 01, "Timers while Restarting"; document 02, W-201; RFC 8706, 3.3.1 and 3.3.2).
-use basics::mask::any_bit;
+// Orders for hellos (document 01, "Timers while Restarting"; document 02, W-201 and W-202; RFC 8706, 3.3).
+use basics::places::any_place;
 use restart_tlv::flags::Flags;
 use settings::mode::Mode;
 use settings::mode::is_starting;
@@ -8,27 +8,27 @@ use timer_parts::t1::does_begin;
 ghost use mathlib.Core.Path.{_≡_};
 ghost use Rattle.timers.specs.Hellos.{helloBits, ordering, hellosOf, againFlags, beginHello};
 
-// On the circuits of a mask, with flags; without any where there is no circuit.
+// For each T1 of a mask, with flags; without any where there is none. On a LAN the hello is that of the T1's level, on P2P the one hello.
 pub struct HelloOrders {
-    pub circuits: u8,
+    pub t1s: u16,
     pub flags: Flags,
 }
 
-// On the circuit of a frame; Suppress: with SA, and no other flag.
+// On the circuit of a frame, on a LAN of its level; Suppress: with SA, and no other flag.
 pub enum HelloOrder {
     Nothing,
     Suppress,
 }
 
-// A hello with these flags on each circuit of a mask.
-pub fn order_hellos(circuits: u8, flags: Flags) -> HelloOrders
-    ensures { λ r. ⌜ hellosOf r ≡ ordering (flags .bits) (helloBits circuits) ⌝ }
+// A hello with these flags for each T1 of a mask.
+pub fn order_hellos(t1s: u16, flags: Flags) -> HelloOrders
+    ensures { λ r. ⌜ hellosOf r ≡ ordering (flags .bits) (helloBits t1s) ⌝ }
 {
-    if any_bit(circuits) {
-        return HelloOrders { circuits, flags };
+    if any_place(t1s) {
+        return HelloOrders { t1s, flags };
     }
     HelloOrders {
-        circuits,
+        t1s,
         flags: Flags::NONE,
     }
 }

@@ -5,12 +5,14 @@ use crate::head::end_restart;
 use basics::levels::Levels;
 use settings::mode::is_running;
 use settings::mode::is_starting;
+use settings::serving::Serving;
 use timer_parts::t2::spf_due;
 use timer_parts::t3::is_expired;
 ghost use mathlib.Core.Path.{_≡_};
 ghost use mathlib.Core.Bool.{cond};
 ghost use Prim.Native.Nat.{ℕ};
 ghost use Rattle.timer_parts.specs.declared.t1.Entry.{Entry};
+ghost use Rattle.settings.specs.declared.serving.Serving.{Serving};
 ghost use Rattle.timers.specs.Timers.{finish, cancelT2s};
 ghost use Rattle.timers.specs.Memory.{timersOf};
 ghost use Rattle.timers.specs.Outcome.{overloadOf, outcomeWith, outcomeOf, alsoSet, overloaded};
@@ -63,7 +65,7 @@ fn outcome_with(ended: bool, spf: Levels, overload: Overload) -> TimerOutcome
 
 // From the timers before a call, after its own step, and after all of it.
 fn outcome_of(before: Head, mid: Head, after: Head) -> TimerOutcome
-    ensures { λ r. ⌜ ((d e f : ℕ → Entry) → r ≡ outcomeOf (timersOf before d) (timersOf mid e) (timersOf after f)) ⌝ }
+    ensures { λ r. ⌜ ((v : Serving) (d e f : ℕ → Entry) → r ≡ outcomeOf (timersOf v before d) (timersOf v mid e) (timersOf v after f)) ⌝ }
 {
     let old = before.t3;
     let own = mid.t3;
@@ -114,10 +116,10 @@ pub fn overload_for(up: bool, o: TimerOutcome) -> TimerOutcome
 }
 
 // The tail of every call: T2 cancelling, then the end of the mode. `mid` is what the call's own step left.
-pub fn settle(before: Head, mid: Head) -> Settled
-    ensures { λ r. ⌜ ((d e : ℕ → Entry) → (timersOf (r .head) e ≡ finish (cancelT2s (timersOf mid e))) × (r .outcome ≡ outcomeOf (timersOf before d) (timersOf mid e) (finish (cancelT2s (timersOf mid e))))) ⌝ }
+pub fn settle(v: Serving, before: Head, mid: Head) -> Settled
+    ensures { λ r. ⌜ ((d e : ℕ → Entry) → (timersOf v (r .head) e ≡ finish (cancelT2s (timersOf v mid e))) × (r .outcome ≡ outcomeOf (timersOf v before d) (timersOf v mid e) (finish (cancelT2s (timersOf v mid e))))) ⌝ }
 {
-    let head = end_restart(cancel_t2s(mid));
+    let head = end_restart(cancel_t2s(v, mid));
     let outcome = outcome_of(before, mid, head);
     Settled { head, outcome }
 }

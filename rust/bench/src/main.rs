@@ -5,7 +5,7 @@ mod measure;
 mod report;
 mod shapes;
 
-use isis_gr_reference::{Kind, Mode, Settings};
+use isis_gr_reference::{Kind, Levels, Mode, Settings};
 use measure::{expiring, look_up, receive, set_up, tick, Both, Pair, Shape};
 use report::Line;
 use shapes::{empty, far, first_two, full, lan, last_four, last_octet, listed, lists, p2p, settings, tlv, with, OWN, SOURCE, WHOLE};
@@ -90,14 +90,18 @@ fn ticks() -> Vec<Shape> {
     let eight = |kind: Kind| Both::of(&with(&[kind; 8]));
     let of_lans = || (1..=8).fold(eight(Kind::Lan), |both, circuit| both.filled(circuit, 16));
     let of_p2ps = (1..=8).fold(eight(Kind::PointToPoint), |both, circuit| both.fed(circuit, SOURCE, &p2p(&[1], &[])));
-    let restarting = Settings { mode: Mode::Restarting, ..settings() };
+    let restarting = |of: Settings| Both::of(&Settings { mode: Mode::Restarting, ..of });
+    // a T1 a circuit: one P2P circuit and seven LANs, all of level 1 alone; a LAN with both levels has two
+    let mut of_level_1 = settings();
+    of_level_1.circuits.iter_mut().for_each(|own| own.levels = Levels { one: true, two: false });
     vec![
         tick("tick, no record", Both::new()),
         tick("tick, 16 records", Both::new().filled(2, 16)),
         tick("tick, 128 records", of_lans()),
         tick("tick, eight P2P circuits, 8 records", of_p2ps),
         tick("tick, one LAN, 3 records", Both::of(&with(&[Kind::Lan])).filled(1, 3)),
-        tick("tick, Restarting, eight T1s run", Both::of(&restarting)),
+        tick("tick, Restarting, eight T1s run", restarting(of_level_1)),
+        tick("tick, Restarting, sixteen T1s run", restarting(with(&[Kind::Lan; 8]))),
         expiring("tick that removes 16 records", Both::new().filled(2, 16)),
         expiring("tick that removes 128 records", of_lans()),
     ]

@@ -24,9 +24,9 @@ pub enum Call {
     LookUpLan(u8, u8, SystemId, Mac),
     /// Link metric.
     Metric(u8),
-    /// Flags of the next hello.
-    Flags(u8),
-    /// Circuits that wait for T1.
+    /// Flags of the next hello: circuit, level.
+    Flags(u8, u8),
+    /// T1s that still run.
     Waiting,
 }
 
@@ -34,10 +34,14 @@ pub enum Call {
 #[derive(Clone, Copy, Debug)]
 pub struct Now(pub u32);
 
+/// A circuit; a LAN has mostly both levels, so that its T1s are two.
 fn circuit(r: &mut Random) -> CircuitSettings {
+    let kind = if r.chance(50) { Kind::Lan } else { Kind::PointToPoint };
+    let both = Levels { one: true, two: true };
+    let any = r.pick(&[Levels { one: true, two: false }, Levels { one: false, two: true }, both]);
     CircuitSettings {
-        kind: if r.chance(50) { Kind::Lan } else { Kind::PointToPoint },
-        levels: r.pick(&[Levels { one: true, two: false }, Levels { one: false, two: true }, Levels { one: true, two: true }]),
+        kind,
+        levels: if kind == Kind::Lan && r.chance(50) { both } else { any },
         mac: [2, 0, 1, 0, 0, 9],
         priority: r.pick(&[0, 63, 64, 127]),
         hold: r.pick(&[1, 4, 30, 65535]),
@@ -55,8 +59,9 @@ pub fn mode(r: &mut Random) -> Mode {
     }
 }
 
-/// Settings in range, mostly with short timers.
+/// Settings in range, mostly with short timers and few circuits.
 pub fn settings(r: &mut Random, mode: Mode) -> Settings {
+    let count = if r.chance(5) { 8 } else { 1 + r.below(4) };
     Settings {
         system: OWN,
         t1: r.pick(&[1, 2, 3, 60]),
@@ -64,7 +69,7 @@ pub fn settings(r: &mut Random, mode: Mode) -> Settings {
         tries: r.pick(&[1, 2, 3, 255]),
         clock: r.pick(&[0, 100, 4_294_900_000]),
         mode,
-        circuits: (0..1 + r.below(4)).map(|_| circuit(r)).collect(),
+        circuits: (0..count).map(|_| circuit(r)).collect(),
     }
 }
 
@@ -112,7 +117,7 @@ pub fn receive(r: &mut Random, s: &Settings, number: u8) -> Call {
 /// The circuit that a call names, if it names one.
 pub fn named(call: &Call) -> Option<u8> {
     match *call {
-        Call::Receive(n, ..) | Call::Release(n) | Call::Clear(n) | Call::Csnp(n, _) | Call::Metric(n) | Call::Flags(n) => Some(n),
+        Call::Receive(n, ..) | Call::Release(n) | Call::Clear(n) | Call::Csnp(n, _) | Call::Metric(n) | Call::Flags(n, _) => Some(n),
         Call::LookUpP2p(n, _) | Call::LookUpLan(n, ..) => Some(n),
         Call::Tick(_) | Call::Database(_) | Call::Waiting => None,
     }
@@ -122,8 +127,8 @@ pub fn named(call: &Call) -> Option<u8> {
 pub fn call(r: &mut Random, s: &Settings, now: &mut Now) -> Call {
     let n = number(r, s);
     match r.below(100) {
-        0..=69 => receive(r, s, n),
-        70..=81 => {
+        0..=66 => receive(r, s, n),
+        67..=78 => {
             let step = r.pick(&[0, 0, 1, 1, 1, 2, 4, 30]);
             if r.chance(3) {
                 return Call::Tick(now.0.saturating_sub(1 + r.below(3) as u32));
@@ -131,14 +136,14 @@ pub fn call(r: &mut Random, s: &Settings, now: &mut Now) -> Call {
             now.0 = now.0.saturating_add(step);
             Call::Tick(now.0)
         }
-        82 => Call::Release(n),
-        83 => Call::Clear(n),
-        84..=88 => Call::Csnp(n, level(r)),
-        89..=91 => Call::Database(level(r)),
-        92 => Call::LookUpP2p(n, system(r.below(u64::from(SYSTEMS)) as u8)),
-        93..=95 => Call::LookUpLan(n, level(r), system(r.below(u64::from(SYSTEMS)) as u8), mac(r.below(u64::from(MACS)) as u8)),
-        96..=97 => Call::Metric(n),
-        98 => Call::Flags(n),
+        79 => Call::Release(n),
+        80 => Call::Clear(n),
+        81..=85 => Call::Csnp(n, level(r)),
+        86..=88 => Call::Database(level(r)),
+        89 => Call::LookUpP2p(n, system(r.below(u64::from(SYSTEMS)) as u8)),
+        90..=92 => Call::LookUpLan(n, level(r), system(r.below(u64::from(SYSTEMS)) as u8), mac(r.below(u64::from(MACS)) as u8)),
+        93..=94 => Call::Metric(n),
+        95..=97 => Call::Flags(n, level(r)),
         _ => Call::Waiting,
     }
 }

@@ -2,12 +2,14 @@
 use crate::calls::{call, mode, named, settings, spoilt, Call, Now};
 use crate::coverage::Coverage;
 use crate::frames::{mac, system, Meant, MACS, SYSTEMS};
+use crate::levels::ByLevel;
 use crate::proved::Proved;
 use crate::random::Random;
 use crate::reference::Reference;
 use crate::side::{Answer, Outcome, Side, UNTOUCHED};
-use crate::starting::{Seen, Start};
-use isis_gr::{Ack, Flags, Freed, Mark, Overload, Phase, Received, Record, Refusal, Ticked, Timers};
+use crate::starting::Start;
+use crate::watch::{timers_of, Seen, Watch};
+use isis_gr::{Ack, Flags, Freed, Hellos, Mark, Overload, Phase, Received, Record, Refusal, Timers};
 use isis_gr_reference::{Kind, Mac, Mode, Settings, MAX_CIRCUITS};
 use isis_gr_sys::GATEWAY_WORDS;
 
@@ -16,7 +18,9 @@ pub struct Pair {
     proved: Proved,
     reference: Reference,
     settings: Settings,
+    watch: Watch,
     start: Start,
+    levels: ByLevel,
 }
 
 fn timers(c: &mut Coverage, t: Timers) {
@@ -79,13 +83,13 @@ fn refused(c: &mut Coverage, call: &Call, why: Refusal) {
         Call::LookUpP2p(..) => "P2P look up",
         Call::LookUpLan(..) => "LAN look up",
         Call::Metric(_) => "metric",
-        Call::Flags(_) => "flags",
+        Call::Flags(..) => "flags",
         Call::Waiting => "waiting",
     };
     c.hit(&format!("{name} refused {}", why.number()));
     c.hit_if(why == Refusal::NoRoom, "full room");
     c.hit_if(named(call).is_some_and(|n| !(1..=MAX_CIRCUITS).contains(&usize::from(n))), "circuit 0, or above 8");
-    let (Call::Csnp(_, level) | Call::Database(level) | Call::LookUpLan(_, level, ..)) = *call else { return };
+    let (Call::Csnp(_, level) | Call::Database(level) | Call::LookUpLan(_, level, ..) | Call::Flags(_, level)) = *call else { return };
     c.hit_if(!(1..=2).contains(&level), "level that is neither 1 nor 2");
 }
 
@@ -103,15 +107,19 @@ impl Pair {
         assert!((&proved, &reference) == (&before.0, &before.1), "a refused set-up changed the memory");
         c.hit("setup refused 12");
         assert_eq!(proved.set_up(&settings), Ok(hellos));
-        let start = Start::new(&settings);
-        Pair { proved, reference, settings, start }
+        let watch = Watch::new(&settings, hellos);
+        let (start, levels) = (Start::new(&settings), ByLevel::new(c, &settings, &watch, hellos));
+        Pair { proved, reference, settings, watch, start, levels }
     }
 
     /// Sets both up anew over what they hold, at this clock.
-    fn set_up_again(&mut self, clock: u32) {
+    fn set_up_again(&mut self, c: &mut Coverage, clock: u32) {
         self.settings.clock = clock;
-        assert_eq!(self.proved.set_up(&self.settings), self.reference.set_up(&self.settings));
+        let hellos: Hellos = self.proved.set_up(&self.settings).expect("in range");
+        assert_eq!(self.reference.set_up(&self.settings), Ok(hellos));
+        self.watch = Watch::new(&self.settings, hellos);
         self.start = Start::new(&self.settings);
+        self.levels = ByLevel::new(c, &self.settings, &self.watch, hellos);
     }
 
     /// The record of the key that a frame has.
@@ -138,7 +146,9 @@ impl Pair {
                 assert_eq!(self.proved.look_up_p2p(circuit, system(from)), self.reference.look_up_p2p(circuit, system(from)));
             }
             assert_eq!(self.proved.link_metric(circuit), self.reference.link_metric(circuit));
-            assert_eq!(self.proved.next_hello_flags(circuit), self.reference.next_hello_flags(circuit));
+            for level in 0..=3 {
+                assert_eq!(self.proved.next_hello_flags(circuit, level), self.reference.next_hello_flags(circuit, level));
+            }
         }
         assert_eq!(self.proved.waiting(), self.reference.waiting());
     }
@@ -201,15 +211,16 @@ impl Pair {
                 c.hit(&format!("{name} finds{}", if found.is_some() { "" } else { " none" }));
             }
             (&Call::Metric(n), Answer::Metric(metric)) => self.count_metric(c, n, metric),
-            (_, Answer::Flags(flags)) => {
+            (&Call::Flags(n, level), Answer::Flags(flags)) => {
+                self.levels.count_flags(c, self.is_lan(n), flags, self.proved.next_hello_flags(n, 3 - level).ok());
                 c.hit_if(flags == Flags::RR, "RR in the next hello");
                 c.hit_if(flags == Flags::SA, "SA in the next hello");
                 c.hit_if(flags == Flags::RR.and(Flags::SA), "RR and SA in the next hello");
                 c.hit_if(flags.is_empty(), "no flag in the next hello");
             }
             (_, Answer::Waiting(waiting)) => {
-                c.hit_if(waiting.count > 0, "circuits wait");
-                c.hit_if(waiting.count == 0, "none waits");
+                c.hit_if(waiting.count > 0, "T1s run");
+                c.hit_if(waiting.count == 0, "no T1 runs");
             }
             (_, Answer::Done) => {}
             (_, other) => panic!("{other:?} is no answer to {call:?}"),
@@ -219,7 +230,7 @@ impl Pair {
     /// One call on both; whether a restart or a start ended with it.
     pub fn step(&mut self, c: &mut Coverage, call: &Call) -> bool {
         let before = self.proved.clone();
-        let waited = before.waiting();
+        let t1s = self.watch.t1s;
         let stood = match *call {
             Call::Receive(n, source, _, _, meant) => self.look(n, meant, source),
             _ => None,
@@ -235,20 +246,20 @@ impl Pair {
             }
             Ok(answer) => self.count(c, call, answer, stood),
         }
-        let waits = self.proved.waiting();
-        self.start.count(c, &Seen { call, answer, stood, waited, waits });
-        let fewer = waits.count < waited.count;
+        let timers = answer.map_or(Timers::Idle, |answer| {
+            self.watch.follow(call, answer, self.proved.waiting());
+            timers_of(answer)
+        });
+        let seen = Seen { call, answer, stood, before: t1s, watch: &self.watch };
+        self.start.count(c, &seen);
+        self.levels.count(c, &seen);
+        let fewer = self.watch.t1s.running.count_ones() < t1s.running.count_ones();
         let acknowledged = matches!(call, Call::Receive(.., m) if !m.damaged && m.acknowledges);
-        let keeps = |t: Timers| matches!(t, Timers::GoOn { overload: Overload::Keep, .. });
+        let keeps = matches!(timers, Timers::GoOn { overload: Overload::Keep, .. });
         c.hit_if(fewer && acknowledged, "T1 stops by an acknowledgement");
         c.hit_if(fewer && matches!(call, Call::Csnp(..)), "T1 stops by a CSNP set");
-        c.hit_if(fewer && matches!(answer, Ok(Answer::Ticked(t)) if keeps(t.timers)), "T1 stops at its last expiry");
-        matches!(
-            answer,
-            Ok(Answer::Received(Received { timers: Timers::Ended { .. }, .. })
-                | Answer::Ticked(Ticked { timers: Timers::Ended { .. }, .. })
-                | Answer::Timers(Timers::Ended { .. }))
-        )
+        c.hit_if(fewer && keeps && matches!(call, Call::Tick(_)), "T1 stops at its last expiry");
+        matches!(timers, Timers::Ended { .. })
     }
 }
 
@@ -263,7 +274,7 @@ pub fn run(seed: u64, calls: u64) -> Coverage {
         let next = call(&mut r, &pair.settings, &mut now);
         let outcome = std::panic::catch_unwind(std::panic::AssertUnwindSafe(|| pair.step(&mut c, &next)));
         match outcome {
-            Ok(ended) if ended && r.chance(80) => pair.set_up_again(now.0),
+            Ok(ended) if ended && r.chance(80) => pair.set_up_again(&mut c, now.0),
             Ok(_) => {}
             Err(why) => {
                 eprintln!("seed {seed}, call {i}: {next:02x?} after {:?}", pair.settings);

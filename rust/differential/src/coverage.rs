@@ -1,4 +1,5 @@
 //! How often each branch of the definitions was reached. A branch that was never reached is a failure of the test.
+use crate::levels;
 use std::collections::BTreeMap;
 
 /// Counts by the branch's name.
@@ -99,8 +100,8 @@ fn branches() -> Vec<String> {
         "reply PA while Starting",
         "no record is kept while Starting",
         "wrong circuit ID refused while Starting",
-        "circuits wait",
-        "none waits",
+        "T1s run",
+        "no T1 runs",
         "metric configured",
         "metric raised",
         "metric at 16,777,214",
@@ -112,6 +113,7 @@ fn branches() -> Vec<String> {
     ] {
         all.push(text.to_owned());
     }
+    all.extend(levels::branches());
     all
 }
 

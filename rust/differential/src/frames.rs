@@ -32,6 +32,10 @@ pub struct Meant {
     pub flags: Option<u8>,
     /// That TLV has RA alone, and on a LAN it names us.
     pub acknowledges: bool,
+    /// Its Remaining Time.
+    pub remaining: u16,
+    /// It shows us Up: the three-way state, or our MAC listed.
+    pub shows_up: bool,
     /// Its three-way TLV names another system.
     pub wrong_system: bool,
     /// Its three-way TLV names another circuit of ours.
@@ -40,8 +44,8 @@ pub struct Meant {
     pub damaged: bool,
 }
 
-/// The flags of the TLV, and whether it names us, where it is well formed.
-fn restart(r: &mut Random, out: &mut Vec<u8>) -> Option<(u8, bool)> {
+/// The flags of the TLV, its Remaining Time, and whether it names us, where it is well formed.
+fn restart(r: &mut Random, out: &mut Vec<u8>) -> Option<(u8, u16, bool)> {
     let flags = match r.below(100) {
         0..=14 => return None,
         15..=29 => 0,
@@ -67,7 +71,7 @@ fn restart(r: &mut Random, out: &mut Vec<u8>) -> Option<(u8, bool)> {
     let value = [&[flags][..], &time.to_be_bytes(), &named, &[0; 3]].concat();
     out.extend([211, len]);
     out.extend(&value[..usize::from(len)]);
-    Some((flags, named == OWN)).filter(|_| len >= least && len <= 9)
+    Some((flags, time, named == OWN)).filter(|_| len >= least && len <= 9)
 }
 
 fn reverse(r: &mut Random, out: &mut Vec<u8>) {
@@ -85,8 +89,8 @@ fn reverse(r: &mut Random, out: &mut Vec<u8>) {
     out.extend(subs);
 }
 
-/// Whether it names another system, and another circuit.
-fn three_way(r: &mut Random, circuit: &CircuitSettings, out: &mut Vec<u8>) -> (bool, bool) {
+/// Whether it shows us Up, names another system, and another circuit.
+fn three_way(r: &mut Random, circuit: &CircuitSettings, out: &mut Vec<u8>) -> (bool, bool, bool) {
     let state = if r.chance(2) { 3 } else { r.below(3) as u8 };
     let len = if r.chance(2) { r.below(17) as u8 } else { r.pick(&[1u8, 5, 11, 15]) };
     let named = if r.chance(80) { OWN } else { system(3) };
@@ -94,15 +98,17 @@ fn three_way(r: &mut Random, circuit: &CircuitSettings, out: &mut Vec<u8>) -> (b
     let value = [&[state][..], &[0, 0, 0, 9], &named, &id.to_be_bytes(), &[0, 0]].concat();
     out.extend([240, len]);
     out.extend(&value[..usize::from(len)]);
-    (len >= 11 && named != OWN, len == 15 && id != circuit.id)
+    (state == 0, len >= 11 && named != OWN, len == 15 && id != circuit.id)
 }
 
-fn neighbours(r: &mut Random, own: Mac, out: &mut Vec<u8>) {
+/// Whether our MAC is listed.
+fn neighbours(r: &mut Random, own: Mac, out: &mut Vec<u8>) -> bool {
     let count = r.below(6);
     let at = r.below(count + 1);
     let listed = r.chance(75);
     let len = (6 * (count + u64::from(listed))) as u8;
     out.extend([6, if r.chance(2) { len.saturating_sub(1) } else { len }]);
+    let first = out.len();
     for i in 0..=count {
         if listed && i == at {
             out.extend(own);
@@ -111,6 +117,7 @@ fn neighbours(r: &mut Random, own: Mac, out: &mut Vec<u8>) {
             out.extend([own[0], own[1], own[2], own[3], own[4], r.octet()]);
         }
     }
+    out[first..].chunks(6).any(|mac| mac == own)
 }
 
 /// A frame for a circuit; usually of its kind, sometimes of the other.
@@ -133,23 +140,26 @@ pub fn frame(r: &mut Random, circuit: &CircuitSettings) -> (Vec<u8>, Meant) {
     out.resize(usize::from(header), 7);
     let mut restarts = None;
     let mut once = 0;
-    let (mut wrong_system, mut wrong_circuit) = (false, false);
+    let (mut shows_up, mut wrong_system, mut wrong_circuit) = (false, false, false);
     for _ in 0..r.below(2) {
         out.extend([r.pick(&[1u8, 129, 132, 229]), 2, 0, 0]);
     }
     if p2p {
         if !r.chance(2) {
-            (wrong_system, wrong_circuit) = three_way(r, circuit, &mut out);
+            (shows_up, wrong_system, wrong_circuit) = three_way(r, circuit, &mut out);
         }
     } else {
         for _ in 0..r.below(3) {
-            neighbours(r, circuit.mac, &mut out);
+            shows_up |= neighbours(r, circuit.mac, &mut out);
         }
     }
     for _ in 0..if r.chance(3) { 2 } else { 1 } {
         let before = out.len();
-        restarts = restart(r, &mut out);
-        once += usize::from(out.len() != before);
+        let found = restart(r, &mut out);
+        if out.len() != before {
+            restarts = found;
+            once += 1;
+        }
     }
     for _ in 0..r.pick(&[0, 0, 0, 1, 1, 2]) {
         reverse(r, &mut out);
@@ -173,7 +183,8 @@ pub fn frame(r: &mut Random, circuit: &CircuitSettings) -> (Vec<u8>, Meant) {
         out[at] = r.octet();
         damaged = true;
     }
-    let flags = restarts.map(|(flags, _)| flags);
-    let acknowledges = restarts.is_some_and(|(flags, names_us)| flags & 0x1F == 2 && (p2p || names_us));
-    (out, Meant { system: from, level, flags, acknowledges, wrong_system, wrong_circuit, damaged })
+    let flags = restarts.map(|(flags, ..)| flags);
+    let remaining = restarts.map_or(0, |(_, time, _)| time);
+    let acknowledges = restarts.is_some_and(|(flags, _, names_us)| flags & 0x1F == 2 && (p2p || names_us));
+    (out, Meant { system: from, level, flags, acknowledges, remaining, shows_up, wrong_system, wrong_circuit, damaged })
 }

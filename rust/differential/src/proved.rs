@@ -142,10 +142,10 @@ impl Side for Proved {
         }
     }
 
-    fn next_hello_flags(&self, n: u8) -> Result<Flags, Refusal> {
-        match circuit(n) {
-            Some(circuit) => self.0.next_hello_flags(circuit),
-            None => self.refused(&Call::Flags(n)),
+    fn next_hello_flags(&self, n: u8, at: u8) -> Result<Flags, Refusal> {
+        match (circuit(n), level(at)) {
+            (Some(circuit), Some(level)) => self.0.next_hello_flags(circuit, level),
+            _ => self.refused(&Call::Flags(n, at)),
         }
     }
 

@@ -27,8 +27,12 @@ fn flags(octet: u8) -> Flags {
     known.into_iter().find(|flags| flags.octet() == octet).unwrap_or_else(|| panic!("flags {octet}"))
 }
 
-fn hellos(theirs::Hellos { circuits: set, flags: octet }: theirs::Hellos) -> Hellos {
-    Hellos { circuits: circuits(set), flags: flags(octet) }
+fn hellos(theirs::Hellos { orders, flags: octet }: theirs::Hellos) -> Hellos {
+    let of = |(number, [one, two]): (u8, [bool; 2])| {
+        let circuit = Circuit::new(number).expect("1 to 8");
+        [(one, Level::One), (two, Level::Two)].into_iter().filter(|(is_in, _)| *is_in).map(move |(_, level)| (circuit, level))
+    };
+    Hellos { orders: (1..).zip(orders).flat_map(of).collect(), flags: flags(octet) }
 }
 
 fn levels(set: theirs::Levels) -> Levels {
@@ -154,8 +158,8 @@ impl Side for Reference {
         self.0.link_metric(circuit).map_err(refusal)
     }
 
-    fn next_hello_flags(&self, circuit: u8) -> Result<Flags, Refusal> {
-        self.0.next_hello_flags(circuit).map(flags).map_err(refusal)
+    fn next_hello_flags(&self, circuit: u8, level: u8) -> Result<Flags, Refusal> {
+        self.0.next_hello_flags(circuit, level).map(flags).map_err(refusal)
     }
 
     fn waiting(&self) -> Waiting {

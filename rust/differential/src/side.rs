@@ -33,9 +33,9 @@ pub trait Side: Sized {
     fn look_up_lan(&self, circuit: u8, level: u8, system: SystemId, mac: Mac) -> Result<Option<Record>, Refusal>;
     /// Link metric.
     fn link_metric(&self, circuit: u8) -> Result<u32, Refusal>;
-    /// Flags of the next hello.
-    fn next_hello_flags(&self, circuit: u8) -> Result<Flags, Refusal>;
-    /// Circuits that wait for T1.
+    /// Flags of the next hello at a level.
+    fn next_hello_flags(&self, circuit: u8, level: u8) -> Result<Flags, Refusal>;
+    /// T1s that still run.
     fn waiting(&self) -> Waiting;
 }
 
@@ -56,7 +56,7 @@ pub enum Answer {
     Metric(u32),
     /// To flags of the next hello.
     Flags(Flags),
-    /// To circuits that wait for T1.
+    /// To T1s that still run.
     Waiting(Waiting),
 }
 
@@ -86,7 +86,7 @@ impl Call {
             Call::LookUpP2p(n, system) => side.look_up_p2p(n, system).map(Answer::Record),
             Call::LookUpLan(n, level, system, mac) => side.look_up_lan(n, level, system, mac).map(Answer::Record),
             Call::Metric(n) => side.link_metric(n).map(Answer::Metric),
-            Call::Flags(n) => side.next_hello_flags(n).map(Answer::Flags),
+            Call::Flags(n, level) => side.next_hello_flags(n, level).map(Answer::Flags),
             Call::Waiting => Ok(Answer::Waiting(side.waiting())),
         };
         Outcome { answer, reply }

@@ -3,17 +3,16 @@ use crate::calls::Call;
 use crate::coverage::Coverage;
 use crate::frames::Meant;
 use crate::side::Answer;
-use isis_gr::{Ack, Flags, Freed, Overload, Phase, Received, Record, Refusal, Standing, Timers, Waiting};
-use isis_gr_reference::{Levels, Mode, Settings};
+use crate::watch::Seen;
+use isis_gr::{Ack, Flags, Freed, Overload, Phase, Received, Refusal, Standing, Timers};
+use isis_gr_reference::{Kind, Levels, Mode, Settings};
 
-/// What T1 of a circuit has had, by the answers.
+/// What a T1 has had, by the answers.
 #[derive(Clone, Copy)]
 struct T1 {
-    /// Its hello was ordered.
-    begun: bool,
-    /// An acknowledgement came before.
+    /// An acknowledgement came before it began.
     early: bool,
-    /// The levels of the circuit whose CSNP set is to come.
+    /// Those of its levels whose CSNP set is to come.
     wanted: Levels,
 }
 
@@ -22,35 +21,19 @@ pub struct Start {
     /// The mode is Starting.
     on: bool,
     tries: u8,
+    /// By place: see `watch`.
     t1: Vec<T1>,
-}
-
-/// A call and what it came to: its answer, the record of its frame before, and which circuits waited for T1 before and after.
-pub struct Seen<'a> {
-    /// The call.
-    pub call: &'a Call,
-    /// Its answer.
-    pub answer: Result<Answer, Refusal>,
-    /// The record of a frame's key before it.
-    pub stood: Option<Record>,
-    /// The circuits that waited before.
-    pub waited: Waiting,
-    /// Those that wait after.
-    pub waits: Waiting,
-}
-
-impl Seen<'_> {
-    /// T1 of the circuit runs now, as far as the lowest tells.
-    fn runs(&self, circuit: u8) -> bool {
-        self.waits.lowest.is_some_and(|lowest| lowest.number() == circuit)
-    }
 }
 
 impl Start {
     /// Of a gateway that was set up so.
     pub fn new(settings: &Settings) -> Start {
-        let t1 = settings.circuits.iter().map(|own| T1 { begun: false, early: false, wanted: own.levels });
-        Start { on: settings.mode == Mode::Starting, tries: settings.tries, t1: t1.collect() }
+        let t1 = settings.circuits.iter().flat_map(|own| match own.kind {
+            Kind::Lan => [Levels { two: false, ..own.levels }, Levels { one: false, ..own.levels }],
+            Kind::PointToPoint => [own.levels, Levels::NONE],
+        });
+        let t1 = t1.map(|wanted| T1 { early: false, wanted }).collect();
+        Start { on: settings.mode == Mode::Starting, tries: settings.tries, t1 }
     }
 
     /// The branches that a call shows.
@@ -65,19 +48,19 @@ impl Start {
                 c.hit_if(!meant.damaged && !meant.wrong_system && !up, "wrong circuit ID refused while Starting");
             }
             (Call::Tick(_), Ok(Answer::Ticked(tick))) => {
-                let stops = seen.waits.count < seen.waited.count && matches!(tick.timers, Timers::GoOn { .. });
+                let stops = seen.before.running & !seen.watch.t1s.running != 0 && matches!(tick.timers, Timers::GoOn { .. });
                 c.hit_if(stops && self.tries == 1, "T1 of one try stops while Starting");
                 self.count_end(c, tick.timers, "a start ends by a tick");
             }
             (&Call::Csnp(n, level), Ok(Answer::Timers(timers))) => {
-                let t1 = &mut self.t1[usize::from(n) - 1];
-                c.hit_if(!t1.begun, "CSNP set before T1 began");
-                t1.wanted = without(t1.wanted, level);
-                self.count_early(c, seen, n);
+                let place = seen.watch.place(n, level);
+                c.hit_if(!seen.before.has_begun(place), "CSNP set before T1 began");
+                self.t1[place].wanted = without(self.t1[place].wanted, level);
+                self.count_early(c, seen, place);
                 self.count_end(c, timers, "a start ends by a notice");
             }
             (Call::Database(_), Ok(Answer::Timers(timers))) => {
-                let none = self.t1.iter().all(|t1| !t1.begun);
+                let none = seen.before.begun == 0;
                 c.hit_if(none && matches!(timers, Timers::Ended { .. }), "a start ends before any T1 began");
                 self.count_end(c, timers, "a start ends by a notice");
             }
@@ -86,33 +69,33 @@ impl Start {
     }
 
     fn count_frame(&mut self, c: &mut Coverage, seen: &Seen, n: u8, got: Received, meant: Meant) {
-        let t1 = &mut self.t1[usize::from(n) - 1];
+        let place = seen.watch.place(n, got.change.level.map_or(0, |level| level.number()));
+        let begun = seen.before.has_begun(place);
         let rises = got.change.before != Standing::Up && got.change.after == Standing::Up;
         let begins = got.hello == Some(Flags::SA);
-        let stopped = seen.waits.count == seen.waited.count;
+        let stopped = !seen.watch.t1s.runs(place);
         c.hit_if(begins, "hello with SA ordered");
         c.hit_if(begins && stopped && got.freed == Freed::Stopped, "T1 begins and stops by one frame without the TLV");
         c.hit_if(begins && stopped && got.freed == Freed::Kept, "T1 begins and stops by one acknowledgement");
-        c.hit_if(rises && t1.begun, "a second record becomes UP");
-        c.hit_if(rises && t1.begun && seen.waited.count == 0, "a record becomes UP, and T1 is over");
+        c.hit_if(rises && begun, "a second record becomes UP");
+        c.hit_if(rises && begun && !seen.before.runs(place), "a record becomes UP, and T1 is over");
         c.hit_if(rises && got.timers.overload() == Overload::Set, "overload set by a record becoming UP");
         c.hit_if(got.timers.overload() == Overload::Both, "both by one frame");
         c.hit_if(got.freed == Freed::Stopped, "T1 stopped while Starting");
         c.hit_if(got.change.after == Standing::None, "no record is kept while Starting");
         c.hit_if(got.reply.is_some_and(|reply| reply.ack == Ack::Restart), "reply RA while Starting");
         c.hit_if(got.reply.is_some_and(|reply| reply.ack == Ack::Planned), "reply PA while Starting");
-        t1.begun |= begins;
-        let early = meant.acknowledges && !meant.damaged && !t1.begun;
+        let early = meant.acknowledges && !meant.damaged && !begun && !begins;
         c.hit_if(early, "acknowledgement before T1 began");
-        t1.early |= early;
-        self.count_early(c, seen, n);
+        self.t1[place].early |= early;
+        self.count_early(c, seen, place);
         self.count_end(c, got.timers, "a start ends by a frame");
     }
 
-    /// T1 runs with all sets complete: no acknowledgement counted.
-    fn count_early(&self, c: &mut Coverage, seen: &Seen, n: u8) {
-        let T1 { begun, early, wanted } = self.t1[usize::from(n) - 1];
-        let waits = begun && early && wanted.is_empty() && seen.runs(n);
+    /// T1 runs with its sets complete: no acknowledgement counted.
+    fn count_early(&self, c: &mut Coverage, seen: &Seen, place: usize) {
+        let T1 { early, wanted } = self.t1[place];
+        let waits = early && wanted.is_empty() && seen.watch.t1s.runs(place);
         c.hit_if(waits, "T1 waits for an acknowledgement, though an early one came");
     }
 

@@ -50,7 +50,7 @@ fn bits(word: u64, at: u32, count: u32) -> u64 {
 pub fn tell(words: &mut Words, call: &Call) -> Told {
     let before = *words;
     let told = ask(words, call);
-    let asks = matches!(call, Call::LookUpP2p(..) | Call::LookUpLan(..) | Call::Metric(_) | Call::Flags(_) | Call::Waiting);
+    let asks = matches!(call, Call::LookUpP2p(..) | Call::LookUpLan(..) | Call::Metric(_) | Call::Flags(..) | Call::Waiting);
     assert!(*words == before || !(asks || told.code() != 0), "a refusal or a question changed the memory");
     if told.code() == 0 {
         check(call, &told);
@@ -87,8 +87,8 @@ fn ask(words: &mut Words, call: &Call) -> Told {
                 u64::from(isis_gr_raw_look_up(gateway, n, level, system.as_ptr(), mac.as_ptr(), record))
             }
             Call::Metric(n) => isis_gr_raw_link_metric(gateway, n),
-            Call::Flags(n) => u64::from(isis_gr_raw_next_hello_flags(gateway, n)),
-            Call::Waiting => u64::from(isis_gr_raw_waiting_circuits(gateway)),
+            Call::Flags(n, level) => u64::from(isis_gr_raw_next_hello_flags(gateway, n, level)),
+            Call::Waiting => u64::from(isis_gr_raw_waiting_t1s(gateway)),
         }
     };
     told
@@ -106,9 +106,9 @@ fn check(call: &Call, told: &Told) {
             &[(18, 6), (38, 2)]
         }
         Call::Tick(_) => {
-            let (hellos, flags) = (told.bits(16, 8), told.bits(40, 8));
+            let (hellos, flags) = (told.bits(16, 16), told.bits(40, 8));
             assert!([0, RR, RR + SA].contains(&flags) && (hellos == 0) == (flags == 0), "the flags of ordered hellos");
-            &[(24, 8), (38, 2), (48, 16)]
+            &[(38, 2), (48, 16)]
         }
         Call::Release(_) | Call::Clear(_) => &[(8, 56)],
         Call::Csnp(..) | Call::Database(_) => &[(8, 24), (38, 26)],
@@ -117,13 +117,13 @@ fn check(call: &Call, told: &Told) {
             &[(17, 47)]
         }
         Call::Metric(_) => &[(8, 24)],
-        Call::Flags(_) => {
+        Call::Flags(..) => {
             assert!([0, RR, SA, RR + SA].contains(&told.bits(8, 8)), "the flags of the next hello");
             &[(16, 48)]
         }
         Call::Waiting => {
             let (count, lowest) = (told.bits(8, 8), told.bits(16, 8));
-            assert!(count <= CIRCUITS as u64 && lowest <= CIRCUITS as u64 && (count == 0) == (lowest == 0));
+            assert!(count <= 2 * CIRCUITS as u64 && lowest <= CIRCUITS as u64 && (count == 0) == (lowest == 0));
             &[(24, 40)]
         }
     };
@@ -189,15 +189,32 @@ fn packed(s: &Settings) -> [u8; SETTINGS_OCTETS] {
     octets.try_into().expect("so many were made")
 }
 
+/// The hellos that there are, as the header's mask has them: on a LAN one for each enabled level, on P2P one.
+fn hellos(octets: &[u8; SETTINGS_OCTETS]) -> u64 {
+    let circuits = octets[17..].chunks(19).take(usize::from(octets[16]));
+    circuits.enumerate().fold(0, |mask, (at, own)| mask | u64::from(if own[0] == 0 { own[1] } else { 1 }) << (2 * at))
+}
+
+/// Ordered hellos and running T1s are some of those that there are.
+fn check_places(all: u64, call: &Call, told: &Told) {
+    match call {
+        Call::Tick(_) => assert_eq!(told.bits(16, 16) & !all, 0, "a hello that there is not"),
+        Call::Waiting if told.bits(8, 8) > 0 => {
+            let rest = all >> (2 * (told.bits(16, 8) - 1));
+            assert!(rest & 3 != 0 && told.bits(8, 8) <= u64::from(rest.count_ones()), "more T1s than there are");
+        }
+        _ => {}
+    }
+}
+
 /// A set-up of these octets, over whatever the memory is: whether it was done.
 fn set_up(words: &mut Words, octets: &[u8; SETTINGS_OCTETS]) -> bool {
     let before = *words;
     // SAFETY: both pointers are valid for the sizes that the archive reads and writes, and do not overlap.
     let word = unsafe { isis_gr_raw_set_up(LAYOUT, words.as_mut_ptr(), octets.as_ptr()) };
-    let (mode, count) = (octets[15], octets[16]);
     if word & 0xFF == 0 {
-        let restarting = if mode == 1 { RR << 16 | ((1 << count) - 1) << 8 } else { 0 };
-        assert_eq!(u64::from(word), restarting, "hellos with RR on every circuit, in the mode Restarting alone");
+        let restarting = if octets[15] == 1 { RR << 24 | hellos(octets) << 8 } else { 0 };
+        assert_eq!(u64::from(word), restarting, "hellos with RR, all that there are, in the mode Restarting alone");
     } else {
         assert!(word == 12 && *words == before, "a refused set-up tells nothing else, and changes nothing");
     }
@@ -223,6 +240,7 @@ pub fn run(seed: u64, calls: u64) {
     assert!(set_up(&mut words, &octets), "settings in range");
     let mut now = Now(s.clock);
     for _ in 0..calls {
-        tell(&mut words, &call(&mut r, &s, &mut now));
+        let next = call(&mut r, &s, &mut now);
+        check_places(hellos(&octets), &next, &tell(&mut words, &next));
     }
 }

@@ -6,20 +6,24 @@ use crate::tlvs::Flags;
 /// Orders for hellos.
 #[derive(Clone, Copy, Debug, PartialEq, Eq)]
 pub struct Hellos {
-    /// For each circuit, whether a hello is ordered on it; circuit 1 comes first.
-    pub circuits: [bool; MAX_CIRCUITS],
+    /// For each circuit, circuit 1 first: on a LAN, whether the hello of level 1 and that of level 2 are ordered; on
+    /// point-to-point, whether the one hello is, in the first place, and the second is never (RFC 8706, 3.3.3).
+    pub orders: [[bool; 2]; MAX_CIRCUITS],
     /// The flags of the Restart TLV in all of them; 0 where none is ordered.
     pub flags: u8,
 }
 
 impl Hellos {
     /// No order.
-    pub const NONE: Hellos = Hellos { circuits: [false; MAX_CIRCUITS], flags: 0 };
+    pub const NONE: Hellos = Hellos { orders: [[false; 2]; MAX_CIRCUITS], flags: 0 };
 
-    /// Orders a hello on the circuit at this place.
-    pub(crate) fn order(&mut self, at: usize, flags: Flags) {
-        self.circuits[at] = true;
-        self.flags = flags.octet();
+    /// A hello with these flags for each T1 of the mask, two bits for each circuit.
+    pub(crate) fn of(t1s: u16, flags: Flags) -> Hellos {
+        if t1s == 0 {
+            return Hellos::NONE;
+        }
+        let order = |which: usize| t1s & (1 << which) != 0;
+        Hellos { orders: std::array::from_fn(|at| [order(2 * at), order(2 * at + 1)]), flags: flags.octet() }
     }
 }
 
@@ -116,7 +120,8 @@ pub struct Received {
     pub reply: Option<Reply>,
     /// The levels for which CSNPs and flooding marks are ordered on this circuit, if they are.
     pub csnps: Option<Levels>,
-    /// The flags of the hello that is ordered on this circuit, if one is: T1 began (RFC 8706, 3.3.2).
+    /// The flags of the hello that is ordered on this circuit, on a LAN at the frame's level, if one is: T1 began (RFC 8706,
+    /// 3.3.2).
     pub hello: Option<u8>,
     /// What it did to the timers.
     pub timers: TimerOutcome,

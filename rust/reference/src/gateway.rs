@@ -30,8 +30,8 @@ pub struct Gateway {
 }
 
 impl Gateway {
-    /// Makes a gateway, and orders a hello with RR on every circuit if it restarts. If it starts, no hello is ordered.
-    /// Refusal 12.
+    /// Makes a gateway. If it restarts, a hello with RR is ordered on every circuit, on a LAN at each enabled level. If it
+    /// starts, no hello is ordered. Refusal 12.
     pub fn set_up(settings: &Settings) -> Result<(Gateway, Hellos), Refusal> {
         settings.check()?;
         let circuits = settings.circuits.iter().map(|&own| Circuit { settings: own, room: Room::new(own.kind) });
@@ -169,17 +169,20 @@ impl Gateway {
         Ok(reverse.map_or(settings.metric, |reverse| metric::with_reverse(settings.metric, reverse)))
     }
 
-    /// The flags of the next hello on a circuit. While we restart: RR exactly while its T1 runs, and no other. While we
-    /// start: SA, and RR beside it while its T1 runs and has expired. While running: none. Refusal 1.
-    pub fn next_hello_flags(&self, circuit: u8) -> Result<u8, Refusal> {
+    /// The flags of the next hello on a circuit at a level; on point-to-point, of its one hello, at each enabled level. While
+    /// we restart: RR exactly while its T1 runs, and no other. While we start: SA, and RR beside it while its T1 runs and has
+    /// expired. While running: none. Refusal 1, also for a level not enabled there (document 02, W-202).
+    pub fn next_hello_flags(&self, circuit: u8, level: u8) -> Result<u8, Refusal> {
         let at = self.place(circuit)?;
-        Ok(self.timers.as_ref().map_or(Flags::NONE, |timers| timers.flags(at)).octet())
+        let level = enabled(level, self.circuits[at].settings.levels)?;
+        Ok(self.timers.as_ref().map_or(Flags::NONE, |timers| timers.flags(at, level)).octet())
     }
 
-    /// How many circuits still wait for T1, and the lowest such circuit.
+    /// How many T1s still run, and the lowest circuit that has one: a LAN has one for each level, point-to-point one (document
+    /// 02, W-202).
     pub fn waiting(&self) -> (u32, Option<u8>) {
         let mask = self.timers.as_ref().map_or(0, Timers::waiting);
-        let lowest = (mask != 0).then(|| mask.trailing_zeros() as u8 + 1);
+        let lowest = (mask != 0).then(|| mask.trailing_zeros() as u8 / 2 + 1);
         (mask.count_ones(), lowest)
     }
 

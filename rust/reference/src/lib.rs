@@ -16,6 +16,7 @@ mod gateway;
 mod metric;
 mod refusal;
 mod settings;
+mod t1;
 mod table;
 mod timers;
 mod tlvs;

@@ -45,6 +45,16 @@ pub(crate) enum Level {
 }
 
 impl Level {
+    pub(crate) const ALL: [Level; 2] = [Level::One, Level::Two];
+
+    /// The level's place in an array with one entry for each.
+    pub(crate) fn place(self) -> usize {
+        match self {
+            Level::One => 0,
+            Level::Two => 1,
+        }
+    }
+
     pub(crate) fn number(self) -> u8 {
         match self {
             Level::One => 1,

@@ -16,7 +16,7 @@ enum Call {
     Csnp(u8, u8),
     Database(u8),
     LinkMetric(u8),
-    Flags(u8),
+    Flags(u8, u8),
     Waiting,
 }
 
@@ -41,7 +41,7 @@ fn answer(gateway: &mut Gateway, call: &Call, bad: u8) -> (String, Vec<u8>) {
         Call::Csnp(circuit, level) => format!("{:?}", gateway.csnp_complete(*circuit, *level)),
         Call::Database(level) => format!("{:?}", gateway.database_complete(*level)),
         Call::LinkMetric(circuit) => format!("{:?}", gateway.link_metric(*circuit)),
-        Call::Flags(circuit) => format!("{:?}", gateway.next_hello_flags(*circuit)),
+        Call::Flags(circuit, level) => format!("{:?}", gateway.next_hello_flags(*circuit, *level)),
         Call::Waiting => format!("{:?}", gateway.waiting()),
     };
     (text, reply)
@@ -53,7 +53,7 @@ fn names(call: &Call, bad: u8) -> bool {
         | Call::Release(circuit)
         | Call::Csnp(circuit, _)
         | Call::LinkMetric(circuit)
-        | Call::Flags(circuit) => *circuit == bad,
+        | Call::Flags(circuit, _) => *circuit == bad,
         Call::Tick(_) | Call::Database(_) | Call::Waiting => false,
     }
 }
@@ -162,7 +162,7 @@ fn random_lists_with_a_bad_neighbour() {
                     3 => Call::Csnp(circuit, level),
                     4 => Call::Database(level),
                     5 => Call::LinkMetric(circuit),
-                    6 => Call::Flags(circuit),
+                    6 => Call::Flags(circuit, level),
                     7 => Call::Waiting,
                     n => {
                         let (circuit, source) = match n % 3 {

@@ -120,16 +120,37 @@ fn some_frame(dice: &mut Dice, kind: Kind) -> Vec<u8> {
     octets
 }
 
+/// Whether the gateway starts: all its hellos, so those of circuit 1, have SA.
+fn starts(gateway: &Gateway) -> bool {
+    (1..=2).any(|level| gateway.next_hello_flags(1, level).is_ok_and(|flags| flags & SA != 0))
+}
+
+/// The flags of the hellos of a circuit, each once: on a LAN those of its levels, on point-to-point the one. All other levels
+/// are refused.
+fn flags_of(gateway: &Gateway, circuit: u8, own: &CircuitSettings) -> Vec<u8> {
+    let asked = [0, 1, 2, 3].map(|level| gateway.next_hello_flags(circuit, level));
+    let enabled = [false, own.levels.one, own.levels.two, false];
+    assert!(asked.iter().zip(enabled).all(|(flags, enabled)| enabled == (*flags != Err(Refusal::NoCircuit))));
+    let mut flags: Vec<u8> = asked.into_iter().flatten().collect();
+    if own.kind == Kind::PointToPoint {
+        flags.dedup();
+        assert_eq!(flags.len(), 1);
+    }
+    flags
+}
+
 /// What must hold of every gateway, whatever calls were made.
 fn check(gateway: &Gateway, settings: &Settings, clock: u32) {
+    // The circuits that ask, once for each hello.
     let mut asking = Vec::new();
-    let starts = gateway.next_hello_flags(1).unwrap() & SA != 0;
+    let starts = starts(gateway);
     assert!(!starts || settings.mode == Mode::Starting);
     for (circuit, own) in (1..).zip(&settings.circuits) {
-        let flags = gateway.next_hello_flags(circuit).unwrap();
-        assert_eq!(flags & !RR, if starts { SA } else { 0 });
-        if flags & RR != 0 {
-            asking.push(circuit);
+        for flags in flags_of(gateway, circuit, own) {
+            assert_eq!(flags & !RR, if starts { SA } else { 0 });
+            if flags & RR != 0 {
+                asking.push(circuit);
+            }
         }
         let metric = gateway.link_metric(circuit).unwrap();
         assert!((own.metric..=16_777_215).contains(&metric));
@@ -233,10 +254,13 @@ fn check_overload(timers: TimerOutcome, starts: bool, rises: bool) {
     assert!(starts && due.0 == due.1, "{due:?}");
 }
 
+/// The T1s of a circuit that have begun: point-to-point's one, and on a LAN those of levels 1 and 2.
+type Begun = [bool; 3];
+
 /// Takes one frame in a start and in its twin; answers whether it ordered a hello.
-fn take_frame(dice: &mut Dice, pair: [&mut Gateway; 2], circuit: u8, kind: Kind, begun: bool) -> bool {
+fn take_frame(dice: &mut Dice, pair: [&mut Gateway; 2], circuit: u8, kind: Kind, begun: &mut Begun) -> bool {
     let [gateway, twin] = pair;
-    let starts = gateway.next_hello_flags(1) != Ok(0);
+    let starts = starts(gateway);
     let (frame, source) = (some_frame(dice, kind), dice.pick(&MACS));
     let mut replies = [[UNTOUCHED; 12]; 2];
     let answer = gateway.receive(circuit, source, &frame, &mut replies[0]);
@@ -250,7 +274,9 @@ fn take_frame(dice: &mut Dice, pair: [&mut Gateway; 2], circuit: u8, kind: Kind,
     let rises = answer.change.before != Some(true) && answer.change.after == Some(true);
     check_overload(answer.timers, starts, rises);
     assert_ne!(answer.freed, Freed::Reinitialise);
-    assert_eq!(answer.hello, (starts && rises && !begun).then_some(SA));
+    let begun = &mut begun[usize::from(answer.change.level)];
+    assert_eq!(answer.hello, (starts && rises && !*begun).then_some(SA));
+    *begun |= answer.hello.is_some();
     answer.hello.is_some()
 }
 
@@ -263,28 +289,31 @@ fn a_start_treats_its_records_as_its_running_twin_does() {
         let (mut gateway, hellos) = Gateway::set_up(&starting).unwrap();
         assert_eq!(hellos, NO_HELLO);
         let (mut twin, _) = Gateway::set_up(&Settings { mode: Mode::Running, ..starting.clone() }).unwrap();
-        let (mut clock, mut begun) = (starting.clock, [false; 8]);
+        let (mut clock, mut begun): (u32, [Begun; 8]) = (starting.clock, Default::default());
         for _ in 0..200 {
             let at = dice.below(starting.circuits.len() as u64) as usize;
             let (circuit, level) = (at as u8 + 1, 1 + dice.below(2) as u8);
-            let starts = gateway.next_hello_flags(1) != Ok(0);
+            let starts = starts(&gateway);
             let notice = match dice.below(12) {
                 0 | 1 => {
                     clock = clock.saturating_add(dice.pick(&[0, 1, 4]));
                     let (ticked, other) = (gateway.tick(clock).unwrap(), twin.tick(clock).unwrap());
                     assert_eq!(ticked.marks, other.marks);
-                    let asked = ticked.hellos.circuits;
-                    assert!(asked.iter().zip(&begun).all(|(asked, begun)| !asked || *begun));
-                    assert_eq!(ticked.hellos.flags, if asked == [false; 8] { 0 } else { RR | SA });
-                    asks += u32::from(asked != [false; 8]);
+                    let asked = ticked.hellos.orders;
+                    assert!(asked.iter().zip(&begun).all(|(asked, begun)| {
+                        let [lower, upper] = *asked;
+                        (!lower || begun[0] || begun[1]) && (!upper || begun[2])
+                    }));
+                    let any = asked != NO_HELLO.orders;
+                    assert_eq!(ticked.hellos.flags, if any { RR | SA } else { 0 });
+                    asks += u32::from(any);
                     Ok(ticked.timers)
                 }
                 2 => gateway.csnp_complete(circuit, level),
                 3 if dice.chance(4) => gateway.database_complete(level),
                 _ => {
-                    let ordered = take_frame(&mut dice, [&mut gateway, &mut twin], circuit, starting.circuits[at].kind, begun[at]);
-                    begun[at] |= ordered;
-                    begins += u32::from(ordered);
+                    let kind = starting.circuits[at].kind;
+                    begins += u32::from(take_frame(&mut dice, [&mut gateway, &mut twin], circuit, kind, &mut begun[at]));
                     continue;
                 }
             };

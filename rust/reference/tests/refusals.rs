@@ -40,13 +40,14 @@ fn no_1_circuit_or_level_not_there() {
         assert_eq!(gateway.csnp_complete(circuit, 1), Err(Refusal::NoCircuit));
         assert_eq!(gateway.look_up(circuit, 1, PEER, PEER_MAC), Err(Refusal::NoCircuit));
         assert_eq!(gateway.link_metric(circuit), Err(Refusal::NoCircuit));
-        assert_eq!(gateway.next_hello_flags(circuit), Err(Refusal::NoCircuit));
+        assert_eq!(gateway.next_hello_flags(circuit, 1), Err(Refusal::NoCircuit));
     }
     for level in [0, 2, 3, 255] {
         assert_eq!(gateway.csnp_complete(1, level), Err(Refusal::NoCircuit));
         assert_eq!(gateway.database_complete(level), Err(Refusal::NoCircuit));
         assert_eq!(gateway.look_up(1, level, PEER, PEER_MAC), Err(Refusal::NoCircuit));
         assert_eq!(gateway.look_up(2, level, PEER, PEER_MAC), Ok(None));
+        assert_eq!([1, 2].map(|circuit| gateway.next_hello_flags(circuit, level)), [Err(Refusal::NoCircuit); 2]);
     }
 }
 

@@ -4,20 +4,15 @@ mod common;
 use common::*;
 use isis_gr_reference::*;
 
-/// Restarting with this T1, T2 and number of tries.
-fn restart(t1: u16, t2: u16, tries: u8, circuits: &[CircuitSettings]) -> Run {
-    Run::new(&Settings { t1, t2, tries, ..settings(Mode::Restarting, circuits) })
-}
-
 const ACK: fn() -> Hello = || Hello::p2p(UP).restart(RA, 1_000).hold(2_000);
 
 #[test]
 fn setup_orders_hellos_and_starts_t1_on_every_circuit() {
     let run = Run::restarting(&[p2p(), lan(), p2p()]);
-    assert_eq!(run.hellos, hellos(&[1, 2, 3], RR));
-    assert_eq!(run.gateway.waiting(), (3, Some(1)));
+    assert_eq!(run.hellos, hellos(&[(1, SINGLE), (2, 1), (2, 2), (3, SINGLE)], RR));
+    assert_eq!(run.gateway.waiting(), (4, Some(1)), "a LAN has one for each level");
     for circuit in 1..=3 {
-        assert_eq!(run.gateway.next_hello_flags(circuit), Ok(RR));
+        assert_eq!([run.flags(circuit, 1), run.flags(circuit, 2)], [RR; 2]);
     }
 }
 
@@ -26,7 +21,7 @@ fn running_mode_has_no_timer() {
     let mut run = Run::running(&[p2p()]);
     assert_eq!(run.hellos, NO_HELLO);
     assert_eq!(run.gateway.waiting(), (0, None));
-    assert_eq!(run.gateway.next_hello_flags(1), Ok(0));
+    assert_eq!(run.flags(1, 1), 0);
     assert_eq!(run.tick(100_000).timers, TimerOutcome::Idle);
     assert_eq!(run.accept(&ACK()).timers, TimerOutcome::Idle);
 }
@@ -35,21 +30,21 @@ fn running_mode_has_no_timer() {
 fn t1_orders_hellos_and_stops_at_the_last_expiry_without_one() {
     let mut run = restart(3, 1_000, 3, &[p2p()]);
     assert_eq!(run.tick(2).hellos, NO_HELLO);
-    assert_eq!(run.tick(3).hellos, hellos(&[1], RR));
+    assert_eq!(run.tick(3).hellos, hellos(&[(1, SINGLE)], RR));
     assert_eq!(run.tick(3).hellos, NO_HELLO);
-    assert_eq!(run.tick(6).hellos, hellos(&[1], RR));
+    assert_eq!(run.tick(6).hellos, hellos(&[(1, SINGLE)], RR));
     assert_eq!(run.gateway.waiting(), (1, Some(1)));
     let last = run.tick(9);
     assert_eq!((last.hellos, last.timers), (NO_HELLO, QUIET));
-    assert_eq!((run.gateway.waiting(), run.gateway.next_hello_flags(1)), ((0, None), Ok(0)));
+    assert_eq!((run.gateway.waiting(), run.flags(1, 1)), ((0, None), 0));
 }
 
 #[test]
 fn one_tick_is_at_most_one_expiry_and_t1_runs_from_its_clock() {
     let mut run = restart(3, 1_000, 3, &[p2p()]);
-    assert_eq!(run.tick(100).hellos, hellos(&[1], RR));
+    assert_eq!(run.tick(100).hellos, hellos(&[(1, SINGLE)], RR));
     assert_eq!(run.tick(102).hellos, NO_HELLO);
-    assert_eq!(run.tick(103).hellos, hellos(&[1], RR));
+    assert_eq!(run.tick(103).hellos, hellos(&[(1, SINGLE)], RR));
 }
 
 #[test]
@@ -84,7 +79,7 @@ fn t1_waits_only_for_the_circuits_own_levels() {
     run.accept(&ACK());
     run.gateway.csnp_complete(1, 2).unwrap();
     assert_eq!(run.gateway.waiting(), (1, Some(2)));
-    assert_eq!((run.gateway.next_hello_flags(1), run.gateway.next_hello_flags(2)), (Ok(0), Ok(RR)));
+    assert_eq!((run.flags(1, 2), run.flags(2, 1)), (0, RR));
 }
 
 #[test]
@@ -136,8 +131,10 @@ fn p2p_frame_without_the_tlv_stops_t1_at_once() {
 #[test]
 fn lan_frame_without_the_tlv_is_unremarkable() {
     let mut run = Run::restarting(&[lan()]);
-    assert_eq!(run.accept(&Hello::lan_up(1)).freed, Freed::Kept);
-    assert_eq!(run.gateway.waiting(), (1, Some(1)));
+    for level in [1, 2] {
+        assert_eq!(run.accept(&Hello::lan_up(level)).freed, Freed::Kept);
+        assert_eq!(run.gateway.waiting(), (2, Some(1)));
+    }
 }
 
 #[test]
@@ -168,9 +165,9 @@ fn t2_expires_at_its_deadline_and_ends_the_mode() {
     let mut run = Run::restarting(&[p2p()]);
     assert_eq!(run.tick(59).timers, QUIET);
     let last = run.tick(60);
-    assert_eq!((last.timers, last.hellos), (ended(BOTH, Overload::Quiet), hellos(&[1], RR)));
+    assert_eq!((last.timers, last.hellos), (ended(BOTH, Overload::Quiet), hellos(&[(1, SINGLE)], RR)));
     assert_eq!(run.gateway.waiting(), (0, None));
-    assert_eq!(run.gateway.next_hello_flags(1), Ok(0));
+    assert_eq!(run.flags(1, 1), 0);
     assert_eq!(run.tick(60).timers, TimerOutcome::Idle);
     assert_eq!(run.gateway.database_complete(1), Err(Refusal::NotRestarting));
 }
@@ -219,10 +216,11 @@ fn t2_is_cancelled_in_the_tick_of_the_last_t1_expiry() {
 }
 
 #[test]
-fn t1_of_a_circuit_without_the_level_holds_its_t2_too() {
+fn t1_of_a_circuit_without_the_level_does_not_hold_its_t2() {
     let mut run = Run::restarting(&[CircuitSettings { levels: ONE, ..p2p() }, CircuitSettings { levels: TWO, ..p2p() }]);
-    run.accept(&Hello::p2p(DOWN));
     assert_eq!(run.gateway.database_complete(1), Ok(QUIET));
+    assert_eq!(run.accept(&Hello::p2p(DOWN)).timers, goes(ONE, Overload::Quiet));
+    assert_eq!(run.gateway.waiting(), (1, Some(2)));
 }
 
 #[test]
@@ -230,7 +228,7 @@ fn t3_orders_overload_once_and_stops_all_t1_while_t2_goes_on() {
     let mut run = restart(7, 60, 9, &[p2p(), lan()]);
     run.accept(&Hello::p2p(UP).restart(RA, 20));
     assert_eq!(run.tick(19).timers, QUIET);
-    assert_eq!(run.gateway.waiting(), (2, Some(1)));
+    assert_eq!(run.gateway.waiting(), (3, Some(1)));
     assert_eq!(run.tick(20).timers, goes(Levels::NONE, Overload::Set));
     assert_eq!(run.gateway.waiting(), (0, None));
     assert_eq!(run.tick(21).timers, QUIET);
@@ -301,8 +299,8 @@ fn hello_order_stays_though_t3_stops_t1_in_the_same_tick() {
     let mut run = restart(20, 60, 9, &[p2p()]);
     run.accept(&Hello::p2p(UP).restart(RA, 20));
     let answer = run.tick(20);
-    assert_eq!((answer.hellos, answer.timers), (hellos(&[1], RR), goes(Levels::NONE, Overload::Set)));
-    assert_eq!(run.gateway.next_hello_flags(1), Ok(0));
+    assert_eq!((answer.hellos, answer.timers), (hellos(&[(1, SINGLE)], RR), goes(Levels::NONE, Overload::Set)));
+    assert_eq!(run.flags(1, 1), 0);
 }
 
 #[test]

@@ -47,8 +47,8 @@ extern "C" {
     pub fn isis_gr_raw_look_up(gateway: *const u64, circuit: u8, level: u8, system: *const u8, mac: *const u8, record: *mut u64) -> u32;
     /// The metric of a circuit's link.
     pub fn isis_gr_raw_link_metric(gateway: *const u64, circuit: u8) -> u64;
-    /// The flags of the next hello on a circuit.
-    pub fn isis_gr_raw_next_hello_flags(gateway: *const u64, circuit: u8) -> u32;
-    /// The circuits that still wait for T1.
-    pub fn isis_gr_raw_waiting_circuits(gateway: *const u64) -> u32;
+    /// The flags of the next hello on a circuit at a level.
+    pub fn isis_gr_raw_next_hello_flags(gateway: *const u64, circuit: u8, level: u8) -> u32;
+    /// The T1s that still run.
+    pub fn isis_gr_raw_waiting_t1s(gateway: *const u64) -> u32;
 }

@@ -1,4 +1,5 @@
 //! What the calls answer. An order is an action that the caller must take.
+use crate::hellos::{Flags, HelloOrders, Hellos};
 use crate::names::{Circuit, Circuits, Levels};
 use crate::record::Change;
 use crate::settings::SettingError;
@@ -124,7 +125,7 @@ pub struct Reply {
     pub remaining: u16,
 }
 
-/// Whether a frame with no Restart TLV stopped the circuit's running T1 (RFC 8706, 3.3.1 and 3.3.2).
+/// Whether a frame with no Restart TLV stopped the running T1 of its P2P circuit (RFC 8706, 3.3.1 and 3.3.2).
 #[derive(Clone, Copy, PartialEq, Eq, Hash, Debug)]
 #[non_exhaustive]
 pub enum Freed {
@@ -214,7 +215,7 @@ pub struct Received {
     pub reply: Option<Reply>,
     /// Order: send a complete set of CSNPs at these levels on the circuit, and set SRM flags (RFC 8706, 3.2.1).
     pub csnps: Levels,
-    /// Order: send a hello with these flags on the circuit now (RFC 8706, 3.3.2).
+    /// Order: send a hello with these flags on the circuit now, on a LAN of the frame's level, which `change` has (RFC 8706, 3.3.2).
     pub hello: Option<Flags>,
     /// Whether T1 was stopped for want of a Restart TLV.
     pub freed: Freed,
@@ -243,33 +244,12 @@ impl Received {
     }
 }
 
-/// Order: send a hello with these flags on these circuits (RFC 8706, 3.3.1 and 3.3.2); no circuit, no flags.
-#[derive(Clone, Copy, PartialEq, Eq, Hash, Debug, Default)]
-pub struct Hellos {
-    /// The circuits.
-    pub circuits: Circuits,
-    /// The flags of all these hellos.
-    pub flags: Flags,
-}
-
-impl Hellos {
-    /// Whether a hello is ordered on the circuit.
-    pub fn contains(self, circuit: Circuit) -> bool {
-        self.circuits.contains(circuit)
-    }
-
-    /// Whether none is ordered.
-    pub fn is_empty(self) -> bool {
-        self.circuits.is_empty()
-    }
-}
-
 /// What a tick came to.
 #[derive(Clone, Copy, PartialEq, Eq, Hash, Debug)]
 pub struct Ticked {
     /// The circuits that lost a record.
     pub lost: Circuits,
-    /// The hellos that are ordered: T1 expired.
+    /// The hellos that are ordered: their T1s expired.
     pub hellos: Hellos,
     /// How the timers ended.
     pub timers: Timers,
@@ -277,67 +257,16 @@ pub struct Ticked {
 
 impl Ticked {
     pub(crate) fn of_word(word: u64) -> Ticked {
-        let hellos = Hellos { circuits: Circuits((word >> 16) as u8), flags: Flags((word >> 40) as u8) };
+        let hellos = Hellos { orders: HelloOrders((word >> 16) as u16), flags: Flags((word >> 40) as u8) };
         Ticked { lost: Circuits((word >> 8) as u8), hellos, timers: Timers::of_word(word) }
     }
 }
 
-/// The flags of the Restart TLV that a hello carries (RFC 8706, 3.1).
-#[derive(Clone, Copy, PartialEq, Eq, Hash, Default)]
-pub struct Flags(pub(crate) u8);
-
-impl Flags {
-    /// RR: a restart is requested.
-    pub const RR: Flags = Flags(1);
-    /// SA: the adjacency is not to be advertised.
-    pub const SA: Flags = Flags(4);
-
-    /// These and those.
-    ///
-    /// ```
-    /// # use isis_gr::Flags;
-    /// let both = Flags::RR.and(Flags::SA);
-    /// assert!(both.has(Flags::RR) && both.has(Flags::SA));
-    /// ```
-    pub const fn and(self, flags: Flags) -> Flags {
-        Flags(self.0 | flags.0)
-    }
-
-    /// Whether all of these are set.
-    ///
-    /// ```
-    /// # use isis_gr::Flags;
-    /// assert!(Flags::RR.has(Flags::RR));
-    /// assert!(!Flags::default().has(Flags::RR));
-    /// ```
-    pub const fn has(self, flags: Flags) -> bool {
-        self.0 & flags.0 == flags.0
-    }
-
-    /// Whether there is none.
-    pub const fn is_empty(self) -> bool {
-        self.0 == 0
-    }
-
-    /// The first octet of the TLV's value.
-    pub const fn octet(self) -> u8 {
-        self.0
-    }
-}
-
-impl core::fmt::Debug for Flags {
-    /// As the set of their names.
-    fn fmt(&self, f: &mut core::fmt::Formatter<'_>) -> core::fmt::Result {
-        let names = [(Flags::RR, "RR"), (Flags::SA, "SA")];
-        f.debug_set().entries(names.iter().filter(|(flag, _)| self.has(*flag)).map(|(_, name)| name)).finish()
-    }
-}
-
-/// The circuits that still wait for T1.
+/// The T1s that still run: of a LAN one for each level, of a P2P circuit one (RFC 8706, 3.3.3).
 #[derive(Clone, Copy, PartialEq, Eq, Hash, Debug)]
 pub struct Waiting {
-    /// How many.
+    /// How many, 0 to 16.
     pub count: u32,
-    /// The lowest of them.
+    /// The lowest circuit with one.
     pub lowest: Option<Circuit>,
 }

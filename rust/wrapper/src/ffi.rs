@@ -57,12 +57,12 @@ pub(crate) fn link_metric(words: &Words, circuit: u8) -> u64 {
     unsafe { raw::isis_gr_raw_link_metric(words.as_ptr(), circuit) }
 }
 
-pub(crate) fn next_hello_flags(words: &Words, circuit: u8) -> u32 {
+pub(crate) fn next_hello_flags(words: &Words, circuit: u8, level: u8) -> u32 {
     // SAFETY: the reference is valid for the words of a gateway.
-    unsafe { raw::isis_gr_raw_next_hello_flags(words.as_ptr(), circuit) }
+    unsafe { raw::isis_gr_raw_next_hello_flags(words.as_ptr(), circuit, level) }
 }
 
 pub(crate) fn waiting(words: &Words) -> u32 {
     // SAFETY: the reference is valid for the words of a gateway.
-    unsafe { raw::isis_gr_raw_waiting_circuits(words.as_ptr()) }
+    unsafe { raw::isis_gr_raw_waiting_t1s(words.as_ptr()) }
 }

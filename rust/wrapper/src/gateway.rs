@@ -1,7 +1,8 @@
 //! The gateway and its calls.
-use crate::answers::{Flags, Hellos, Received, Refusal, Ticked, Timers, Waiting};
+use crate::answers::{Received, Refusal, Ticked, Timers, Waiting};
 use crate::ffi;
-use crate::names::{Circuit, Circuits, Level, Mac, SystemId};
+use crate::hellos::{Flags, HelloOrders, Hellos};
+use crate::names::{Circuit, Level, Mac, SystemId};
 use crate::record::Record;
 use crate::settings::{SettingError, Settings};
 
@@ -47,8 +48,9 @@ impl Gateway {
         &self.words
     }
 
-    /// A new gateway, whatever the memory was; the hellos that are ordered (with RR on every circuit in the mode Restarting: RFC 8706, 3.3.1;
-    /// else none). Where the archive refuses the settings (12), the memory is as it was, and the error names the first that is out of its range.
+    /// A new gateway, whatever the memory was; the hellos that are ordered (with RR on every circuit, on a LAN at each enabled level, in the mode
+    /// Restarting: RFC 8706, 3.3.1 and 3.3.3; else none). Where the archive refuses the settings (12), the memory is as it was, and the error
+    /// names the first that is out of its range.
     ///
     /// ```
     /// # use isis_gr::{CircuitSettings, Gateway, Kind, Levels, Mac, Mode, Settings, SystemId};
@@ -60,7 +62,7 @@ impl Gateway {
     pub fn set_up(&mut self, settings: &Settings) -> Result<Hellos, SettingError> {
         let word = ffi::set_up(&mut self.words, &settings.octets());
         match word & 0xFF {
-            0 => Ok(Hellos { circuits: Circuits((word >> 8) as u8), flags: Flags((word >> 16) as u8) }),
+            0 => Ok(Hellos { orders: HelloOrders((word >> 8) as u16), flags: Flags((word >> 24) as u8) }),
             _ => Err(settings.fault()),
         }
     }
@@ -123,14 +125,26 @@ impl Gateway {
         Refusal::unless(word, (word >> 32) as u32)
     }
 
-    /// The flags of the Restart TLV in the next hello on a circuit: RR while T1 of a restart runs (RFC 8706, 3.3.1); SA while we start, and RR
-    /// beside it from the first expiry of T1 while it runs (RFC 8706, 3.3.2). Refused 1.
-    pub fn next_hello_flags(&self, circuit: Circuit) -> Result<Flags, Refusal> {
-        let word = ffi::next_hello_flags(&self.words, circuit.number());
+    /// The flags of the Restart TLV in the next hello on a circuit at a level; on P2P in the one hello, at each enabled level. RR while its T1 of a
+    /// restart runs (RFC 8706, 3.3.1); SA while we start, and RR beside it from the first expiry of its T1 while that runs (RFC 8706, 3.3.2). Refused
+    /// 1, also for a level that is not enabled on the circuit.
+    ///
+    /// ```
+    /// # use isis_gr::{Circuit, CircuitSettings, Flags, Gateway, Kind, Level, Levels, Mac, Mode, Refusal, Settings, SystemId};
+    /// let p2p = CircuitSettings::new(Kind::P2p, Levels::TWO, Mac([2; 6]));
+    /// let mut gateway = Gateway::new();
+    /// gateway.set_up(&Settings::new(SystemId([1; 6]), Mode::Restarting, 0).circuit(p2p))?;
+    /// let first = Circuit::new(1).expect("1 to 8");
+    /// assert_eq!(gateway.next_hello_flags(first, Level::Two), Ok(Flags::RR));
+    /// assert_eq!(gateway.next_hello_flags(first, Level::One), Err(Refusal::NoCircuit));
+    /// # Ok::<(), isis_gr::SettingError>(())
+    /// ```
+    pub fn next_hello_flags(&self, circuit: Circuit, level: Level) -> Result<Flags, Refusal> {
+        let word = ffi::next_hello_flags(&self.words, circuit.number(), level.number());
         Refusal::unless(u64::from(word), Flags((word >> 8) as u8))
     }
 
-    /// How many circuits still wait for T1, and the lowest of them.
+    /// How many T1s still run, and the lowest circuit with one.
     pub fn waiting(&self) -> Waiting {
         let word = ffi::waiting(&self.words);
         Waiting { count: word >> 8 & 0xFF, lowest: Circuit::new((word >> 16) as u8) }

@@ -34,12 +34,14 @@
 mod answers;
 mod ffi;
 mod gateway;
+mod hellos;
 mod names;
 mod record;
 mod settings;
 
-pub use answers::{Ack, Flags, Freed, Hellos, Overload, Received, Refusal, Reply, Ticked, Timers, Waiting};
+pub use answers::{Ack, Freed, Overload, Received, Refusal, Reply, Ticked, Timers, Waiting};
 pub use gateway::{Gateway, REPLY_OCTETS};
+pub use hellos::{Flags, HelloOrders, Hellos};
 pub use names::{Circuit, Circuits, Level, Levels, Mac, SystemId};
 pub use record::{Change, Mark, Phase, Record, ReverseMetric, Standing};
 pub use settings::{CircuitSettings, Kind, Mode, SettingError, Settings};

@@ -23,6 +23,7 @@ fn memory_that_is_not_set_up_holds_no_circuit() {
         assert_eq!(gateway.csnp_complete(first(), Level::One), Err(Refusal::NoCircuit));
         assert_eq!(gateway.database_complete(Level::One), Err(Refusal::NoCircuit));
         assert_eq!(gateway.link_metric(first()), Err(Refusal::NoCircuit));
+        assert_eq!(gateway.next_hello_flags(first(), Level::One), Err(Refusal::NoCircuit));
         assert_eq!(gateway.waiting().count, 0);
         let tick = gateway.tick(7).expect("a tick is done");
         assert!(tick.lost.is_empty() && tick.hellos.is_empty() && tick.timers == Timers::Idle);
@@ -33,8 +34,8 @@ fn memory_that_is_not_set_up_holds_no_circuit() {
 #[test]
 fn a_static_gateway_is_set_up_in_place() {
     let mut gateway = GATEWAY.lock().expect("one test");
-    assert!(gateway.set_up(&settings(Mode::Restarting)).expect("in range").contains(first()));
-    assert_eq!(gateway.waiting().lowest, Some(first()));
+    assert_eq!(gateway.set_up(&settings(Mode::Restarting)).expect("in range").orders.len(), 2, "a LAN of both levels");
+    assert_eq!((gateway.waiting().count, gateway.waiting().lowest), (2, Some(first())));
     // and again: what it was does not count
     assert!(gateway.set_up(&settings(Mode::Running)).expect("in range").is_empty());
     assert_eq!(gateway.waiting().count, 0);

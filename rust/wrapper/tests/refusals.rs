@@ -62,9 +62,10 @@ fn no_1_of_every_call_that_names_a_circuit_or_a_level() {
         assert_eq!(refused(&mut g, |g| g.look_up_p2p(absent, router(2))), told);
         assert_eq!(refused(&mut g, |g| g.look_up_lan(absent, Level::Two, router(2), PEER_MAC)), told);
         assert_eq!(refused(&mut g, |g| g.link_metric(absent)), told);
-        assert_eq!(refused(&mut g, |g| g.next_hello_flags(absent)), told);
+        assert_eq!(refused(&mut g, |g| g.next_hello_flags(absent, Level::One)), told);
     }
     assert_eq!(refused(&mut g, |g| g.csnp_complete(LAN, Level::One)), told);
+    assert_eq!(refused(&mut g, |g| g.next_hello_flags(LAN, Level::One)), told);
     assert_eq!(refused(&mut Gateway::new(), |g| g.database_complete(Level::One)), told);
 }
 

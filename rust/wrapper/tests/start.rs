@@ -12,7 +12,7 @@ const fn goes_on(overload: Overload) -> Timers {
 }
 
 fn flags(g: &Gateway) -> [Flags; 2] {
-    [P2P, LAN].map(|circuit| g.next_hello_flags(circuit).expect("a circuit"))
+    [(P2P, Level::One), (LAN, Level::Two)].map(|(circuit, level)| g.next_hello_flags(circuit, level).expect("a level of the circuit"))
 }
 
 /// A frame on a circuit, and what it orders for hellos and the timers.
@@ -56,8 +56,8 @@ fn ticks_order_rr_and_sa_where_t1_expired() {
     assert_eq!(flags(&g), [Flags::SA; 2]);
     for clock in [103, 106] {
         let hellos = g.tick(clock).expect("later").hellos;
-        assert_eq!(hellos, Hellos { circuits: [LAN].into_iter().collect(), flags: BOTH });
-        assert!(hellos.contains(LAN) && !hellos.contains(P2P));
+        assert_eq!(hellos, Hellos { orders: [(LAN, Level::Two)].into_iter().collect(), flags: BOTH });
+        assert!(hellos.has(LAN, Level::Two) && !hellos.has(P2P, Level::One));
         assert_eq!(flags(&g), [Flags::SA, BOTH]);
     }
     assert_eq!(g.tick(109).expect("later").hellos, Hellos::default(), "the third of three tries");
@@ -86,10 +86,10 @@ fn one_frame_may_set_and_clear_overload() {
     let mut g = gateway(Mode::Starting);
     assert_eq!(g.csnp_complete(LAN, Level::Two), Ok(goes_on(Overload::Keep)), "a set before T1 began counts");
     receive(&mut g, LAN, &lan_hello(2, true)).expect("accepted");
-    for level in Levels::BOTH {
-        assert_eq!(g.database_complete(level), Ok(goes_on(Overload::Keep)), "T1 runs");
-    }
-    let end = Timers::Ended { spf: Levels::BOTH, overload: Overload::Both };
+    let first = Timers::GoOn { spf: Levels::ONE, overload: Overload::Keep };
+    assert_eq!(g.database_complete(Level::One), Ok(first), "the T1 that runs is of level 2");
+    assert_eq!(g.database_complete(Level::Two), Ok(goes_on(Overload::Keep)), "T1 runs");
+    let end = Timers::Ended { spf: Levels::TWO, overload: Overload::Both };
     assert_eq!(orders(&mut g, LAN, &lan_ack(3)), (None, end));
     assert_eq!(flags(&g), [Flags::default(); 2]);
     assert_eq!(g.database_complete(Level::One).map_err(|why| why.number()), Err(11), "the mode is Running");
@@ -134,7 +134,7 @@ fn a_neighbour_that_starts_is_suppressed_until_its_end() {
 
     // T1 expires: RR and SA, and the acknowledgement of both
     let tick = new.gateway.tick(113).expect("later");
-    assert!(tick.hellos.contains(link()) && tick.hellos.flags == BOTH);
+    assert!(tick.hellos.has(link(), Level::One) && tick.hellos.flags == BOTH);
     assert_eq!(new.own_tlv(), [211, 1, RR + SA]);
     helper.gateway.tick(113).expect("later");
     let request = new.hello(UP, &[211, 1, tick.hellos.flags.octet()]);

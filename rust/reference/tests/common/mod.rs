@@ -41,12 +41,16 @@ pub fn circuits(numbers: &[usize]) -> [bool; 8] {
     std::array::from_fn(|at| numbers.contains(&(at + 1)))
 }
 
-/// Hellos with these flags, ordered on these circuits.
-pub fn hellos(numbers: &[usize], flags: u8) -> Hellos {
-    Hellos { circuits: circuits(numbers), flags }
+/// The place of a point-to-point circuit's one hello is that of level 1.
+pub const SINGLE: usize = 1;
+
+/// Hellos with these flags, ordered on these circuits: on a LAN at this level.
+pub fn hellos(orders: &[(usize, usize)], flags: u8) -> Hellos {
+    let order = |at, level| orders.contains(&(at + 1, level));
+    Hellos { orders: std::array::from_fn(|at| [order(at, 1), order(at, 2)]), flags }
 }
 
-pub const NO_HELLO: Hellos = Hellos { circuits: [false; 8], flags: 0 };
+pub const NO_HELLO: Hellos = Hellos { orders: [[false; 2]; 8], flags: 0 };
 
 pub fn p2p() -> CircuitSettings {
     CircuitSettings { kind: Kind::PointToPoint, levels: BOTH, mac: OWN_MAC, priority: 64, hold: 30, metric: 10, id: OWN_ID }
@@ -231,6 +235,11 @@ impl Run {
         self.gateway.tick(clock).expect("clock not lower")
     }
 
+    /// The flags of the next hello at a level of a circuit that has it.
+    pub fn flags(&self, circuit: u8, level: u8) -> u8 {
+        self.gateway.next_hello_flags(circuit, level).expect("level enabled")
+    }
+
     /// The peer's record on circuit 1: on a LAN at level 1, under the peer's MAC.
     pub fn peer(&self) -> Option<Record> {
         self.gateway.look_up(1, 1, PEER, PEER_MAC).expect("circuit stands")
@@ -248,6 +257,11 @@ pub fn p2p_up(clock: u32, hold: u16) -> Run {
     run.accept(&Hello::p2p(INITIALIZING).hold(hold));
     assert!(run.record().up);
     run
+}
+
+/// Restarting at clock 0 with this T1, T2 and number of tries.
+pub fn restart(t1: u16, t2: u16, tries: u8, circuits: &[CircuitSettings]) -> Run {
+    Run::new(&Settings { t1, t2, tries, ..settings(Mode::Restarting, circuits) })
 }
 
 /// Overload is ordered set, and the start goes on.
@@ -273,7 +287,7 @@ pub fn orders(answer: Received) -> (Option<u8>, TimerOutcome) {
     (answer.hello, answer.timers)
 }
 
-/// The first UP record of a circuit: T1 begins with a hello of SA alone.
+/// The first UP record of a circuit, on a LAN of a level: T1 begins with a hello of SA alone.
 pub const BEGINS: (Option<u8>, TimerOutcome) = (Some(SA), SET);
 /// A record that becomes UP later.
 pub const RISES: (Option<u8>, TimerOutcome) = (None, SET);

@@ -1,5 +1,5 @@
 //! Two gateways on one P2P link. Each has the clock that the test gives it, and the test carries out every order.
-use isis_gr::{Circuit, CircuitSettings, Flags, Gateway, Kind, Levels, Mac, Mode, Phase, Record, Settings, SystemId};
+use isis_gr::{Circuit, CircuitSettings, Flags, Gateway, Kind, Level, Levels, Mac, Mode, Phase, Record, Settings, SystemId};
 
 /// One end of the link.
 pub struct End {
@@ -21,7 +21,7 @@ impl End {
         let p2p = CircuitSettings::new(Kind::P2p, Levels::ONE, mac).extended_circuit_id(u32::from(number));
         let mut gateway = Gateway::new();
         let hellos = gateway.set_up(&Settings::new(system, mode, clock).circuit(p2p)).expect("in range");
-        assert_eq!(hellos.contains(link()), mode == Mode::Restarting);
+        assert_eq!(hellos.has(link(), Level::One), mode == Mode::Restarting);
         assert_eq!(hellos.flags, if mode == Mode::Restarting { Flags::RR } else { Flags::default() });
         End { gateway, system, mac }
     }
@@ -39,7 +39,7 @@ impl End {
 
     /// A Restart TLV with the flags of the next hello.
     pub fn own_tlv(&self) -> [u8; 3] {
-        [211, 1, self.gateway.next_hello_flags(link()).expect("one circuit").octet()]
+        [211, 1, self.gateway.next_hello_flags(link(), Level::One).expect("one circuit").octet()]
     }
 
     /// The record of the other end.

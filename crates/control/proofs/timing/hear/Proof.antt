@@ -18,7 +18,7 @@ same-length c = search needs
 returns : tie.Need-returns
 returns c =
     let s = c .before .before .before .before .before in
-    hears-still (s .args .words .now) (sym (ap isRunning (c .before .before .mode-of .ensures)) ∙ sym (c .before .is-running .ensures) ∙ c .if1 .taken) _ _ _ _
+    hears-still (s .args .words .now) (sym (ap isRunning (c .before .before .mode-of .ensures)) ∙ sym (c .before .is-running .ensures) ∙ c .if1 .taken) _ _ _
 
 hear-in-requires : tie.Need-hear-in-requires
 hear-in-requires c κs =

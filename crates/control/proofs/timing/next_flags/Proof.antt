@@ -3,7 +3,8 @@ use Rattle.timers.specs.Timers.{Timers, noT1}
 use Rattle.timer_parts.specs.T1.{helloFlags}
 use Rattle.timers.specs.Memory.{timersOf}
 use lib.ListN.{getD}
-use mathlib.Core.Path.{ap, _∙_}
+use mathlib.Core.Path.{refl, ap, _∙_}
+use Rattle.control.specs.Words.{servingOf}
 use Rattle.control.proofs.TimingLaws.{timers-now}
 use borrow.Author.Needs.{needs}
 use Rattle.control.proofs.timing.next_flags.Statement.{statement}
@@ -26,7 +27,7 @@ next-flags-requires c κs = search needs
 
 returns : tie.Need-returns
 unfolding timersOf
-returns c = let a = c .before .before .before .before .args in c .next-flags .ensures ∙ ap (λ (t : Timers). helloFlags (t .mode) (getD (t .t1s) (a .i) noT1)) (timers-now (a .words .now) _ (c .before .before .load-head .ensures))
+returns c = let a = c .before .before .before .before .args in c .next-flags .ensures (servingOf (a .words .now)) ∙ ap (λ (t : Timers). helloFlags (t .mode) (getD (t .t1s) (a .i) noT1)) (timers-now (a .words .now) (servingOf (a .words .now)) _ refl (c .before .before .load-head .ensures))
 
 pub next-flags-spec : {M : Type 1} → statement M
 next-flags-spec =

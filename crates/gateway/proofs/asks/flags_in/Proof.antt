@@ -1,13 +1,11 @@
--- Refusal 1, or the flags of the circuit's T1.
-use Rattle.gateway.proofs.CallLaws.{flags}
-use Rattle.model.specs.Step.{NextHello}
-use Rattle.gateway.proofs.WordLaws.{along, refuses-all, choice, no-circuit, a-circuit}
-use Rattle.gateway.specs.Words.{gatewayOf}
-use Rattle.control.specs.Common.{InRange}
+-- Refusal 1, or the stage on the circuit.
+use mathlib.Core.Path.{subst, _∙_}
 use Rattle.basics.specs.declared.refusal.Refusal.the-variants.{NoCircuit}
-use Prim.Native.Nat.{_-_}
-use native.Mathlib.Omega.{arith}
-use mathlib.Core.Path.{subst}
+use Rattle.control.specs.Common.{InRange}
+use Rattle.gateway.specs.Words.{gatewayOf}
+use Rattle.gateway.proofs.WordLaws.{along, refuses-all, choice, no-circuit, a-circuit}
+use Rattle.model.specs.Step.{NextHello}
+use Rattle.gateway.proofs.CallLaws.{flags-is}
 use borrow.Author.Needs.{needs}
 use Rattle.gateway.proofs.asks.flags_in.Statement.{statement}
 use Rattle.gateway.proofs.asks.flags_in.Tie as tie
@@ -24,32 +22,27 @@ part-circuit-of-end c = search needs
 circuit-of-requires : tie.Need-circuit-of-requires
 circuit-of-requires c κs = search needs
 
+enum-known-s : tie.Need-enum-known-s
+enum-known-s c = search needs
+
 enum-told : tie.Need-enum-told
 enum-told c = search needs
 
-enum-told-2 : tie.Need-enum-told-2
-enum-told-2 c = search needs
-
 returns : tie.Need-returns
-returns c = let a = c .before .before .before .before .before .args in along (no-circuit (gatewayOf (a .gateway .now)) (a .n) NextHello (choice (a .gateway .now) (a .n) _ _ (c .before .before .circuit-of .ensures) (c .enum-told2 .given .1))) (refuses-all (a .gateway .now) _ NoCircuit)
+returns c =
+    let a = c .before .before .before .before .before .args in
+    along (no-circuit (gatewayOf (a .gateway .now)) (a .n) (NextHello (a .level)) (choice (a .gateway .now) (a .n) _ _ (c .before .before .circuit-of .ensures) (c .enum-told .given .1)))
+    (refuses-all (a .gateway .now) _ NoCircuit)
 
-sub-i : tie.Need-sub-i
-sub-i c = let r = subst (InRange _) (c .enum-told .given .1) (c .before .before .circuit-of .ensures .range) in omega arith
-
-sub-next-flags : tie.Need-sub-next-flags
-sub-next-flags c = search needs
-
-part-next-flags-start : tie.Need-part-next-flags-start
-part-next-flags-start c = search needs
-
-part-next-flags-end : tie.Need-part-next-flags-end
-part-next-flags-end c = search needs
-
-next-flags-requires : tie.Need-next-flags-requires
-next-flags-requires c κs = let r = subst (InRange _) (c .before .enum-told .given .1) (c .before .before .before .circuit-of .ensures .range) in (search needs, omega arith)
+flags-on-requires : tie.Need-flags-on-requires
+flags-on-requires c κs = let r = subst (InRange _) (c .before .s .given .1) (c .before .before .before .circuit-of .ensures .range) in (c .before .before .before .before .before .before .pre, r .0, r .1)
 
 returns-2 : tie.Need-returns-2
-returns-2 c = let s = c .before .before .before .before .before .before .before in let a = s .args in along (a-circuit (gatewayOf (a .gateway .now)) (a .n) NextHello _ (choice (a .gateway .now) (a .n) _ _ (c .before .before .before .before .circuit-of .ensures) (c .before .before .enum-told .given .1))) (flags (a .gateway .now) (a .n) (s .pre) _ _ (c .next-flags .ensures))
+returns-2 c =
+    let a = c .before .before .before .before .before .before .before .args in
+    let g = gatewayOf (a .gateway .now) in
+    along (flags-is g (a .n) _ (a .level) ∙ a-circuit g (a .n) (NextHello (a .level)) _ (choice (a .gateway .now) (a .n) _ _ (c .before .before .before .before .circuit-of .ensures) (c .before .before .s .given .1)))
+    (c .flags-on .ensures)
 
 pub flags-in-spec : {M : Type 1} → statement M
 flags-in-spec =
@@ -59,12 +52,8 @@ flags-in-spec =
     part-circuit-of-start
     part-circuit-of-end
     circuit-of-requires
+    enum-known-s
     enum-told
-    enum-told-2
     returns
-    sub-i
-    sub-next-flags
-    part-next-flags-start
-    part-next-flags-end
-    next-flags-requires
+    flags-on-requires
     returns-2)

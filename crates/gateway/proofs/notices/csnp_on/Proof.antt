@@ -1,14 +1,11 @@
 -- Refusal 1 for the level, 11, or the control words put back.
-use Rattle.basics.specs.Lists.{part}
-use Rattle.control.specs.Words.{controlWords, commonOf}
-use Rattle.gateway.proofs.CallLaws.{csnp-off, csnp-outside, csnp-taken}
-use Rattle.gateway.proofs.WordLaws.{along, refuses}
-use Rattle.basics.specs.declared.refusal.Refusal.the-variants.{NoCircuit, NotRestarting}
-use borrow.Author.Tests.{not-true, not-false}
-use Rattle.settings.specs.Mode.{isRunning}
-use native.Mathlib.Omega.{arith}
 use mathlib.Core.Path.{sym, ap, _∙_}
-use Prim.Native.Nat.{_-_}
+use native.Mathlib.Omega.{arith}
+use Rattle.settings.specs.Mode.{isRunning}
+use borrow.Author.Tests.{not-true, not-false}
+use Rattle.basics.specs.declared.refusal.Refusal.the-variants.{NoCircuit, NotRestarting}
+use Rattle.gateway.proofs.WordLaws.{along, refuses}
+use Rattle.gateway.proofs.CallLaws.{csnp-off, csnp-outside, csnp-taken}
 use borrow.Author.Needs.{needs}
 use Rattle.gateway.proofs.notices.csnp_on.Statement.{statement}
 use Rattle.gateway.proofs.notices.csnp_on.Tie as tie
@@ -17,7 +14,11 @@ has-level-requires : tie.Need-has-level-requires
 has-level-requires c κs = search needs
 
 returns : tie.Need-returns
-returns c = let a = c .before .before .before .before .args in along (csnp-off (a .gateway .now) (a .n) (c .before .before .before .before .pre .0) (a .s) (a .level) (sym (c .before .has-level .ensures) ∙ not-true _ (c .if1 .taken))) (refuses (a .gateway .now) (a .n) _ NoCircuit)
+returns c =
+    let s = c .before .before .before .before in
+    let a = s .args in
+    along (csnp-off (a .gateway .now) (a .n) (s .pre .0) (a .s) (a .level) (sym (c .before .has-level .ensures) ∙ not-true _ (c .if1 .taken)))
+    (refuses (a .gateway .now) (a .n) _ NoCircuit)
 
 sub-mode-of : tie.Need-sub-mode-of
 sub-mode-of c = search needs
@@ -38,13 +39,22 @@ same-length : tie.Need-same-length
 same-length c = search needs
 
 returns-2 : tie.Need-returns-2
-returns-2 c = let a = c .before .before .before .before .before .before .before .before .before .args in along (csnp-outside (a .gateway .now) (a .n) (c .before .before .before .before .before .before .before .before .before .pre .0) (a .s) (a .level) (sym (c .before .before .before .before .before .before .has-level .ensures) ∙ not-false _ (c .before .before .before .before .before .if1 .left)) (sym (ap isRunning (c .before .before .mode-of .ensures)) ∙ sym (c .before .is-running .ensures) ∙ c .if2 .taken)) (refuses (a .gateway .now) (a .n) _ NotRestarting)
+returns-2 c =
+    let s = c .before .before .before .before .before .before .before .before .before in
+    let a = s .args in
+    along
+    (csnp-outside (a .gateway .now) (a .n) (s .pre .0) (a .s) (a .level) (sym (c .before .before .before .before .before .before .has-level .ensures) ∙ not-false _ (c .before .before .before .before .before .if1 .left))
+    (sym (ap isRunning (c .before .before .mode-of .ensures)) ∙ sym (c .before .is-running .ensures) ∙ c .if2 .taken))
+    (refuses (a .gateway .now) (a .n) _ NotRestarting)
 
 only-level-requires : tie.Need-only-level-requires
 only-level-requires c κs = search needs
 
-sub-i : tie.Need-sub-i
-sub-i c = search needs
+sub-place-of : tie.Need-sub-place-of
+sub-place-of c = search needs
+
+place-of-requires : tie.Need-place-of-requires
+place-of-requires c κs = search needs
 
 sub-notice-csnp : tie.Need-sub-notice-csnp
 sub-notice-csnp c = search needs
@@ -56,13 +66,21 @@ part-notice-csnp-end : tie.Need-part-notice-csnp-end
 part-notice-csnp-end c = search needs
 
 notice-csnp-requires : tie.Need-notice-csnp-requires
-notice-csnp-requires c κs = (omega (arith, c .before .before .before .before .before .before .before .before .before .before .before .pre .0), omega (arith, c .before .before .before .before .before .before .before .before .before .before .before .pre .1, c .before .before .before .before .before .before .before .before .before .before .before .pre .2), (sym (ap isRunning (c .before .before .before .before .mode-of .ensures)) ∙ sym (c .before .before .before .is-running .ensures) ∙ c .before .before .if2 .left))
+notice-csnp-requires c κs =
+    let s = c .before .before .before .before .before .before .before .before .before .before .before .before in
+    (omega (arith, s .pre .0), c .before .place-of .ensures .1, sym (ap isRunning (c .before .before .before .before .before .mode-of .ensures)) ∙ sym (c .before .before .before .before .is-running .ensures) ∙ c .before .before .before .if2 .left)
 
 same-length-2 : tie.Need-same-length-2
 same-length-2 c = search needs
 
 returns-3 : tie.Need-returns-3
-returns-3 c = let a = c .before .before .before .before .before .before .before .before .before .before .before .before .before .before .args in let x = c .before .before .notice-csnp in csnp-taken (a .gateway .now) (a .n) (c .before .before .before .before .before .before .before .before .before .before .before .before .before .before .pre .0) (a .s) (a .level) (sym (c .before .before .before .before .before .before .before .before .before .before .before .has-level .ensures) ∙ not-false _ (c .before .before .before .before .before .before .before .before .before .before .if1 .left)) (sym (ap isRunning (c .before .before .before .before .before .before .before .mode-of .ensures)) ∙ sym (c .before .before .before .before .before .before .is-running .ensures) ∙ c .before .before .before .before .before .if2 .left) _ (c .before .before .before .before .only-level .ensures) (x .last .0) (omega (arith, x .kept .0)) _ (x .ensures)
+returns-3 c =
+    let s = c .before .before .before .before .before .before .before .before .before .before .before .before .before .before .before in
+    let a = s .args in
+    let x = c .before .before .notice-csnp in
+    csnp-taken (a .gateway .now) (a .n) (s .pre .0) (a .s) (a .level) (sym (c .before .before .before .before .before .before .before .before .before .before .before .before .has-level .ensures) ∙ not-false _ (c .before .before .before .before .before .before .before .before .before .before .before .if1 .left))
+    (sym (ap isRunning (c .before .before .before .before .before .before .before .before .mode-of .ensures)) ∙ sym (c .before .before .before .before .before .before .before .is-running .ensures) ∙ c .before .before .before .before .before .before .if2 .left) _ (c .before .before .before .before .before .only-level .ensures) _ (c .before .before .before .before .place-of .ensures .0) (x .last .0)
+    (omega (arith, x .kept .0)) _ (x .ensures)
 
 pub csnp-on-spec : {M : Type 1} → statement M
 csnp-on-spec =
@@ -78,7 +96,8 @@ csnp-on-spec =
     same-length
     returns-2
     only-level-requires
-    sub-i
+    sub-place-of
+    place-of-requires
     sub-notice-csnp
     part-notice-csnp-start
     part-notice-csnp-end

@@ -59,7 +59,7 @@ returns c = search needs
 returns-2 : tie.Need-returns-2
 returns-2 c = let g = c .before .before .before .before .before .a2 .given in
     let m = mask-bitsOf 8 (g .0 .0) (omega arith) in
-    let h = mask-bitsOf 8 (g .0 .1 .0 .circuits) (omega arith) in
+    let h = mask-bitsOf 16 (g .0 .1 .0 .t1s) (omega arith) in
     rw (g .1) (omega arith)
 
 pub ticked-word-spec : {M : Type 1} → statement M

@@ -5,17 +5,16 @@ use mathlib.Core.Path.{_≡_, _∙_}
 use borrow.Author.Count.{below-more}
 use lib.ListN.{length}
 use Prim.Native.Nat.{ℕ, _-_, _≤_, _<_}
-use Rattle.basics.specs.Mask.{circuits}
 use Rattle.timer_parts.specs.T1.{startEntry}
-use Rattle.timers.specs.Memory.{wordCount, entryAt}
+use Rattle.timers.specs.Memory.{t1Count, wordCount, entryAt}
 use Rattle.timers.proofs.entries.fill_entries.Statement.{statement}
 use Rattle.timers.proofs.entries.fill_entries.Tie as tie
 
 abbrev Inv-loop : tie.InvT-loop
-Inv-loop words₀ begun deadline i₀ words i = (i ≤ circuits) × (length words ≡ wordCount) × ((j : ℕ) → j < i → entryAt words j ≡ startEntry begun deadline)
+Inv-loop words₀ begun deadline i₀ words i = (i ≤ t1Count) × (length words ≡ wordCount) × ((j : ℕ) → j < i → entryAt words j ≡ startEntry begun deadline)
 
 abbrev μ-loop : tie.MeasureT-loop
-μ-loop words₀ begun deadline i₀ words i = circuits - i
+μ-loop words₀ begun deadline i₀ words i = t1Count - i
 
 loop-holds : tie.Need-loop-holds Inv-loop μ-loop
 loop-holds c = (omega arith, c .before .pre, λ j (k : j < 0). absurd (omega arith))

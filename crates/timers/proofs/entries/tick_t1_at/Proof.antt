@@ -1,5 +1,6 @@
 -- A T1 that is not due stays as it is; any other is stored after its tick.
 use mathlib.Core.Path.{sym, ap, _∙_}
+use mathlib.Core.Bool.{false}
 use lib.ListN.{set}
 use lib.Seq.{set-getD}
 use borrow.Author.Tests.{not-true}
@@ -18,20 +19,18 @@ load-t1-requires c κs = search needs
 is-due-requires : tie.Need-is-due-requires
 is-due-requires c κs = search needs
 
-put-bit-requires : tie.Need-put-bit-requires
-put-bit-requires c κs = search needs
-
 same-length : tie.Need-same-length
 same-length c = search needs
 
 returns : tie.Need-returns
 returns c =
-    let l = c .before .before .before in
+    let l = c .before .before in
     let a = l .before .before .before .args in
     let ts = t1sAt (a .m .mask) (a .words .now) in
-    let e = ap (due (a .clock)) (sym (l .load-t1 .ensures)) ∙ sym (c .before .before .is-due .ensures) ∙ not-true _ (c .before .if1 .taken) in (
+    let hs = helloBits (a .m .hellos) in
+    let e = ap (due (a .clock)) (sym (l .load-t1 .ensures)) ∙ sym (c .before .is-due .ensures) ∙ not-true _ (c .if1 .taken) in (
       sym (ap (set ts (a .i)) (tick-not-due (a .s) (a .clock) _ e) ∙ set-getD ts (a .i) noT1),
-      c .put-bit .ensures ∙ ap (set (helloBits (a .m .hellos)) (a .i)) (sym (hello-not-due (a .s) (a .clock) _ e)),
+      sym (ap (set hs (a .i)) (hello-not-due (a .s) (a .clock) _ e ∙ sym (l .before .before .before .pre .2)) ∙ set-getD hs (a .i) false),
     )
 
 is-hello-due-requires : tie.Need-is-hello-due-requires
@@ -43,8 +42,8 @@ tick-t1-requires c κs = search needs
 store-t1-requires : tie.Need-store-t1-requires
 store-t1-requires c κs = search needs
 
-put-bit-requires-2 : tie.Need-put-bit-requires-2
-put-bit-requires-2 c κs = search needs
+put-place-requires : tie.Need-put-place-requires
+put-place-requires c κs = search needs
 
 same-length-2 : tie.Need-same-length-2
 same-length-2 c = search needs
@@ -56,7 +55,7 @@ returns-2 c =
       c .before .before .before .store-t1 .ensures
           ∙ ap (set (t1sAt (a .m .mask) (a .words .now)) (a .i))
           (c .before .before .before .before .before .tick-t1 .ensures ∙ ap (tickT1 (a .s) (a .clock)) (l .load-t1 .ensures)),
-      c .put-bit2 .ensures
+      c .put-place .ensures
           ∙ ap (set (helloBits (a .m .hellos)) (a .i))
           (c .before .before .before .before .before .before .is-hello-due .ensures ∙ ap (helloDue (a .s) (a .clock)) (l .load-t1 .ensures)),
     )
@@ -67,12 +66,11 @@ tick-t1-at-spec =
     (tie.spec
     load-t1-requires
     is-due-requires
-    put-bit-requires
     same-length
     returns
     is-hello-due-requires
     tick-t1-requires
     store-t1-requires
-    put-bit-requires-2
+    put-place-requires
     same-length-2
     returns-2)

@@ -2,7 +2,9 @@
 use Prim.Native.Nat.{_+_}
 use mathlib.Core.Path.{ap, _∙_}
 use mathlib.Core.Bool.{Bool, _&&_}
+use Rattle.basics.specs.declared.levels.Levels.{Levels}
 use Rattle.settings.specs.Mode.{isRestarting}
+use Rattle.settings.specs.Serving.{servedAt}
 use Rattle.timer_parts.specs.T1.{begunBy, heardT1, freedBy}
 use Rattle.timer_parts.specs.declared.t1.T1.{T1}
 use Rattle.timers.specs.Timers.{heardIn, upIn, firstT1}
@@ -38,6 +40,9 @@ is-restarting-requires c κs = search needs
 freed-by-requires : tie.Need-freed-by-requires
 freed-by-requires c κs = search needs
 
+served-at-requires : tie.Need-served-at-requires
+served-at-requires c κs = search needs
+
 hear-t1-requires : tie.Need-hear-t1-requires
 hear-t1-requires c κs = search needs
 
@@ -64,28 +69,30 @@ same-length c = search needs
 
 returns : tie.Need-returns
 unfolding freedWith
-returns c = let a = c .before .before .before .before .before .before .before .before .before .before .before .before .before .before .before .before .before .before .before .before .args in
+returns c = let a = c .before .before .before .before .before .before .before .before .before .before .before .before .before .before .before .before .before .before .before .before .before .args in
     let st = c .before .before .before .before .before .before .before .before .store-t1 in
-    let ld = c .before .before .before .before .before .before .before .before .before .before .before .before .before .before .before .before .load-t1 in
-    let is = c .before .before .before .before .before .before .before .before .before .before .before .before .before .before .before .before .before .before .is-starting in
-    let bb = c .before .before .before .before .before .before .before .before .before .before .before .before .before .begun-by in
+    let ld = c .before .before .before .before .before .before .before .before .before .before .before .before .before .before .before .before .before .load-t1 in
+    let is = c .before .before .before .before .before .before .before .before .before .before .before .before .before .before .before .before .before .before .before .is-starting in
+    let bb = c .before .before .before .before .before .before .before .before .before .before .before .before .before .before .begun-by in
+    let sv = c .before .before .before .before .before .before .before .before .before .before .before .served-at in
     let e = entryAt (a .words .now) in
     let f = entryAt (st .last .0) in
-    let g : (T1 → T1) = λ x. heardT1 (a .l) (a .d) (firstT1 (a .s) (a .clock) (a .h .mode) (a .rose) x) in
+    let g : (T1 → T1) = λ x. heardT1 (servedAt (a .v) (a .i)) (a .d) (firstT1 (a .s) (a .clock) (a .h .mode) (a .rose) x) in
     let first =
     bb .ensures ∙ ap (λ (b : Bool). begunBy (b && a .rose) (a .clock + a .s .t1) (ld .result)) (is .ensures)
     ∙ ap (firstT1 (a .s) (a .clock) (a .h .mode) (a .rose)) (ld .ensures) in
-    let stored =
-    c .before .before .before .before .with-mask .ensures f
-    ∙ t1-stored (a .h) (st .result) (a .i) e f g _ (c .before .before .before .before .before .before .before .before .before .before .hear-t1 .ensures ∙ ap (heardT1 (a .l) (a .d)) first) (st .ensures) in
-    hears (a .s) (a .clock) (a .i) (a .l) (a .rose) (a .d) (a .h) e _ _ _ _ _ (c .before .before .before .before .before .before .before .before .before .before .before .before .before .before .before .before .before .before .before .before .pre .2)
-    (closes (heardIn (a .s) (a .clock) (a .i) (a .l) (a .rose) (a .d)) (timersOf (a .h) e) _ _ _
-    (c .before .before .before .with-t3 .ensures f ∙ heardIn-is (a .s) (a .clock) (a .i) (a .l) (a .rose) (a .d) (a .h) e _ _ stored (c .before .before .before .before .before .hear-t3 .ensures))
+    let heard =
+    c .before .before .before .before .before .before .before .before .before .before .hear-t1 .ensures ∙ ap (λ (l : Levels). heardT1 l (a .d) (bb .result)) (sv .ensures)
+    ∙ ap (heardT1 (servedAt (a .v) (a .i)) (a .d)) first in
+    let stored = c .before .before .before .before .with-mask .ensures (a .v) f ∙ t1-stored (a .v) (a .h) (st .result) (a .i) e f g _ heard (st .ensures) in
+    hears (a .v) (a .s) (a .clock) (a .i) (a .rose) (a .d) (a .h) e _ _ _ _ _ (c .before .before .before .before .before .before .before .before .before .before .before .before .before .before .before .before .before .before .before .before .before .pre .2)
+    (closes (heardIn (a .s) (a .clock) (a .i) (a .rose) (a .d)) (timersOf (a .v) (a .h) e) _ _ _
+    (c .before .before .before .with-t3 .ensures (a .v) f ∙ heardIn-is (a .v) (a .s) (a .clock) (a .i) (a .rose) (a .d) (a .h) e _ _ stored (c .before .before .before .before .before .hear-t3 .ensures))
     (c .before .before .settle .ensures e f))
     (c .overload-for .ensures ∙ ap (λ (b : Bool). overloaded (b && a .rose) (c .before .before .settle .result .outcome)) (is .ensures))
-    (c .before .before .before .before .before .before .before .before .before .before .before .freed-by .ensures ∙ ap (λ (b : Bool). freedBy b (a .d) (bb .result)) (c .before .before .before .before .before .before .before .before .before .before .before .before .is-restarting .ensures)
+    (c .before .before .before .before .before .before .before .before .before .before .before .before .freed-by .ensures ∙ ap (λ (b : Bool). freedBy b (a .d) (bb .result)) (c .before .before .before .before .before .before .before .before .before .before .before .before .before .is-restarting .ensures)
     ∙ ap (freedBy (isRestarting (a .h .mode)) (a .d)) first)
-    (c .before .before .before .before .before .before .before .before .before .before .before .before .before .before .before .begin-hello .ensures ∙ ap (λ (b : Bool). beginHello (b && a .rose) (ld .result)) (is .ensures)
+    (c .before .before .before .before .before .before .before .before .before .before .before .before .before .before .before .before .begin-hello .ensures ∙ ap (λ (b : Bool). beginHello (b && a .rose) (ld .result)) (is .ensures)
     ∙ ap (beginHello (upIn (a .h .mode) (a .rose))) (ld .ensures))
 
 pub hear-hello-spec : {M : Type 1} → statement M
@@ -100,6 +107,7 @@ hear-hello-spec =
     begun-by-requires
     is-restarting-requires
     freed-by-requires
+    served-at-requires
     hear-t1-requires
     store-t1-requires
     hear-t3-requires

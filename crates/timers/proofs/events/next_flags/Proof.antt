@@ -14,8 +14,8 @@ hello-flags-requires : tie.Need-hello-flags-requires
 hello-flags-requires c κs = search needs
 
 returns : tie.Need-returns
-returns c = let a = c .before .before .before .args in
-    c .hello-flags .ensures ∙ ap (helloFlags (a .h .mode)) (c .before .load-t1 .ensures ∙ t1-of (a .h) (entryAt (a .words .now)) (a .i))
+returns c = λ v. let a = c .before .before .before .args in
+    c .hello-flags .ensures ∙ ap (helloFlags (a .h .mode)) (c .before .load-t1 .ensures ∙ t1-of v (a .h) (entryAt (a .words .now)) (a .i))
 
 pub next-flags-spec : {M : Type 1} → statement M
 next-flags-spec = tie.close (tie.spec load-t1-requires hello-flags-requires returns)

@@ -13,7 +13,7 @@ settle-requires : tie.Need-settle-requires
 settle-requires c κs = search needs
 
 returns : tie.Need-returns
-returns c = λ e. let a = c .before .before .before .args in closes (noticeT2s (a .n)) (timersOf (a .h) e) _ _ _ (c .before .before .notice-t2s .ensures e) (c .before .settle .ensures e e)
+returns c = λ e. let a = c .before .before .before .args in closes (noticeT2s (a .n)) (timersOf (a .v) (a .h) e) _ _ _ (c .before .before .notice-t2s .ensures (a .v) e) (c .before .settle .ensures e e)
 
 pub notice-database-spec : {M : Type 1} → statement M
 notice-database-spec = tie.close (tie.spec notice-t2s-requires settle-requires returns)

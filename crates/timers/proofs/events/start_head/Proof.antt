@@ -25,11 +25,14 @@ add-start-t2s c = search needs
 start-t2s-requires-2 : tie.Need-start-t2s-requires-2
 start-t2s-requires-2 c κs = search needs
 
-cast-t12 : tie.Need-cast-t12
-cast-t12 c = search needs
+all-t1s-requires : tie.Need-all-t1s-requires
+all-t1s-requires c κs = search needs
 
-add-t14 : tie.Need-add-t14
-add-t14 c = search needs
+cast-t13 : tie.Need-cast-t13
+cast-t13 c = search needs
+
+add-t15 : tie.Need-add-t15
+add-t15 c = search needs
 
 enum-told-3 : tie.Need-enum-told-3
 enum-told-3 c = search needs
@@ -52,7 +55,7 @@ returns c = rw (c .before .enum-told .given .1, c .start-t2s .ensures)
 
 returns-2 : tie.Need-returns-2
 unfolding headBy
-returns-2 c = rw (c .before .before .enum-told2 .given .1, c .start-t2s2 .ensures)
+returns-2 c = rw (c .before .before .before .enum-told2 .given .1, c .before .start-t2s2 .ensures, c .all-t1s .ensures)
 
 returns-3 : tie.Need-returns-3
 unfolding headBy
@@ -69,8 +72,9 @@ start-head-spec =
     cast-start-t2s-2
     add-start-t2s
     start-t2s-requires-2
-    cast-t12
-    add-t14
+    all-t1s-requires
+    cast-t13
+    add-t15
     enum-told-3
     cast-start-t2s-3
     cast-start-t2s-4

@@ -1,7 +1,5 @@
 -- The T1 step, then the steps of the head; then the call is settled.
 use mathlib.Core.Path.{ap, _∙_}
-use mathlib.Core.List.{List}
-use mathlib.Core.Bool.{Bool}
 use Prim.Native.Nat.{ℕ}
 use Rattle.timers.specs.Timers.{toT3}
 use Rattle.timers.specs.Hellos.{ordering, helloBits, againFlags}
@@ -37,8 +35,8 @@ returns c = let a = c .before .before .before .before .before .before .before .b
     let x = c .before .before .before .before .before .before .before .before .tick-t1s in
     let e = entryAt (a .words .now) in
     let f = entryAt (x .last .0) in
-    let mid = toT3-is (a .s) (a .clock) (x .result .mask) (a .h) e f _ _ (x .ensures .0) (c .before .before .before .with-mask .ensures f) (c .before .before .tick-head .ensures f) in
-    ticks (a .s) (a .clock) (a .h) e _ _ _ (closes (toT3 (a .s) (a .clock)) (timersOf (a .h) e) _ _ _ mid (c .before .settle .ensures e f))
+    let mid = toT3-is (a .v) (a .s) (a .clock) (x .result .mask) (a .h) e f _ _ (x .ensures .0) (c .before .before .before .with-mask .ensures (a .v) f) (c .before .before .tick-head .ensures f) in
+    ticks (a .v) (a .s) (a .clock) (a .h) e _ _ _ (closes (toT3 (a .s) (a .clock)) (timersOf (a .v) (a .h) e) _ _ _ mid (c .before .settle .ensures e f))
     (c .before .before .before .before .order-hellos .ensures ∙ ap (λ (n : ℕ). ordering n (helloBits (x .result .hellos))) (c .before .before .before .before .before .again-flags .ensures)
     ∙ ap (ordering (againFlags (a .h .mode))) (x .ensures .1))
 

@@ -16,7 +16,7 @@ with-t2s-requires c κs = search needs
 
 returns : tie.Need-returns
 unfolding cancelT2s timersOf
-returns c = λ e. rw (c .with-t2s .ensures e, c .before .cancel-both .ensures, c .before .before .waiting-levels .ensures e)
+returns c = λ e. rw (c .with-t2s .ensures (c .before .before .before .before .args .v) e, c .before .cancel-both .ensures, c .before .before .waiting-levels .ensures e)
 
 pub cancel-t2s-spec : {M : Type 1} → statement M
 cancel-t2s-spec = tie.close (tie.spec waiting-levels-requires cancel-both-requires with-t2s-requires returns)

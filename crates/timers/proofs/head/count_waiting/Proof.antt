@@ -5,11 +5,11 @@ use borrow.Author.Needs.{needs}
 use Rattle.timers.proofs.head.count_waiting.Statement.{statement}
 use Rattle.timers.proofs.head.count_waiting.Tie as tie
 
-count-bits-requires : tie.Need-count-bits-requires
-count-bits-requires c κs = search needs
+count-places-requires : tie.Need-count-places-requires
+count-places-requires c κs = search needs
 
 returns : tie.Need-returns
-returns c = λ e. c .count-bits .ensures ∙ count-of (c .before .args .h) e
+returns c = λ v e. c .count-places .ensures ∙ count-of v (c .before .args .h) e
 
 pub count-waiting-spec : {M : Type 1} → statement M
-count-waiting-spec = tie.close (tie.spec count-bits-requires returns)
+count-waiting-spec = tie.close (tie.spec count-places-requires returns)

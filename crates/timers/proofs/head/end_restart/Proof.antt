@@ -11,11 +11,11 @@ any-t2-requires c κs = search needs
 
 returns : tie.Need-returns
 unfolding finish over timersOf
-returns c = λ e. simp (← c .before .any-t2 .ensures, c .if1 .taken)
+returns c = λ v e. simp (← c .before .any-t2 .ensures, c .if1 .taken)
 
 returns-2 : tie.Need-returns-2
 unfolding finish over timersOf
-returns-2 c = λ e. simp (← c .before .any-t2 .ensures, c .if1 .left, joined-stop (c .before .before .before .args .h .mask) e)
+returns-2 c = λ v e. simp (← c .before .any-t2 .ensures, c .if1 .left, joined-stop (c .before .before .before .args .h .mask) e)
 
 pub end-restart-spec : {M : Type 1} → statement M
 end-restart-spec = tie.close (tie.spec any-t2-requires returns returns-2)

@@ -13,7 +13,7 @@ with-t2s-requires c κs = search needs
 
 returns : tie.Need-returns
 unfolding expireT2s timersOf
-returns c = λ e. rw (c .with-t2s .ensures e, c .before .expire-both .ensures)
+returns c = λ v e. rw (c .with-t2s .ensures v e, c .before .expire-both .ensures)
 
 pub expire-t2s-spec : {M : Type 1} → statement M
 expire-t2s-spec = tie.close (tie.spec expire-both-requires with-t2s-requires returns)

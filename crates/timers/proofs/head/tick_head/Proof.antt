@@ -15,7 +15,7 @@ tick-t3-requires : tie.Need-tick-t3-requires
 tick-t3-requires c κs = search needs
 
 returns : tie.Need-returns
-returns c = λ e. c .tick-t3 .ensures e ∙ ap (tickT3 (c .before .before .before .args .clock)) (c .before .cancel-t2s .ensures e ∙ ap cancelT2s (c .before .before .expire-t2s .ensures e))
+returns c = λ e. c .tick-t3 .ensures (c .before .before .before .args .v) e ∙ ap (tickT3 (c .before .before .before .args .clock)) (c .before .cancel-t2s .ensures e ∙ ap cancelT2s (c .before .before .expire-t2s .ensures (c .before .before .before .args .v) e))
 
 pub tick-head-spec : {M : Type 1} → statement M
 tick-head-spec =

@@ -11,11 +11,11 @@ expires-t3-requires c κs = search needs
 
 returns : tie.Need-returns
 unfolding tickT3 withT1s withT3 timersOf
-returns c = λ e. simp (← c .before .expires-t3 .ensures, c .if1 .taken, joined-stop (c .before .before .before .args .h .mask) e)
+returns c = λ v e. simp (← c .before .expires-t3 .ensures, c .if1 .taken, joined-stop (c .before .before .before .args .h .mask) e)
 
 returns-2 : tie.Need-returns-2
 unfolding tickT3 withT1s withT3 timersOf
-returns-2 c = λ e. simp (← c .before .expires-t3 .ensures, c .if1 .left)
+returns-2 c = λ v e. simp (← c .before .expires-t3 .ensures, c .if1 .left)
 
 pub tick-t3-spec : {M : Type 1} → statement M
 tick-t3-spec = tie.close (tie.spec expires-t3-requires returns returns-2)

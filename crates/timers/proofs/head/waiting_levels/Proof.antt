@@ -1,17 +1,20 @@
--- A T1 runs where a digit is set.
-use Rattle.timers.specs.Timers.{waits}
-use Rattle.timers.specs.Memory.{timersOf}
-use Rattle.timers.proofs.T1sLaws.{anyRuns-joined}
+-- A level waits where a digit of its mask is one of a T1 that runs.
+use mathlib.Core.Path.{_∙_}
+use Rattle.basics.specs.Levels.{First, Second}
+use Rattle.timers.proofs.TimersLaws.{waits-of}
 use borrow.Author.Needs.{needs}
 use Rattle.timers.proofs.head.waiting_levels.Statement.{statement}
 use Rattle.timers.proofs.head.waiting_levels.Tie as tie
 
-any-bit-requires : tie.Need-any-bit-requires
-any-bit-requires c κs = search needs
+share-place-requires : tie.Need-share-place-requires
+share-place-requires c κs = search needs
+
+share-place-requires-2 : tie.Need-share-place-requires-2
+share-place-requires-2 c κs = search needs
 
 returns : tie.Need-returns
-unfolding waits timersOf
-returns c = λ e. rw (anyRuns-joined, c .any-bit .ensures)
+returns c = λ e. let a = c .before .before .args in
+    rw (c .before .share-place .ensures ∙ waits-of First (a .v) (a .h) e, c .share-place2 .ensures ∙ waits-of Second (a .v) (a .h) e)
 
 pub waiting-levels-spec : {M : Type 1} → statement M
-waiting-levels-spec = tie.close (tie.spec any-bit-requires returns)
+waiting-levels-spec = tie.close (tie.spec share-place-requires share-place-requires-2 returns)

@@ -7,7 +7,7 @@ use Rattle.timers.proofs.head.with_mask.Tie as tie
 
 returns : tie.Need-returns
 unfolding withT1s timersOf
-returns c = λ e. refl
+returns c = λ v e. refl
 
 pub with-mask-spec : {M : Type 1} → statement M
 with-mask-spec = tie.close (tie.spec returns)

@@ -7,7 +7,7 @@ use Rattle.timers.proofs.head.with_t3.Tie as tie
 
 returns : tie.Need-returns
 unfolding withT3 timersOf
-returns c = λ e. refl
+returns c = λ v e. refl
 
 pub with-t3-spec : {M : Type 1} → statement M
 with-t3-spec = tie.close (tie.spec returns)

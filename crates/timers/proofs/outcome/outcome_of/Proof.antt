@@ -28,7 +28,7 @@ outcome-with-requires c κs = search needs
 
 returns : tie.Need-returns
 unfolding outcomeOf overloadDue timersOf
-returns c = λ d e f.
+returns c = λ v d e f.
     simp (c .outcome-with .ensures, c .before .overload-of .ensures, c .before .before .is-starting .ensures, c .before .before .before .is-running .ensures, c .before .before .before .before .is-expired2 .ensures, c .before .before .before .before .before .is-expired .ensures, c .before .before .before .before .before .before .spf-due .ensures)
 
 pub outcome-of-spec : {M : Type 1} → statement M

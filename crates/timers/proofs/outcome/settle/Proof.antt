@@ -19,8 +19,8 @@ outcome-of-requires c κs = search needs
 returns : tie.Need-returns
 returns c = λ d e.
     let a = c .before .before .before .args in
-    let end = c .before .end-restart .ensures e ∙ ap finish (c .before .before .cancel-t2s .ensures e) in
-    (end, c .outcome-of .ensures d e e ∙ ap (outcomeOf (timersOf (a .before) d) (timersOf (a .mid) e)) end)
+    let end = c .before .end-restart .ensures (a .v) e ∙ ap finish (c .before .before .cancel-t2s .ensures e) in
+    (end, c .outcome-of .ensures (a .v) d e e ∙ ap (outcomeOf (timersOf (a .v) (a .before) d) (timersOf (a .v) (a .mid) e)) end)
 
 pub settle-spec : {M : Type 1} → statement M
 settle-spec =
