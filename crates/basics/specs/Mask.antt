@@ -21,11 +21,11 @@ abbrev pub bits : ℕ → List Bool
 bits m = bitsOf circuits m
 
 -- .. and two for each
-abbrev pub places : ℕ
-places = 2 * circuits
+abbrev pub t1Places : ℕ
+t1Places = 2 * circuits
 
 abbrev pub placeBits : ℕ → List Bool
-placeBits m = bitsOf places m
+placeBits m = bitsOf t1Places m
 
 -- how many are true
 unfoldable pub countTrue : List Bool → ℕ

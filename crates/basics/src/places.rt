@@ -4,10 +4,10 @@ ghost use mathlib.Core.Path.{_≡_};
 ghost use mathlib.Core.Bool.{false};
 ghost use Prim.Native.Nat.{_^_, _<_};
 ghost use lib.ListN.{set, getD};
-ghost use Rattle.basics.specs.Mask.{places, placeBits, countTrue, anyTrue, anyShared, firstPair};
+ghost use Rattle.basics.specs.Mask.{t1Places, placeBits, countTrue, anyTrue, anyShared, firstPair};
 
 // The digits of a mask.
-pub const PLACES: usize = 2 * CIRCUITS;
+pub const T1_PLACES: usize = 2 * CIRCUITS;
 
 // The lowest circuit of a mask, by its number from 1.
 pub enum Lowest {
@@ -16,7 +16,7 @@ pub enum Lowest {
 }
 
 fn place_bit(i: usize) -> u16
-    requires { ⌜ i < places ⌝ }
+    requires { ⌜ i < t1Places ⌝ }
     ensures { λ r. ⌜ r ≡ 2 ^ i ⌝ }
 {
     1u16 << i
@@ -24,7 +24,7 @@ fn place_bit(i: usize) -> u16
 
 // The mask with the digit of place i set or cleared.
 pub fn put_place(m: u16, i: usize, on: bool) -> u16
-    requires { ⌜ i < places ⌝ }
+    requires { ⌜ i < t1Places ⌝ }
     ensures { λ r. ⌜ placeBits r ≡ set (placeBits m) i on ⌝ }
 {
     let b = place_bit(i);
@@ -33,7 +33,7 @@ pub fn put_place(m: u16, i: usize, on: bool) -> u16
 
 // The digit of place i.
 pub fn has_place(m: u16, i: usize) -> bool
-    requires { ⌜ i < places ⌝ }
+    requires { ⌜ i < t1Places ⌝ }
     ensures { λ r. ⌜ r ≡ getD (placeBits m) i false ⌝ }
 {
     (m >> i) % 2 == 1

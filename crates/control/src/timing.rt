@@ -9,10 +9,12 @@ use crate::words::clock_of;
 use crate::words::lengths_of;
 use crate::words::move_clock;
 use crate::words::serving_of;
+use basics::kind::CircuitKind;
 use basics::levels::Levels;
 use basics::places::Lowest;
 use restart_tlv::flags::Flags;
 use settings::mode::is_running;
+use settings::serving::t1_place;
 use timer_parts::heard::Heard;
 use timer_parts::t1::Freed;
 use timers::events::HeardOrders;
@@ -23,7 +25,8 @@ ghost use mathlib.Core.Path.{_≡_};
 ghost use Prim.Native.Nat.{_<_};
 ghost use lib.ListN.{length, getD};
 ghost use Rattle.timers.specs.Hellos.{hellosOf};
-ghost use Rattle.basics.specs.Mask.{places};
+ghost use Rattle.basics.specs.Mask.{circuits, t1Places};
+ghost use Rattle.settings.specs.Serving.{t1Place};
 ghost use Rattle.timer_parts.specs.T1.{helloFlags};
 ghost use Rattle.timers.specs.Timers.{noT1, csnpIn, noticeT2s, countRuns, lowestRuns};
 ghost use Rattle.control.specs.Words.{controlWords, commonOf};
@@ -35,7 +38,7 @@ pub struct TickOrders {
 }
 
 fn hear_in(words: &mut [u64], i: usize, rose: bool, d: Heard) -> HeardOrders
-    requires { ⌜ (length (now words) ≡ controlWords) × (i < places) × On (now words) ⌝ }
+    requires { ⌜ (length (now words) ≡ controlWords) × (i < t1Places) × On (now words) ⌝ }
     ensures { λ r. ⌜ CommonHears i rose d (now (words .entry)) (now (words .exit)) r ⌝ }
 {
     let h = load_head(words);
@@ -58,10 +61,18 @@ fn hear_in(words: &mut [u64], i: usize, rose: bool, d: Heard) -> HeardOrders
     orders
 }
 
-// An accepted hello to the T1 in place i, at the held clock and in the held mode; `rose`: its record becomes UP.
-pub fn hear(words: &mut [u64], i: usize, rose: bool, d: Heard) -> HeardOrders
-    requires { ⌜ (length (now words) ≡ controlWords) × (i < places) ⌝ }
-    ensures { λ r. ⌜ CommonHears i rose d (now (words .entry)) (now (words .exit)) r ⌝ }
+// An accepted hello on circuit i, from 0, of this kind, at a level, at the held clock and in the held mode; `rose`: its record becomes UP. Which T1 it
+// is to is asked where a T1 may run.
+pub fn hear(
+    words: &mut [u64],
+    kind: CircuitKind,
+    i: usize,
+    level: u8,
+    rose: bool,
+    d: Heard,
+) -> HeardOrders
+    requires { ⌜ (length (now words) ≡ controlWords) × (i < circuits) ⌝ }
+    ensures { λ r. ⌜ CommonHears (t1Place kind i level) rose d (now (words .entry)) (now (words .exit)) r ⌝ }
 {
     if is_running(mode_of(words)) {
         return HeardOrders {
@@ -70,12 +81,13 @@ pub fn hear(words: &mut [u64], i: usize, rose: bool, d: Heard) -> HeardOrders
             hello: HelloOrder::Nothing,
         };
     }
-    hear_in(words, i, rose, d)
+    let at = t1_place(kind, i, level);
+    hear_in(words, at, rose, d)
 }
 
 // The CSNP sets of the levels `n` are complete, for the T1 in place i.
 pub fn notice_csnp(words: &mut [u64], i: usize, n: Levels) -> TimerOutcome
-    requires { ⌜ (length (now words) ≡ controlWords) × (i < places) × On (now words) ⌝ }
+    requires { ⌜ (length (now words) ≡ controlWords) × (i < t1Places) × On (now words) ⌝ }
     ensures { λ r. ⌜ CommonSettles (csnpIn i n) (now (words .entry)) (now (words .exit)) r ⌝ }
 {
     let h = load_head(words);
@@ -143,7 +155,7 @@ pub fn tick(words: &mut [u64], clock: u32) -> TickOrders
 
 // The flags of the next hello of the T1 in place i.
 pub fn next_flags(words: &[u64], i: usize) -> Flags
-    requires { ⌜ (length (now words) ≡ controlWords) × (i < places) ⌝ }
+    requires { ⌜ (length (now words) ≡ controlWords) × (i < t1Places) ⌝ }
     ensures { λ r. ⌜ r ≡ helloFlags (commonOf (now (words .entry)) .timers .mode) (getD (commonOf (now (words .entry)) .timers .t1s) i noT1) ⌝ }
 {
     let h = load_head(words);

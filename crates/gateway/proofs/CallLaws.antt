@@ -33,7 +33,7 @@ use Rattle.settings.specs.Mode.{isRunning}
 use Rattle.timers.specs.Outcome.{ordered, tickHellos}
 use Rattle.timers.specs.declared.outcome.TimerOutcome.{TimerOutcome}
 use Rattle.settings.specs.Settings.{enabledLevels}
-use Rattle.settings.specs.Serving.{placeOf}
+use Rattle.settings.specs.Serving.{t1Place}
 use Rattle.settings.specs.declared.circuit.Circuit.{Circuit}
 use Rattle.control.specs.Words.{countOf, commonOf, controlWords}
 use Rattle.control.specs.Common.{Common}
@@ -110,12 +110,12 @@ module _ (ws : List ℕ) (n : ℕ) (len : length ws ≡ gatewayWords) where
       csnp-outside m = rw (has, m) refl
 
       pub csnp-taken : (m : isRunning (commonOf (part 0 controlWords ws) .timers .mode) ≡ false) (on : Levels) (se : on ≡ onlyLevel level) (i : ℕ)
-          → i ≡ placeOf (s .kind) (n - 1) level → (u : List ℕ) (lu : length u ≡ controlWords) (o : TimerOutcome) → CommonSettles (csnpIn i on) (part 0 controlWords ws) u o
+          → i ≡ t1Place (s .kind) (n - 1) level → (u : List ℕ) (lu : length u ≡ controlWords) (o : TimerOutcome) → CommonSettles (csnpIn i on) (part 0 controlWords ws) u o
           → Meets (Told (Noticed (timersAnswer o))) (lift g n (csnpComplete n s level)) ws (putMid 0 controlWords ws u) []
       unfolding csnpComplete gatewayOf
       csnp-taken m on se i ie u lu o h =
           let h′ : CommonSettles (csnpOf n s level) (part 0 controlWords ws) u o =
-          subst (λ (x : Levels). CommonSettles (csnpIn (placeOf (s .kind) (n - 1) level) x) (part 0 controlWords ws) u o) se
+          subst (λ (x : Levels). CommonSettles (csnpIn (t1Place (s .kind) (n - 1) level) x) (part 0 controlWords ws) u o) se
           (subst (λ (j : ℕ). CommonSettles (csnpIn j on) (part 0 controlWords ws) u o) ie h) in
           common-acts (csnpComplete n s level) (Noticed (timersAnswer o)) u lu (rw (has, m) (ap (λ (x : TimerOutcome). Told (Noticed (timersAnswer x))) (h′ .outcome))) (rw (has, m) refl) (rw (has, m) (h′ .common)) (rw (has, m) refl)
 
@@ -149,7 +149,7 @@ module _ (ws : List ℕ) (n : ℕ) (len : length ws ≡ gatewayWords) where
     unfolding lift nextHello
     flags-off e = rw e refl
 
-    pub flags : (i : ℕ) (f : Flags) → hasLevel (s .levels) level ≡ true → i ≡ placeOf (s .kind) (n - 1) level
+    pub flags : (i : ℕ) (f : Flags) → hasLevel (s .levels) level ≡ true → i ≡ t1Place (s .kind) (n - 1) level
         → f ≡ helloFlags (commonOf (part 0 controlWords ws) .timers .mode) (getD (commonOf (part 0 controlWords ws) .timers .t1s) i noT1)
         → Meets (Told (HelloFlags (f .bits))) (lift g n (nextHello n s level)) ws ws []
     unfolding nextHello gatewayOf

@@ -21,7 +21,7 @@ use room::place::found;
 use room::search::first_state;
 use settings::circuit::Chosen;
 use settings::circuit::Circuit;
-use settings::serving::place_of;
+use settings::serving::t1_place;
 use slots::slot::ROOM_WORDS;
 ghost use mathlib.Core.Path.{_≡_};
 ghost use mathlib.Core.List.{[]};
@@ -105,7 +105,7 @@ fn flags_on(gateway: &[u64], n: u8, s: Circuit, level: u8) -> NextFlags
     if !has_level(levels, level) {
         return NextFlags::Refused(Refusal::NoCircuit);
     }
-    let i = place_of(kind, n as usize - 1, level);
+    let i = t1_place(kind, n as usize - 1, level);
     let flags = next_flags(&gateway[0..CONTROL_WORDS], i);
     NextFlags::Next(flags)
 }

@@ -32,7 +32,6 @@ use room::duty::csnps_in;
 use settings::circuit::Chosen;
 use settings::circuit::Circuit;
 use settings::mode::is_restarting;
-use settings::serving::place_of;
 use slots::slot::ROOM_WORDS;
 use timer_parts::heard::Heard;
 use timer_parts::heard::heard_of;
@@ -95,8 +94,14 @@ fn order_in(
     let before = change.before;
     let after = change.after;
     let rose = rises(before, after);
-    let at = place_of(kind, i, change.level);
-    let x = hear(&mut gateway[0..CONTROL_WORDS], at, rose, said);
+    let x = hear(
+        &mut gateway[0..CONTROL_WORDS],
+        kind,
+        i,
+        change.level,
+        rose,
+        said,
+    );
     let outcome = x.outcome;
     let freed = x.freed;
     let hello = x.hello;

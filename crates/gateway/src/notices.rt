@@ -12,7 +12,7 @@ use model::answers::Noticed;
 use settings::circuit::Chosen;
 use settings::circuit::Circuit;
 use settings::mode::is_running;
-use settings::serving::place_of;
+use settings::serving::t1_place;
 ghost use mathlib.Core.Path.{_≡_};
 ghost use mathlib.Core.List.{[]};
 ghost use Prim.Native.Nat.{_<_, _≤_};
@@ -36,7 +36,7 @@ fn csnp_on(gateway: &mut [u64], n: u8, s: Circuit, level: u8) -> Noticed
         return Noticed::Refused(Refusal::NotRestarting);
     }
     let set = only_level(level);
-    let i = place_of(kind, n as usize - 1, level);
+    let i = t1_place(kind, n as usize - 1, level);
     let outcome = notice_csnp(&mut gateway[0..CONTROL_WORDS], i, set);
     Noticed::Done(outcome)
 }

@@ -28,7 +28,7 @@ use Rattle.adjacency.specs.declared.record.Key.{Key}
 use Rattle.room.specs.Accept.{decided}
 use Rattle.settings.specs.Mode.{isRunning}
 use Rattle.settings.specs.Settings.{circuitsOf, settingsOk, enabledLevels}
-use Rattle.settings.specs.Serving.{placeOf}
+use Rattle.settings.specs.Serving.{t1Place}
 use Rattle.settings.specs.declared.circuit.Chosen.{Chosen}
 use Rattle.settings.specs.declared.circuit.Chosen.the-variants.{Known, Unknown}
 use Rattle.settings.specs.declared.circuit.Circuit.{Circuit}
@@ -69,9 +69,9 @@ module _ (l : Lengths) (cs : List Circuit) (clock : ℕ) (t : Timers) where
 
   -- to the T1 of circuit i, which is c, at a level that may be asked for there
   own-heard : (i : ℕ) (c : Circuit) (level : ℕ) (rose : Bool) (d : Heard) → Stands cs i c → asksLevel (c .kind) (c .levels) level ≡ true
-      → Own l cs clock t (heardIn l clock (placeOf (c .kind) i level) rose d t)
+      → Own l cs clock t (heardIn l clock (t1Place (c .kind) i level) rose d t)
   own-heard i c level rose d stands on =
-      let p = placeOf (c .kind) i level in
+      let p = t1Place (c .kind) i level in
       record {
         mode = heardIn-mode l clock p rose d t;
         idle = heardIn-idle l clock p rose d t;
@@ -183,7 +183,7 @@ module _ (n : ℕ) (s : Circuit) (c : Common) (r : Room) (known : circuitOf c n 
       (λ m. rw (e, m) (keeps-same c))
       (λ m. rw (e, m)
       (keeps-settled c (csnpOf n s level)
-      (own-csnp (c .lengths) (c .circuits) (c .clock) (c .timers) (placeOf (s .kind) (n - 1) level) (onlyLevel level)))))
+      (own-csnp (c .lengths) (c .circuits) (c .clock) (c .timers) (t1Place (s .kind) (n - 1) level) (onlyLevel level)))))
       (λ e. rw e (keeps-same c))
 
   look-keeps : (k : Key) → Keeps c (lookUp s k c r .common)

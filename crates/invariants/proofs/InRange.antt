@@ -12,7 +12,7 @@ use Rattle.basics.specs.declared.kind.CircuitKind.{CircuitKind}
 use Rattle.basics.specs.declared.kind.CircuitKind.the-variants.{Lan, P2p}
 use Rattle.basics.proofs.BoolLaws.{both, and-left}
 use Rattle.settings.specs.Settings.{between, circuitOk, circuitsOf, lengthsOk, settingsOk}
-use Rattle.settings.specs.Serving.{placeOf}
+use Rattle.settings.specs.Serving.{t1Place}
 use Rattle.settings.specs.declared.circuit.Circuit.{Circuit}
 use Rattle.settings.specs.declared.setup.Settings.{Settings}
 use Rattle.settings.proofs.SettingsLaws.{between-true, count-in-range}
@@ -71,11 +71,11 @@ module _ (s : Settings) (ok : settingsOk s ≡ true) where
     circuit-hold = hold-ok c circuit-ok
 
     -- the T1 of a level that may be asked for on the circuit
-    t1-by : (kind : CircuitKind) → c .kind ≡ kind → (level : ℕ) → asksLevel kind (c .levels) level ≡ true → IsT1 s (placeOf kind i level)
+    t1-by : (kind : CircuitKind) → c .kind ≡ kind → (level : ℕ) → asksLevel kind (c .levels) level ≡ true → IsT1 s (t1Place kind i level)
     t1-by Lan e level on =
         t1-lan (circuitsOf s) few i (stands .0) noCircuit (rw (stands .1) e) level (rw (stands .1) on)
     t1-by P2p e level on =
         t1-p2p (circuitsOf s) few i (stands .0) noCircuit (rw (stands .1) e) level (rw (stands .1) (levels-ok c circuit-ok))
 
-    pub t1-asked : (level : ℕ) → asksLevel (c .kind) (c .levels) level ≡ true → IsT1 s (placeOf (c .kind) i level)
+    pub t1-asked : (level : ℕ) → asksLevel (c .kind) (c .levels) level ≡ true → IsT1 s (t1Place (c .kind) i level)
     t1-asked level on = t1-by (c .kind) refl level on

@@ -9,7 +9,7 @@ use lib.ListN.{getD, set}
 use lib.Dec.{leb, ltb}
 use borrow.Author.Tests.{ltb-true}
 use Rattle.basics.specs.Levels.{Level, First, Second, isOn, levelsWith}
-use Rattle.basics.specs.Mask.{places}
+use Rattle.basics.specs.Mask.{t1Places}
 use Rattle.basics.specs.declared.levels.Levels.{Levels}
 use Rattle.basics.proofs.BoolLaws.{and-left, by-test}
 use Rattle.basics.proofs.MaskLaws.{getD-past}
@@ -264,7 +264,7 @@ abbrev OnlyT1s : Settings → ℕ → Type 0
 OnlyT1s s m = (i : ℕ) → getD (t1Bits m) i false ≡ true → IsT1 s i
 
 no-t1 : (s : Settings) → OnlyT1s s 0
-no-t1 s i e = absurd (true≢false (sym e ∙ getD-past 0 places 0 i (omega arith) (omega arith)))
+no-t1 s i e = absurd (true≢false (sym e ∙ getD-past 0 t1Places 0 i (omega arith) (omega arith)))
 
 module _ (s : Settings) (tries : 0 < s .lengths .tries) where
   started-on : (begun : Bool) (m : ℕ) → OnlyT1s s m → AllFitting s (s .clock) (map (startT1 begun (s .clock + s .lengths .t1)) (t1Bits m))

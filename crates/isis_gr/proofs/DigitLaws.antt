@@ -9,7 +9,7 @@ use mathlib.Core.List.{List, [], _∷_}
 use lib.ListN.{length}
 use Rattle.basics.proofs.BitLaws.{bit-le}
 use Rattle.basics.specs.Bits.{bitOf}
-use Rattle.basics.specs.Mask.{circuits, places}
+use Rattle.basics.specs.Mask.{circuits, t1Places}
 use Rattle.basics.specs.declared.levels.Levels.{Levels}
 use Rattle.basics.specs.declared.refusal.Refusal.{Refusal}
 use Rattle.basics.specs.declared.refusal.Refusal.the-variants.{NoCircuit, ReplyRoom, NotHello, BadLength, TlvPastEnd, BadTlv, WrongSource, WrongNeighbor, NoRoom, ClockBack, NotRestarting, BadSetting}
@@ -166,7 +166,7 @@ mask-below (b ∷ l) = omega (arith, pow-suc 2 (length l), bit-le b, mask-below 
 mask-within : (n : ℕ) (l : List Bool) → length l ≡ n → maskNo l < 2 ^ n
 mask-within n l e = subst (λ (k : ℕ). maskNo l < 2 ^ k) e (mask-below l)
 
-module _ (lost : List Bool) (hellos : Hellos) (o : TimerOutcome) (lm : length lost ≡ circuits) (lh : length (hellos .t1s) ≡ places) where
+module _ (lost : List Bool) (hellos : Hellos) (o : TimerOutcome) (lm : length lost ≡ circuits) (lh : length (hellos .t1s) ≡ t1Places) where
   abbrev ticked : ℕ
   ticked = answerNo (Ticked lost hellos (timersAnswer o))
 
@@ -174,14 +174,14 @@ module _ (lost : List Bool) (hellos : Hellos) (o : TimerOutcome) (lm : length lo
       × (ticked / 2 ^ 32 % 256 ≡ timersNo (timersAnswer o)) × (ticked / 2 ^ 40 ≡ hellos .flags)
   ticked-parts =
       let a = mask-within circuits lost lm in
-      let b = mask-within places (hellos .t1s) lh in
+      let b = mask-within t1Places (hellos .t1s) lh in
       let c : timersNo (timersAnswer o) < 256 = timers-parts o .below in
       (omega arith, omega arith, omega arith, omega arith)
 
 -- setup's word
-pub set-up-parts : (hellos : Hellos) → length (hellos .t1s) ≡ places
+pub set-up-parts : (hellos : Hellos) → length (hellos .t1s) ≡ t1Places
     → (reportNo (Begun hellos) % 256 ≡ 0) × (reportNo (Begun hellos) / 2 ^ 8 % 2 ^ 16 ≡ maskNo (hellos .t1s)) × (reportNo (Begun hellos) / 2 ^ 24 ≡ hellos .flags)
-set-up-parts hellos e = let a = mask-within places (hellos .t1s) e in (omega arith, omega arith, omega arith)
+set-up-parts hellos e = let a = mask-within t1Places (hellos .t1s) e in (omega arith, omega arith, omega arith)
 
 -- a look up's word, and the second of the two words that it writes (the first is the expiry)
 module _ (s : State) (shown : Bool) (low : lastOf s .priority < 256) where

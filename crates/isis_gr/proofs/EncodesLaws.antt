@@ -5,7 +5,7 @@ use mathlib.Core.Path.{_≡_, refl, ap, _∙_}
 use mathlib.Core.Bool.{Bool}
 use mathlib.Core.List.{List, [], _∷_}
 use lib.ListN.{length, set}
-use Rattle.basics.specs.Mask.{places, countTrue}
+use Rattle.basics.specs.Mask.{t1Places, countTrue}
 use Rattle.basics.proofs.BitLaws.{bit-le}
 use Rattle.timer_parts.specs.declared.t1.T1.{T1}
 use Rattle.timers.specs.Timers.{countRuns}
@@ -51,11 +51,11 @@ unfolding countRuns countTrue
 countRuns-le [] = omega arith
 countRuns-le (t ∷ l) = omega (arith, bit-le (t .runs), countRuns-le l)
 
-t1s-length : (ws : List ℕ) → length (gatewayOf ws .common .timers .t1s) ≡ places
+t1s-length : (ws : List ℕ) → length (gatewayOf ws .common .timers .t1s) ≡ t1Places
 unfolding gatewayOf commonOf timersOf
 t1s-length ws = length-joined (t1Bits _) _ ∙ length-bits _
 
-pub waiting-le : {count lowest : ℕ} {some : Bool} {ws : List ℕ} → Meets (Told (Waits count some lowest)) (step (gatewayOf ws) (Over WaitingCall)) ws ws [] → count ≤ places
+pub waiting-le : {count lowest : ℕ} {some : Bool} {ws : List ℕ} → Meets (Told (Waits count some lowest)) (step (gatewayOf ws) (Over WaitingCall)) ws ws [] → count ≤ t1Places
 unfolding step judge carry
 waiting-le {count} {ws = ws} m =
     let e : count ≡ countRuns (gatewayOf ws .common .timers .t1s) = cc (m .answer) in

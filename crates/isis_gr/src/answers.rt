@@ -36,7 +36,7 @@ ghost use Prim.Native.Nat.{_≤_};
 ghost use lib.ListN.{length};
 ghost use Rattle.model.specs.Answers.{changeAnswer, frameAnswer, recordAnswer, receivedOf, tickedOf, releasedOf, noticedOf, lookedOf, metricOf, flagsOf, waitingOf};
 ghost use Rattle.adjacency.specs.declared.record.Adjacency.the-variants.{Present};
-ghost use Rattle.basics.specs.Mask.{places};
+ghost use Rattle.basics.specs.Mask.{t1Places};
 ghost use Rattle.gateway.specs.Setup.{reportOf};
 ghost use Rattle.isis_gr.specs.Words.{frameNo, changeNo, answerNo, changedNo, reportNo, recordWords, foundWords};
 
@@ -171,7 +171,7 @@ pub(crate) fn flags_word(a: NextFlags) -> u32
 }
 
 pub(crate) fn waiting_word(a: Waiting) -> u32
-    requires { ⌜ a .count ≤ places ⌝ }
+    requires { ⌜ a .count ≤ t1Places ⌝ }
     ensures { λ r. ⌜ r ≡ answerNo (waitingOf a) ⌝ }
 {
     let low = a.lowest;

@@ -27,7 +27,7 @@ use Rattle.timers.specs.Timers.{Timers, heard}
 use Rattle.settings.specs.Mode.{isRestarting}
 use Rattle.timers.specs.Outcome.{heardOrders}
 use Rattle.timers.specs.declared.events.HeardOrders.{HeardOrders}
-use Rattle.settings.specs.Serving.{placeOf}
+use Rattle.settings.specs.Serving.{t1Place}
 use Rattle.settings.specs.declared.circuit.Circuit.{Circuit}
 use Rattle.control.specs.Common.{Common, withTimers}
 use Rattle.adjacency.specs.Keys.{levelIn, keyIn}
@@ -70,7 +70,7 @@ hasRisen x = rises (x .before) (x .after)
 
 -- the place of the frame's T1: on a LAN that of its level, on P2P the circuit's; places count from 0
 abbrev pub t1Of : ℕ → Circuit → Hello → ℕ
-t1Of n s h = placeOf (s .kind) (n - 1) (levelIn (h .link))
+t1Of n s h = t1Place (s .kind) (n - 1) (levelIn (h .link))
 
 -- the timers that the frame leaves, and what it orders of them
 abbrev pub timersAfter : ℕ → Circuit → Hello → Change → Common → Timers

@@ -22,7 +22,7 @@ use Rattle.settings.specs.Mode.{isRunning}
 use Rattle.timers.specs.Outcome.{ordered, tickHellos}
 use Rattle.timers.specs.declared.outcome.TimerOutcome.the-variants.{Idle}
 use Rattle.settings.specs.Settings.{enabledLevels}
-use Rattle.settings.specs.Serving.{placeOf}
+use Rattle.settings.specs.Serving.{t1Place}
 use Rattle.settings.specs.declared.circuit.Circuit.{Circuit}
 use Rattle.control.specs.Common.{Common, withClock, withTimers, circuitOf}
 use Rattle.settings.specs.declared.circuit.Chosen.{Chosen}
@@ -74,7 +74,7 @@ settledBy f c = withTimers (settled f (c .timers)) c
 
 -- "CSNP set complete (circuit, level)"; 1 for "a level not enabled there", ahead of 11
 abbrev pub csnpOf : ℕ → Circuit → ℕ → Timers → Timers
-csnpOf n s level t = csnpIn (placeOf (s .kind) (n - 1) level) (onlyLevel level) t
+csnpOf n s level t = csnpIn (t1Place (s .kind) (n - 1) level) (onlyLevel level) t
 
 unfoldable pub csnpComplete : ℕ → Circuit → ℕ → Common → Room → Acted
 csnpComplete n s level c r =
@@ -100,7 +100,7 @@ linkMetricOf s c r = told (Metric (linkMetric (s .kind) (s .metric) (firstState 
 -- "The next hello carries RR exactly while T1 runs"; document 02, W-201: "every hello carries SA"; W-202: "the flags call takes a level". House: 1 for
 -- a level that is not enabled there, on P2P too.
 abbrev pub flagsAt : ℕ → Circuit → ℕ → Timers → ℕ
-flagsAt n s level t = helloFlags (t .mode) (getD (t .t1s) (placeOf (s .kind) (n - 1) level) noT1) .bits
+flagsAt n s level t = helloFlags (t .mode) (getD (t .t1s) (t1Place (s .kind) (n - 1) level) noT1) .bits
 
 unfoldable pub nextHello : ℕ → Circuit → ℕ → Common → Room → Acted
 nextHello n s level c r = cond (hasLevel (s .levels) level) (told (HelloFlags (flagsAt n s level (c .timers))) c r) (refuse [] NoCircuit c r)

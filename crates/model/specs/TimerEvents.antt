@@ -6,7 +6,7 @@ use lib.Dec.{eqb}
 use mathlib.Core.List.{List, [], _∷_, map}
 use Rattle.basics.specs.Levels.{onlyLevel}
 use Rattle.basics.specs.declared.levels.Levels.{Levels}
-use Rattle.settings.specs.Serving.{placeOf}
+use Rattle.settings.specs.Serving.{t1Place}
 use Rattle.hello.specs.Hello.{helloRead}
 use Rattle.hello.specs.declared.read.Read.{Read}
 use Rattle.hello.specs.declared.read.Read.the-variants.{Refused as RefusedRead, Accepted as ReadAs}
@@ -58,7 +58,7 @@ offeredOn n c rose l Unknown = Nothing
 offeredOn n c rose (Receive mac frame b) (Known s) = heardFrom n s c rose (helloRead (s .kind) (s .mac) frame)
 offeredOn n c rose Release (Known s) = Nothing
 offeredOn n c rose Clear (Known s) = Nothing
-offeredOn n c rose (CsnpComplete level) (Known s) = CsnpSet (placeOf (s .kind) (n - 1) level) (onlyLevel level)
+offeredOn n c rose (CsnpComplete level) (Known s) = CsnpSet (t1Place (s .kind) (n - 1) level) (onlyLevel level)
 offeredOn n c rose (LookUp k) (Known s) = Nothing
 offeredOn n c rose LinkMetric (Known s) = Nothing
 offeredOn n c rose (NextHello level) (Known s) = Nothing

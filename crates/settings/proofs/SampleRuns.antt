@@ -7,7 +7,7 @@ use Rattle.basics.specs.Mask.{bitsOf}
 use Rattle.basics.specs.declared.kind.CircuitKind.{CircuitKind}
 use Rattle.basics.specs.declared.kind.CircuitKind.the-variants.{Lan, P2p}
 use Rattle.basics.specs.declared.levels.Levels.{Levels}
-use Rattle.settings.specs.Serving.{placeOf, servingWith, serving, servedAt, allT1s}
+use Rattle.settings.specs.Serving.{t1Place, servingWith, serving, servedAt, allT1s}
 use Rattle.settings.specs.declared.circuit.Circuit.{Circuit}
 use Rattle.settings.specs.declared.serving.Serving.{Serving}
 
@@ -33,5 +33,5 @@ unfolding servingWith serving servedAt bitsOf
 t1s-of-three = (refl, refl, refl, refl, refl, refl)
 
 -- the place of each circuit at level 1 and at level 2
-pub places-of-three : (placeOf Lan 0 1 ≡ 0) × (placeOf Lan 0 2 ≡ 1) × (placeOf P2p 1 1 ≡ 2) × (placeOf P2p 1 2 ≡ 2) × (placeOf Lan 2 2 ≡ 5)
+pub places-of-three : (t1Place Lan 0 1 ≡ 0) × (t1Place Lan 0 2 ≡ 1) × (t1Place P2p 1 1 ≡ 2) × (t1Place P2p 1 2 ≡ 2) × (t1Place Lan 2 2 ≡ 5)
 places-of-three = (refl, refl, refl, refl, refl)

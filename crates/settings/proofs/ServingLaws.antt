@@ -12,14 +12,14 @@ use borrow.Author.Tests.{eq-eqb, ne-eqb, eqb-true, eqb-false}
 use Rattle.basics.specs.Bits.{bitOf}
 use Rattle.basics.specs.Levels.{Level, First, Second, levelNo, isOn, levelsWith, someOn, hasLevel}
 use Rattle.basics.specs.Lists.{some}
-use Rattle.basics.specs.Mask.{circuits, places, placeBits}
+use Rattle.basics.specs.Mask.{circuits, t1Places, placeBits}
 use Rattle.basics.specs.declared.kind.CircuitKind.{CircuitKind}
 use Rattle.basics.specs.declared.kind.CircuitKind.the-variants.{Lan, P2p}
 use Rattle.basics.specs.declared.levels.Levels.{Levels}
 use Rattle.basics.proofs.BitLaws.{bit-lt}
 use Rattle.basics.proofs.BoolLaws.{by-test, both}
 use Rattle.basics.proofs.MaskLaws.{double, getD-or, getD-past, packed, packed-at}
-use Rattle.settings.specs.Serving.{placeOf, servingWith, serving, servesOf, allT1s, levelsServed, servedAt}
+use Rattle.settings.specs.Serving.{t1Place, servingWith, serving, servesOf, allT1s, levelsServed, servedAt}
 use Rattle.settings.specs.Settings.{enabledLevels}
 use Rattle.settings.specs.declared.circuit.Circuit.{Circuit}
 use Rattle.settings.specs.declared.serving.Serving.{Serving}
@@ -141,7 +141,7 @@ module _ (cs : List Circuit) (few : length cs ≤ circuits) (i : ℕ) (there : i
   -- document 02, W-202: "Each LAN circuit now holds a T1 .. per level": in the place of a level it serves that level alone, where it is enabled, and
   -- else there is none
   pub served-lan : getD cs i d .kind ≡ Lan → (k : Level)
-      → servedAt (serving cs) (placeOf Lan i (levelNo k)) ≡ levelsWith (λ j. eqb (levelNo k) (levelNo j) && isOn j (getD cs i d .levels))
+      → servedAt (serving cs) (t1Place Lan i (levelNo k)) ≡ levelsWith (λ j. eqb (levelNo k) (levelNo j) && isOn j (getD cs i d .levels))
   unfolding servedAt
   served-lan e First =
       let l = getD cs i d .levels in
@@ -151,7 +151,7 @@ module _ (cs : List Circuit) (few : length cs ≤ circuits) (i : ℕ) (there : i
       rw (digits-at First .1, digits-at Second .1, e, low-second (l .one), high-second (l .two)) refl
 
   -- "P2P keeps one of each": it serves all levels of the circuit
-  pub served-p2p : getD cs i d .kind ≡ P2p → (level : ℕ) → servedAt (serving cs) (placeOf P2p i level) ≡ getD cs i d .levels
+  pub served-p2p : getD cs i d .kind ≡ P2p → (level : ℕ) → servedAt (serving cs) (t1Place P2p i level) ≡ getD cs i d .levels
   unfolding servedAt
   served-p2p e level =
       let l = getD cs i d .levels in
@@ -169,14 +169,14 @@ pub served-past : (cs : List Circuit) (i : ℕ) → 2 * length cs ≤ i → serv
 unfolding servedAt
 served-past cs i le =
     let h = serving-below cs in
-    rw (getD-past (2 * length cs) places (serving cs .one) i (h .0) le, getD-past (2 * length cs) places (serving cs .two) i (h .1) le) refl
+    rw (getD-past (2 * length cs) t1Places (serving cs .one) i (h .0) le, getD-past (2 * length cs) t1Places (serving cs .two) i (h .1) le) refl
 
 -- ---- where there is a T1
 
 -- it serves some level
 pub t1-serves : (v : Serving) (i : ℕ) → getD (placeBits (allT1s v)) i false ≡ someOn (servedAt v i)
 unfolding servedAt
-t1-serves v i = getD-or places (v .one) (v .two) i
+t1-serves v i = getD-or t1Places (v .one) (v .two) i
 
 level-named : (l : Levels) (n : ℕ) → hasLevel l n ≡ true → (k : Level) × (n ≡ levelNo k)
 level-named l n e =
@@ -186,13 +186,13 @@ level-named l n e =
 module _ (cs : List Circuit) (few : length cs ≤ circuits) (i : ℕ) (there : i < length cs) (d : Circuit) where
   -- on a LAN for each level that is enabled on it
   pub t1-lan : getD cs i d .kind ≡ Lan → (level : ℕ) → hasLevel (getD cs i d .levels) level ≡ true
-      → getD (placeBits (allT1s (serving cs))) (placeOf Lan i level) false ≡ true
+      → getD (placeBits (allT1s (serving cs))) (t1Place Lan i level) false ≡ true
   t1-lan e level on =
       let z = level-named (getD cs i d .levels) level on in
       let h : hasLevel (getD cs i d .levels) (levelNo (z .0)) ≡ true = rw (z .1) at on in
-      rw (z .1, t1-serves (serving cs) (placeOf Lan i (levelNo (z .0))), served-lan cs few i there d e (z .0)) h
+      rw (z .1, t1-serves (serving cs) (t1Place Lan i (levelNo (z .0))), served-lan cs few i there d e (z .0)) h
 
   -- on P2P where it has a level
   pub t1-p2p : getD cs i d .kind ≡ P2p → (level : ℕ) → someOn (getD cs i d .levels) ≡ true
-      → getD (placeBits (allT1s (serving cs))) (placeOf P2p i level) false ≡ true
-  t1-p2p e level on = rw (t1-serves (serving cs) (placeOf P2p i level), served-p2p cs few i there d e level) on
+      → getD (placeBits (allT1s (serving cs))) (t1Place P2p i level) false ≡ true
+  t1-p2p e level on = rw (t1-serves (serving cs) (t1Place P2p i level), served-p2p cs few i there d e level) on

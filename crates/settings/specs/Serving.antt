@@ -17,9 +17,9 @@ use Rattle.settings.specs.declared.circuit.Circuit.{Circuit}
 use Rattle.settings.specs.declared.serving.Serving.{Serving}
 
 -- the place of circuit i's T1 at a level, by the level's number; circuits and places count from 0
-abbrev pub placeOf : CircuitKind → ℕ → ℕ → ℕ
-placeOf Lan i level = cond (eqb level 2) (2 * i + 1) (2 * i)
-placeOf P2p i level = 2 * i
+abbrev pub t1Place : CircuitKind → ℕ → ℕ → ℕ
+t1Place Lan i level = cond (eqb level 2) (2 * i + 1) (2 * i)
+t1Place P2p i level = 2 * i
 
 -- the masks with those of one circuit more, in the lowest places
 unfoldable pub servingWith : CircuitKind → Levels → Serving → Serving

@@ -6,8 +6,8 @@ use basics::levels::Levels;
 use basics::places::has_place;
 ghost use mathlib.Core.Path.{_≡_};
 ghost use Prim.Native.Nat.{_<_, _^_};
-ghost use Rattle.basics.specs.Mask.{circuits, places};
-ghost use Rattle.settings.specs.Serving.{placeOf, servingWith, allT1s, levelsServed, servedAt};
+ghost use Rattle.basics.specs.Mask.{circuits, t1Places};
+ghost use Rattle.settings.specs.Serving.{t1Place, servingWith, allT1s, levelsServed, servedAt};
 
 // For each level a mask of the T1s that serve it.
 pub struct Serving {
@@ -16,9 +16,9 @@ pub struct Serving {
 }
 
 // The place of circuit i's T1 at a level.
-pub fn place_of(kind: CircuitKind, i: usize, level: u8) -> usize
+pub fn t1_place(kind: CircuitKind, i: usize, level: u8) -> usize
     requires { ⌜ i < circuits ⌝ }
-    ensures { λ r. ⌜ (r ≡ placeOf kind i level) × (r < places) ⌝ }
+    ensures { λ r. ⌜ (r ≡ t1Place kind i level) × (r < t1Places) ⌝ }
 {
     match kind {
         CircuitKind::Lan => if level == 2 { 2 * i + 1 } else { 2 * i },
@@ -65,7 +65,7 @@ pub fn levels_served(v: Serving) -> Levels
 
 // The levels that the T1 in place i serves.
 pub fn served_at(v: Serving, i: usize) -> Levels
-    requires { ⌜ i < places ⌝ }
+    requires { ⌜ i < t1Places ⌝ }
     ensures { λ r. ⌜ r ≡ servedAt v i ⌝ }
 {
     let one = has_place(v.one, i);

@@ -3,7 +3,7 @@ use Prim.Native.Nat.{ℕ}
 use mathlib.Core.Bool.{Bool, false, cond}
 use mathlib.Core.List.{List}
 use lib.ListN.{replicate}
-use Rattle.basics.specs.Mask.{places, bitsOf, anyTrue}
+use Rattle.basics.specs.Mask.{t1Places, bitsOf, anyTrue}
 use Rattle.restart_tlv.specs.Flags.{RR}
 use Rattle.timer_parts.specs.T1.{RRandSA, begins}
 use Rattle.timer_parts.specs.declared.t1.T1.{T1}
@@ -21,7 +21,7 @@ pub record Hellos : Type 0 where
 
 -- a mask's digits for hello orders
 abbrev pub helloCount : ℕ
-helloCount = places
+helloCount = t1Places
 
 abbrev pub helloBits : ℕ → List Bool
 helloBits m = bitsOf helloCount m

@@ -4,7 +4,7 @@ use mathlib.Core.Bool.{Bool}
 use mathlib.Core.List.{List, [], _∷_}
 use lib.Dec.{eqb}
 use lib.ListN.{getD}
-use Rattle.basics.specs.Mask.{places, bitsOf}
+use Rattle.basics.specs.Mask.{t1Places, bitsOf}
 use Rattle.timer_parts.specs.declared.t1.Entry.{Entry}
 use Rattle.timer_parts.specs.declared.t1.T1.{T1}
 use Rattle.settings.specs.declared.serving.Serving.{Serving}
@@ -13,7 +13,7 @@ use Rattle.timers.specs.Timers.{Timers}
 
 -- how many T1s there are (document 02, W-202: two places for each circuit), and a mask's digits for them
 abbrev pub t1Count : ℕ
-t1Count = places
+t1Count = t1Places
 
 abbrev pub t1Bits : ℕ → List Bool
 t1Bits m = bitsOf t1Count m

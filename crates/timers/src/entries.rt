@@ -4,7 +4,7 @@
 //         deadline  expiries + 256 acknowledged + 512 CSNP set of level 1 + 1024 CSNP set of level 2 + 2048 begun
 use basics::bits::digit;
 use basics::levels::Levels;
-use basics::places::PLACES;
+use basics::places::T1_PLACES;
 use basics::places::has_place;
 use basics::places::put_place;
 use settings::lengths::Lengths;
@@ -26,7 +26,7 @@ ghost use Rattle.timers.specs.Timers.{noT1};
 ghost use Rattle.timers.specs.Memory.{t1Count, wordCount, entryOf, entryAt, t1sAt};
 
 // How many T1s there are.
-pub const T1S: usize = PLACES;
+pub const T1S: usize = T1_PLACES;
 
 // The words that are lent.
 pub const WORDS: usize = 2 * T1S;

@@ -1,5 +1,5 @@
 -- The digit at a place, by a shift.
-use Rattle.basics.specs.Mask.{places}
+use Rattle.basics.specs.Mask.{t1Places}
 use mathlib.Core.Path.{sym}
 use native.Mathlib.Omega.{arith}
 use Rattle.basics.proofs.MaskLaws.{getD-bitsOf}
@@ -14,7 +14,7 @@ shr-result : tie.Need-shr-result
 shr-result c = search needs
 
 returns : tie.Need-returns
-returns c = sym (getD-bitsOf places (c .args .m) (c .args .i) (omega arith))
+returns c = sym (getD-bitsOf t1Places (c .args .m) (c .args .i) (omega arith))
 
 pub has-place-spec : {M : Type 1} → statement M
 has-place-spec = tie.close (tie.spec cast-result shr-result returns)

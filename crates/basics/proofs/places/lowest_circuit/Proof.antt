@@ -1,5 +1,5 @@
 -- Trailing zeros, halved, give the first circuit with a digit that is set.
-use Rattle.basics.specs.Mask.{circuits, places}
+use Rattle.basics.specs.Mask.{circuits, t1Places}
 use borrow.Author.Tests.{eq-eqb, ne-eqb}
 use native.Mathlib.Omega.{arith}
 use lib.Count.{trailing-le}
@@ -12,10 +12,10 @@ unfolding double
 returns c = rw (trailing-firstPair circuits (c .before .args .m) 1 (omega arith), eq-eqb _ _ (c .if1 .taken))
 
 cast-t5 : tie.Need-cast-t5
-cast-t5 c = omega (arith, trailing-le places (c .before .args .m))
+cast-t5 c = omega (arith, trailing-le t1Places (c .before .args .m))
 
 add-t6 : tie.Need-add-t6
-add-t6 c = omega (arith, trailing-le places (c .before .args .m))
+add-t6 c = omega (arith, trailing-le t1Places (c .before .args .m))
 
 returns-2 : tie.Need-returns-2
 unfolding double

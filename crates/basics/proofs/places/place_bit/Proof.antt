@@ -1,5 +1,5 @@
 -- The shift loses nothing.
-use Rattle.basics.specs.Mask.{places}
+use Rattle.basics.specs.Mask.{t1Places}
 use lib.Pow.{shl-exact}
 use mathlib.Core.Path.{_∙_}
 use native.Mathlib.Omega.{arith}
@@ -14,7 +14,7 @@ shl-result : tie.Need-shl-result
 shl-result c = search needs
 
 returns : tie.Need-returns
-returns c = shl-exact 1 (c .args .i) places (omega arith) (omega arith) ∙ omega arith
+returns c = shl-exact 1 (c .args .i) t1Places (omega arith) (omega arith) ∙ omega arith
 
 pub place-bit-spec : {M : Type 1} → statement M
 place-bit-spec = tie.close (tie.spec cast-result shl-result returns)

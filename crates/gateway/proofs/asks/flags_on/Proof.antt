@@ -18,11 +18,11 @@ returns c =
     along (flags-off (a .gateway .now) (a .n) (s .pre .0) (a .s) (a .level) (sym (c .before .has-level .ensures) ∙ not-true _ (c .if1 .taken)))
     (refuses (a .gateway .now) (a .n) _ NoCircuit)
 
-sub-place-of : tie.Need-sub-place-of
-sub-place-of c = search needs
+sub-t1-place : tie.Need-sub-t1-place
+sub-t1-place c = search needs
 
-place-of-requires : tie.Need-place-of-requires
-place-of-requires c κs = search needs
+t1-place-requires : tie.Need-t1-place-requires
+t1-place-requires c κs = search needs
 
 sub-next-flags : tie.Need-sub-next-flags
 sub-next-flags c = search needs
@@ -40,7 +40,7 @@ returns-2 : tie.Need-returns-2
 returns-2 c =
     let s = c .before .before .before .before .before .before .before in
     let a = s .args in
-    flags (a .gateway .now) (a .n) (s .pre .0) (a .s) (a .level) _ _ (sym (c .before .before .before .before .has-level .ensures) ∙ not-false _ (c .before .before .before .if1 .left)) (c .before .before .place-of .ensures .0)
+    flags (a .gateway .now) (a .n) (s .pre .0) (a .s) (a .level) _ _ (sym (c .before .before .before .before .has-level .ensures) ∙ not-false _ (c .before .before .before .if1 .left)) (c .before .before .t1-place .ensures .0)
     (c .next-flags .ensures)
 
 pub flags-on-spec : {M : Type 1} → statement M
@@ -49,8 +49,8 @@ flags-on-spec =
     (tie.spec
     has-level-requires
     returns
-    sub-place-of
-    place-of-requires
+    sub-t1-place
+    t1-place-requires
     sub-next-flags
     part-next-flags-start
     part-next-flags-end

@@ -2,7 +2,7 @@
 use mathlib.Core.Path.{_≡_, sym, ap, _∙_}
 use Prim.Native.Nat.{ℕ, _-_}
 use native.Mathlib.Omega.{arith}
-use Rattle.settings.specs.Serving.{placeOf}
+use Rattle.settings.specs.Serving.{t1Place}
 use Rattle.model.specs.Receive.{rankOf, saidOf}
 use Rattle.gateway.proofs.WordLaws.{common-at}
 use Rattle.gateway.proofs.FrameLaws.{gives, hears-said, of-circuit}
@@ -52,9 +52,6 @@ csnps-in-requires c κs = search needs
 rises-requires : tie.Need-rises-requires
 rises-requires c κs = search needs
 
-place-of-requires : tie.Need-place-of-requires
-place-of-requires c κs = search needs
-
 sub-hear : tie.Need-sub-hear
 sub-hear c = search needs
 
@@ -72,17 +69,17 @@ same-length c = search needs
 
 returns : tie.Need-returns
 returns c =
-    let l = c .before .before .before .before .before .before .before .before .before .before .load-circuit in
-    let s = c .before .before .before .before .before .before .before .before .before .before .before .before .before .before in
+    let l = c .before .before .before .before .before .before .before .before .before .load-circuit in
+    let s = c .before .before .before .before .before .before .before .before .before .before .before .before .before in
     let a = s .args in
     let y = c .before .before .hear in
-    let place = c .before .before .before .before .place-of .ensures .0 ∙ ap (λ (k : ℕ). placeOf (l .result .kind) (a .n - 1) k) (s .pre .3 .level) in
+    let place = ap (λ (k : ℕ). t1Place (l .result .kind) (a .n - 1) k) (s .pre .3 .level) in
     let says = s .pre .3 .says ∙ (λ i. saidOf (sym (common-at (a .gateway .now)) i) (sym (l .ensures) i) (a .frame)) in
     let rank : record { level = a .change .level; priority = l .result .priority; mac = l .result .mac } ≡ rankOf (l .result) (a .frame) =
     λ i. record { level = s .pre .3 .level i; priority = l .result .priority; mac = l .result .mac } in
     of-circuit (l .ensures)
     (gives (a .gateway .now) (a .n) (l .result) (a .frame) (a .reply) (a .line) (a .change) (s .pre .0) (s .pre .1) (s .pre .2) _ _ _ (y .last .0) (omega (arith, y .kept .0)) rank
-    (c .before .before .before .before .before .before .csnps-in .ensures) (hears-said place (c .before .before .before .before .before .rises .ensures) says (y .ensures)))
+    (c .before .before .before .before .before .csnps-in .ensures) (hears-said place (c .before .before .before .before .rises .ensures) says (y .ensures)))
 
 pub order-in-spec : {M : Type 1} → statement M
 order-in-spec =
@@ -102,7 +99,6 @@ order-in-spec =
     part-csnps-in-end
     csnps-in-requires
     rises-requires
-    place-of-requires
     sub-hear
     part-hear-start
     part-hear-end

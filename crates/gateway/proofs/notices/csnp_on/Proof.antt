@@ -50,11 +50,11 @@ returns-2 c =
 only-level-requires : tie.Need-only-level-requires
 only-level-requires c κs = search needs
 
-sub-place-of : tie.Need-sub-place-of
-sub-place-of c = search needs
+sub-t1-place : tie.Need-sub-t1-place
+sub-t1-place c = search needs
 
-place-of-requires : tie.Need-place-of-requires
-place-of-requires c κs = search needs
+t1-place-requires : tie.Need-t1-place-requires
+t1-place-requires c κs = search needs
 
 sub-notice-csnp : tie.Need-sub-notice-csnp
 sub-notice-csnp c = search needs
@@ -68,7 +68,7 @@ part-notice-csnp-end c = search needs
 notice-csnp-requires : tie.Need-notice-csnp-requires
 notice-csnp-requires c κs =
     let s = c .before .before .before .before .before .before .before .before .before .before .before .before in
-    (omega (arith, s .pre .0), c .before .place-of .ensures .1, sym (ap isRunning (c .before .before .before .before .before .mode-of .ensures)) ∙ sym (c .before .before .before .before .is-running .ensures) ∙ c .before .before .before .if2 .left)
+    (omega (arith, s .pre .0), c .before .t1-place .ensures .1, sym (ap isRunning (c .before .before .before .before .before .mode-of .ensures)) ∙ sym (c .before .before .before .before .is-running .ensures) ∙ c .before .before .before .if2 .left)
 
 same-length-2 : tie.Need-same-length-2
 same-length-2 c = search needs
@@ -79,7 +79,7 @@ returns-3 c =
     let a = s .args in
     let x = c .before .before .notice-csnp in
     csnp-taken (a .gateway .now) (a .n) (s .pre .0) (a .s) (a .level) (sym (c .before .before .before .before .before .before .before .before .before .before .before .before .has-level .ensures) ∙ not-false _ (c .before .before .before .before .before .before .before .before .before .before .before .if1 .left))
-    (sym (ap isRunning (c .before .before .before .before .before .before .before .before .mode-of .ensures)) ∙ sym (c .before .before .before .before .before .before .before .is-running .ensures) ∙ c .before .before .before .before .before .before .if2 .left) _ (c .before .before .before .before .before .only-level .ensures) _ (c .before .before .before .before .place-of .ensures .0) (x .last .0)
+    (sym (ap isRunning (c .before .before .before .before .before .before .before .before .mode-of .ensures)) ∙ sym (c .before .before .before .before .before .before .before .is-running .ensures) ∙ c .before .before .before .before .before .before .if2 .left) _ (c .before .before .before .before .before .only-level .ensures) _ (c .before .before .before .before .t1-place .ensures .0) (x .last .0)
     (omega (arith, x .kept .0)) _ (x .ensures)
 
 pub csnp-on-spec : {M : Type 1} → statement M
@@ -96,8 +96,8 @@ csnp-on-spec =
     same-length
     returns-2
     only-level-requires
-    sub-place-of
-    place-of-requires
+    sub-t1-place
+    t1-place-requires
     sub-notice-csnp
     part-notice-csnp-start
     part-notice-csnp-end

@@ -2,8 +2,8 @@
 use borrow.Author.Tests.{eq-eqb, ne-eqb}
 use native.Mathlib.Omega.{arith}
 use borrow.Author.Needs.{needs}
-use Rattle.settings.proofs.serving.place_of.Statement.{statement}
-use Rattle.settings.proofs.serving.place_of.Tie as tie
+use Rattle.settings.proofs.serving.t1_place.Statement.{statement}
+use Rattle.settings.proofs.serving.t1_place.Tie as tie
 
 enum-told : tie.Need-enum-told
 enum-told c = search needs
@@ -32,8 +32,8 @@ returns-2 c = (rw (c .before .enum-told .given .1, ne-eqb _ _ (c .if1 .left)), o
 returns-3 : tie.Need-returns-3
 returns-3 c = (rw (c .enum-told2 .given .1), omega arith)
 
-pub place-of-spec : {M : Type 1} → statement M
-place-of-spec =
+pub t1-place-spec : {M : Type 1} → statement M
+t1-place-spec =
     tie.close
     (tie.spec
     enum-told
