@@ -107,23 +107,21 @@ min-none zero h = refl
 min-none (suc zero) h = refl
 min-none (suc (suc d)) h = absurd (omega arith)
 
+-- what holds of each two digits
+digits : (P : ℕ → ℕ → Type 0) → P 0 0 → P 0 1 → P 1 0 → P 1 1 → (d e : ℕ) → d < 2 → e < 2 → P d e
+digits P a b c f zero zero h k = a
+digits P a b c f zero (suc zero) h k = b
+digits P a b c f zero (suc (suc e)) h k = absurd (omega arith)
+digits P a b c f (suc zero) zero h k = c
+digits P a b c f (suc zero) (suc zero) h k = f
+digits P a b c f (suc zero) (suc (suc e)) h k = absurd (omega arith)
+digits P a b c f (suc (suc d)) e h k = absurd (omega arith)
+
 min-both : (d e : ℕ) → d < 2 → e < 2 → eqb (min d e) 1 ≡ (eqb d 1 && eqb e 1)
-min-both zero zero h k = refl
-min-both zero (suc zero) h k = refl
-min-both zero (suc (suc e)) h k = absurd (omega arith)
-min-both (suc zero) zero h k = refl
-min-both (suc zero) (suc zero) h k = refl
-min-both (suc zero) (suc (suc e)) h k = absurd (omega arith)
-min-both (suc (suc d)) e h k = absurd (omega arith)
+min-both = digits (λ d e. eqb (min d e) 1 ≡ (eqb d 1 && eqb e 1)) refl refl refl refl
 
 min-lt : (d e : ℕ) → d < 2 → e < 2 → min d e < 2
-min-lt zero zero h k = omega arith
-min-lt zero (suc zero) h k = omega arith
-min-lt zero (suc (suc e)) h k = absurd (omega arith)
-min-lt (suc zero) zero h k = omega arith
-min-lt (suc zero) (suc zero) h k = omega arith
-min-lt (suc zero) (suc (suc e)) h k = absurd (omega arith)
-min-lt (suc (suc d)) e h k = absurd (omega arith)
+min-lt = digits (λ d e. min d e < 2) (omega arith) (omega arith) (omega arith) (omega arith)
 
 shared-cons : (n a b : ℕ) → ((eqb (a % 2) 1 && eqb (b % 2) 1) || anyShared (bitsOf n (a / 2)) (bitsOf n (b / 2)))
     ≡ anyShared (bitsOf (suc n) a) (bitsOf (suc n) b)
@@ -181,13 +179,7 @@ getD-bitsOf (suc n) m (suc i) h =
     rw (getD-bitsOf n (m / 2) i (omega arith), p)
 
 max-either : (d e : ℕ) → d < 2 → e < 2 → eqb (max d e) 1 ≡ (eqb d 1 || eqb e 1)
-max-either zero zero h k = refl
-max-either zero (suc zero) h k = refl
-max-either zero (suc (suc e)) h k = absurd (omega arith)
-max-either (suc zero) zero h k = refl
-max-either (suc zero) (suc zero) h k = refl
-max-either (suc zero) (suc (suc e)) h k = absurd (omega arith)
-max-either (suc (suc d)) e h k = absurd (omega arith)
+max-either = digits (λ d e. eqb (max d e) 1 ≡ (eqb d 1 || eqb e 1)) refl refl refl refl
 
 -- x | y, its lowest digit and the rest
 or-low : (a b : ℕ) → eqb (bitOr a b % 2) 1 ≡ (eqb (a % 2) 1 || eqb (b % 2) 1)

@@ -18,8 +18,12 @@ use Rattle.model.specs.Trace.{Turn, trace}
 abbrev pub both : Levels
 both = record { one = true; two = true }
 
+-- P2P with these levels and this metric; with both levels
+abbrev pub p2pWith : Levels → ℕ → Circuit
+p2pWith levels metric = record { kind = P2p; levels = levels; mac = 0x020000000001; priority = 64; hold = 30; metric = metric; id = 1 }
+
 abbrev pub circuit : ℕ → Circuit
-circuit metric = record { kind = P2p; levels = both; mac = 0x020000000001; priority = 64; hold = 30; metric = metric; id = 1 }
+circuit metric = p2pWith both metric
 
 -- a mode, the circuit's configured metric, a clock; T1 and T2 60
 abbrev pub settings : Mode → ℕ → ℕ → Settings

@@ -5,9 +5,7 @@ use mathlib.Core.Path.{_≡_}
 use mathlib.Core.Bool.{Bool, true, false, cond}
 use mathlib.Core.List.{List, [], _∷_, map}
 use lib.ListN.{replicate}
-use Rattle.basics.specs.declared.kind.CircuitKind.the-variants.{P2p}
 use Rattle.basics.specs.declared.levels.Levels.{Levels}
-use Rattle.settings.specs.declared.circuit.Circuit.{Circuit}
 use Rattle.settings.specs.declared.mode.Mode.{Mode}
 use Rattle.settings.specs.declared.mode.Mode.the-variants.{Restarting, Starting}
 use Rattle.settings.specs.declared.setup.Settings.{Settings}
@@ -16,7 +14,7 @@ use Rattle.model.specs.Answers.{Answer, Refused, Received, Ticked, Told,
 use Rattle.model.specs.Gateway.{Gateway, Setup, Refused as RefusedSetup, Started, setup}
 use Rattle.model.specs.Step.{Call, At, Over, CsnpComplete, NextHello, Tick, DatabaseComplete, Waiting, step}
 use Rattle.model.specs.Trace.{Turn, trace, after}
-use Rattle.model.specs.SampleFrames.{both, circuit, From}
+use Rattle.model.specs.SampleFrames.{both, p2pWith, circuit, From}
 use Rattle.model.specs.SampleStarts.{settingsOf, lanWith, bareOn, lanHello, listing, answering, timersIn, helloIn, freedIn, flagsAt}
 
 -- ---- settings
@@ -218,17 +216,14 @@ LevelsStart =
 
 -- ---- the flags call
 
--- 1 at a level that is not enabled there, on a LAN and on P2P, and at none; the numbers of each call
+-- the number of each call: 1 at a level that is not enabled there, on a LAN and on P2P, and at 0 and 3, which are no levels
 abbrev pub askFlags : Settings → List ℕ → List ℕ → Type 0
 askFlags s levels numbers = From (setup s) (λ g. map (λ k. numberOf (step g (At 1 (NextHello k)) .answer)) levels ≡ numbers)
-
-abbrev pub p2pSecond : Circuit
-p2pSecond = record { kind = P2p; levels = second; mac = 0x020000000001; priority = 64; hold = 30; metric = 10; id = 1 }
 
 abbrev pub FlagsRefused : Type 0
 FlagsRefused =
     askFlags (settingsOf Restarting 3 1 (replicate 8 (lanWith second))) (0 ∷ 1 ∷ 2 ∷ 3 ∷ []) (1 ∷ 1 ∷ 0 ∷ 1 ∷ [])
-    × askFlags (settingsOf Restarting 3 1 (replicate 8 p2pSecond)) (0 ∷ 1 ∷ 2 ∷ 3 ∷ []) (1 ∷ 1 ∷ 0 ∷ 1 ∷ [])
+    × askFlags (settingsOf Restarting 3 1 (replicate 8 (p2pWith second 10))) (0 ∷ 1 ∷ 2 ∷ 3 ∷ []) (1 ∷ 1 ∷ 0 ∷ 1 ∷ [])
 
 -- P2P gives the one answer at each of its levels
 abbrev pub FlagsOnP2p : Type 0
