@@ -32,7 +32,7 @@ WARN = -O1 -Wall -Wextra -Werror -Iinclude -Iexamples
 LINK = -Ltarget/staticlib -lisis_gr
 c:
 	@mkdir -p target/c
-	@for name in every_call levels limits stack; do \
+	@for name in every_call levels limits old_software stack; do \
 		$(CC) -std=c99 -pedantic $(WARN) tests/c/$$name.c $(LINK) -o target/c/$$name && target/c/$$name || exit 1; \
 	done
 	@for std in c99 c11; do \

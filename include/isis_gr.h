@@ -30,7 +30,7 @@ extern "C" {
 #endif
 
 #define ISIS_GR_VERSION_MAJOR 0
-#define ISIS_GR_VERSION_MINOR 9
+#define ISIS_GR_VERSION_MINOR 10
 
 /* The layout of settings and answers between this header and the archive; it rises whenever one of them changes. The code below is compiled into
    the caller, so set up hands it on: an archive of another layout refuses 12 (isis_gr_fault: ISIS_GR_SETTING_VERSION). */

@@ -1,3 +1,5 @@
 pub mod KeysLaws
+pub mod ClearLaws
 pub mod StepLaws
 pub mod SampleRuns
+pub mod SampleBare

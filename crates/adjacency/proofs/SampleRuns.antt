@@ -6,6 +6,7 @@ use mathlib.Core.Bool.{true, false}
 use Rattle.basics.specs.Octets.{hasBits}
 use Rattle.restart_tlv.specs.Flags.{RR, PR}
 use Rattle.restart_tlv.specs.declared.reader.Neighbor.the-variants.{Unnamed}
+use Rattle.restart_tlv.specs.declared.reader.RestartTlv.{RestartTlv}
 use Rattle.restart_tlv.specs.declared.reader.RestartTlv.the-variants.{Present as Tlv}
 use Rattle.restart_tlv.specs.declared.writer.Ack.the-variants.{Restart as RA, Planned as PA}
 use Rattle.basics.specs.declared.levels.Levels.{Levels}
@@ -32,22 +33,19 @@ use Rattle.adjacency.specs.declared.marks.Acknowledgement.the-variants.{
 use Rattle.adjacency.specs.declared.react.Reaction.the-variants.{Accepted}
 use Rattle.adjacency.specs.declared.duty.Csnps.the-variants.{Nothing as NoCsnps, Ordered}
 
-abbrev at : ℕ → Here
+abbrev pub at : ℕ → Here
 at clock = record { clock = clock; restarting = false; own = 0x192168001001; circuit = 1; hold = 30 }
 
-abbrev link : ThreeWayState → Link
+abbrev pub link : ThreeWayState → Link
 link state = P2p (record { state = state; ids = NoIdentifiers })
 
--- a hello of the neighbour 192168001002 with Holding Time 27, these flags, this Remaining Time and this three-way state
+-- a hello of the neighbour 192168001002 with Holding Time 27
+abbrev pub heard : RestartTlv → Link → Hello
+heard r l = record { system = 0x192168001002; hold = 27; restart = r; reverse = NoMetric; link = l }
+
+-- with these flags, this Remaining Time and this three-way state
 abbrev frame : ℕ → ℕ → ThreeWayState → Hello
-frame flags time state =
-    record {
-      system = 0x192168001002;
-      hold = 27;
-      restart = Tlv (record { bits = flags }) time Unnamed;
-      reverse = NoMetric;
-      link = link state;
-    }
+frame flags time state = heard (Tlv (record { bits = flags }) time Unnamed) (link state)
 
 abbrev kept : ℕ → Data
 kept expiry = record { expiry = expiry; suppressed = false; last = record { priority = 0; tlv = true; reverse = NoMetric } }

@@ -12,7 +12,7 @@ use Rattle.adjacency.specs.declared.record.State.{State}
 use Rattle.adjacency.specs.declared.record.State.the-variants.{Init, Up}
 use Rattle.adjacency.specs.declared.record.Record.{Record}
 use Rattle.adjacency.specs.declared.marks.Line.{Line}
-use Rattle.adjacency.specs.declared.marks.Line.the-variants.{Ordinary, One, Two, Three, Four, Five}
+use Rattle.adjacency.specs.declared.marks.Line.the-variants.{One, Two, Three, Four, Five}
 use Rattle.adjacency.specs.declared.duty.Rank.{Rank}
 use Rattle.adjacency.specs.declared.duty.Csnps.{Csnps}
 use Rattle.adjacency.specs.declared.duty.Csnps.the-variants.{Nothing, Ordered}
@@ -40,7 +40,6 @@ linkCsnps l (P2p t) outranked = Ordered l
 linkCsnps l (Lan level priority listed) outranked = cond outranked Nothing (Ordered (onlyLevel level))
 
 unfoldable pub csnpsOf : Line → Levels → Link → Bool → Csnps
-csnpsOf Ordinary l k outranked = Nothing
 csnpsOf One l k outranked = linkCsnps l k outranked
 csnpsOf Two l k outranked = Nothing
 csnpsOf Three l k outranked = Nothing

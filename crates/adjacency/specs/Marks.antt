@@ -12,7 +12,7 @@ use Rattle.adjacency.specs.declared.record.Mark.{Mark}
 use Rattle.adjacency.specs.declared.record.Mark.the-variants.{Clear, Restart, Planned}
 use Rattle.adjacency.specs.declared.record.Phase.{Phase}
 use Rattle.adjacency.specs.declared.marks.Line.{Line}
-use Rattle.adjacency.specs.declared.marks.Line.the-variants.{Ordinary, One, Two, Three, Four, Five}
+use Rattle.adjacency.specs.declared.marks.Line.the-variants.{One, Two, Three, Four, Five}
 use Rattle.adjacency.specs.declared.marks.Road.{Road}
 use Rattle.adjacency.specs.declared.marks.Times.{Times}
 use Rattle.adjacency.specs.declared.marks.Acknowledgement.{Acknowledgement}
@@ -27,17 +27,24 @@ lastLine Planned = Four
 unfoldable pub planned : Flags → Phase → Phase → Bool
 planned f before after = hasBits (f .bits) PR && (isUp before && isUp after)
 
--- 1: RR, record UP before. 2: RR, otherwise. 3: PR, record UP before and after (house). A frame with no Restart TLV takes the ordinary
--- road at once, and so does one whose TLV is ignored (RFC 8706, 3.2).
+-- 1: RR, record UP before. 2: RR, otherwise. 3: PR, record UP before and after (house). 4 and 5 otherwise.
 unfoldable pub lineBy : Flags → Mark → Phase → Phase → Line
 lineBy f mark before after =
     cond (hasBits (f .bits) RR) (cond (isUp before) One Two)
     (cond (planned f before after) Three (lastLine mark))
 
+-- Document 02, W-203: "a frame without the TLV is from now on read as one with all flags clear". The flags of an ignored TLV (RFC 8706, 3.2)
+-- choose no line either.
+abbrev pub allClear : Flags
+allClear = record { bits = 0 }
+
+abbrev pub flagsIn : RestartTlv → Flags
+flagsIn Absent = allClear
+flagsIn Ignored = allClear
+flagsIn (Present f time n) = f
+
 unfoldable pub lineOf : RestartTlv → Mark → Phase → Phase → Line
-lineOf Absent mark before after = Ordinary
-lineOf Ignored mark before after = Ordinary
-lineOf (Present f time n) mark before after = lineBy f mark before after
+lineOf tlv mark before after = lineBy (flagsIn tlv) mark before after
 
 -- "Holding" means expiry = clock + Holding Time
 abbrev pub holding : Times → ℕ
@@ -55,28 +62,26 @@ thirdExpiry t Clear = t .clock + t .remaining
 thirdExpiry t Restart = t .clock + t .remaining
 thirdExpiry t Planned = t .expiry
 
--- line 4: expiry = clock + configured time. Lines 2 and 5 and the ordinary road: Holding.
+-- line 4: expiry = clock + configured time. Lines 2 and 5: Holding.
 abbrev pub expiryBy : Line → Times → Mark → ℕ
-expiryBy Ordinary t mark = holding t
 expiryBy One t mark = firstExpiry t mark
 expiryBy Two t mark = holding t
 expiryBy Three t mark = thirdExpiry t mark
 expiryBy Four t mark = t .clock + t .configured
 expiryBy Five t mark = holding t
 
--- Line 1 clears Planned and marks Restart; line 3 clears Restart and marks Planned; lines 4 and 5 clear; the ordinary road leaves the
--- marks as they are (house), and line 2 marks nothing.
+-- Line 1 clears Planned and marks Restart; line 3 clears Restart and marks Planned; lines 4 and 5 clear; line 2 marks nothing.
 abbrev pub markBy : Line → Mark → Mark
-markBy Ordinary mark = mark
 markBy One mark = Restart
 markBy Two mark = mark
 markBy Three mark = Planned
 markBy Four mark = Clear
 markBy Five mark = Clear
 
--- SA set marks Suppressed, SA clear unmarks it, on a record of either state; without the TLV it stays as it is (house)
+-- SA set marks Suppressed, SA clear unmarks it, on a record of either state; all flags clear, SA is. An ignored TLV says nothing of SA: Suppressed
+-- stays as it was (RFC 8706, 3.2.2: "Until an IIH with the SA bit clear has been received").
 abbrev pub suppressedBy : RestartTlv → Bool → Bool
-suppressedBy Absent was = was
+suppressedBy Absent was = hasBits (allClear .bits) SA
 suppressedBy Ignored was = was
 suppressedBy (Present f time n) was = hasBits (f .bits) SA
 
@@ -96,7 +101,6 @@ remainingOf expiry clock = min (expiry - clock) 65535
 
 -- lines 1 and 2 reply RA, line 3 replies PA, with this Remaining Time
 abbrev pub replyBy : Line → ℕ → Acknowledgement
-replyBy Ordinary time = Nothing
 replyBy One time = Send RestartAck time
 replyBy Two time = Send RestartAck time
 replyBy Three time = Send PlannedAck time

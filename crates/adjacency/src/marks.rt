@@ -7,11 +7,10 @@ use restart_tlv::reader::RestartTlv;
 use restart_tlv::writer::Ack;
 ghost use mathlib.Core.Path.{_≡_};
 ghost use Prim.Native.Nat.{_+_};
-ghost use Rattle.adjacency.specs.Marks.{planned, lastLine, lineBy, firstExpiry, thirdExpiry, expiryBy, markBy, roadOf, remainingOf, replyBy};
+ghost use Rattle.adjacency.specs.Marks.{planned, lastLine, lineBy, firstExpiry, thirdExpiry, expiryBy, markBy, suppressedBy, roadOf, remainingOf, replyBy};
 
-// The line of document 01 that fits a frame; Ordinary is the road of a frame with no Restart TLV.
+// The line of document 01 that fits a frame.
 pub enum Line {
-    Ordinary,
     One,
     Two,
     Three,
@@ -80,10 +79,26 @@ fn line_by(flags: Flags, mark: Mark, phase: Phase, after: Phase) -> Line
     last_line(mark)
 }
 
-// A frame with no Restart TLV takes the ordinary road at once; the record is Suppressed after it where it was before.
+// SA, which is clear in a frame with no Restart TLV; an ignored one leaves the record as it was.
+fn is_suppressed_by(tlv: RestartTlv, was: bool) -> bool
+    ensures { λ r. ⌜ r ≡ suppressedBy tlv was ⌝ }
+{
+    match tlv {
+        RestartTlv::Absent => false,
+        RestartTlv::Ignored => was,
+        RestartTlv::Present {
+            flags,
+            time: _,
+            neighbor: _,
+        } => flags.has(Flags::SA),
+    }
+}
+
+// A frame with no Restart TLV, or with one that is ignored, leaves at once by the rule of flags clear.
 pub fn road_of(tlv: RestartTlv, mark: Mark, was: bool, phase: Phase, after: Phase) -> Road
     ensures { λ r. ⌜ r ≡ roadOf tlv mark was phase after ⌝ }
 {
+    let suppressed = is_suppressed_by(tlv, was);
     let RestartTlv::Present {
         flags,
         time,
@@ -91,13 +106,12 @@ pub fn road_of(tlv: RestartTlv, mark: Mark, was: bool, phase: Phase, after: Phas
     } = tlv
     else {
         return Road {
-            line: Line::Ordinary,
+            line: last_line(mark),
             time: 0,
-            suppressed: was,
+            suppressed,
         };
     };
     let line = line_by(flags, mark, phase, after);
-    let suppressed = flags.has(Flags::SA);
     Road {
         line,
         time,
@@ -136,7 +150,6 @@ pub fn expiry_by(line: Line, times: Times, mark: Mark) -> u64
     ensures { λ r. ⌜ r ≡ expiryBy line times mark ⌝ }
 {
     match line {
-        Line::Ordinary => from_clock(times.clock, times.hold),
         Line::One => first_expiry(times, mark),
         Line::Two => from_clock(times.clock, times.hold),
         Line::Three => third_expiry(times, mark),
@@ -150,7 +163,6 @@ pub fn mark_by(line: Line, mark: Mark) -> Mark
     ensures { λ r. ⌜ r ≡ markBy line mark ⌝ }
 {
     match line {
-        Line::Ordinary => mark,
         Line::One => Mark::Restart,
         Line::Two => mark,
         Line::Three => Mark::Planned,
@@ -178,7 +190,6 @@ pub fn reply_by(line: Line, time: u16) -> Acknowledgement
     ensures { λ r. ⌜ r ≡ replyBy line time ⌝ }
 {
     match line {
-        Line::Ordinary => Acknowledgement::Nothing,
         Line::One => Acknowledgement::Send(Ack::Restart, time),
         Line::Two => Acknowledgement::Send(Ack::Restart, time),
         Line::Three => Acknowledgement::Send(Ack::Planned, time),

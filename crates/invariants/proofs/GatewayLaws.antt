@@ -24,7 +24,7 @@ use Rattle.settings.specs.declared.circuit.Chosen.the-variants.{Known, Unknown}
 use Rattle.timers.specs.Hellos.{Hellos}
 use Rattle.model.specs.Gateway.{Room, Gateway, numbered, renew, noRoom, roomOf, newRoom, newGateway, Started, setup}
 use Rattle.model.specs.Step.{sweptRoom}
-use Rattle.invariants.specs.Invariants.{Each, end, roomFor, Span, KeyFits}
+use Rattle.invariants.specs.Invariants.{Each, end, roomFor, Span, Unmarked, KeyFits}
 use Rattle.invariants.proofs.CommonLaws.{known-stands, CommonOk, common-new}
 use Rattle.invariants.proofs.InRange.{circuit-hold}
 use Rattle.invariants.proofs.RoomLaws.{each-put, each-sweep, NoRecords, no-records-each, no-records-gather, empty-no-records, openPlaces, empty-places, places-put, places-sweep, single-sweep, single-put}
@@ -43,6 +43,7 @@ KeyOf own Unknown k = Unit {0}
 
 pub record RoomOk (own : ℕ) (x : Chosen) (clock : ℕ) (t : List Slot) : Type 0 where
   pub spans : Each (λ r. Span clock (expiryOf (r .state))) t
+  pub bare : Each (λ r. Unmarked (r .state)) t
   pub keys : Each (λ r. KeyOf own x (r .key)) t
   pub single : (k : Key) → length (gather k t) ≤ 1
   pub size : Size x t
@@ -53,14 +54,15 @@ module _ (t : List Slot) (b : NoRecords t) where
   single-no-records k = rw (no-records-gather k t b) (omega arith)
 
   no-records-ok : (own : ℕ) (x : Chosen) (clock : ℕ) → Size x t → RoomOk own x clock t
-  no-records-ok own x clock z = record { spans = no-records-each t b; keys = no-records-each t b; single = single-no-records; size = z }
+  no-records-ok own x clock z = record { spans = no-records-each t b; bare = no-records-each t b; keys = no-records-each t b; single = single-no-records; size = z }
 
 -- a record put
 pub room-put : (own : ℕ) (s : Circuit) (clock : ℕ) (t : List Slot) (k : Key) (v : State) → RoomOk own (Known s) clock t → crowded k t ≡ false
-    → Span clock (expiryOf v) → KeyFits own s k → RoomOk own (Known s) clock (put k v t)
-room-put own s clock t k v ok free span key =
+    → Span clock (expiryOf v) → Unmarked v → KeyFits own s k → RoomOk own (Known s) clock (put k v t)
+room-put own s clock t k v ok free span bare key =
     record {
       spans = each-put k v span t (ok .spans);
+      bare = each-put k v bare t (ok .bare);
       keys = each-put k v key t (ok .keys);
       single = λ j. single-put t (ok .single) j k v free;
       size = by (ok .size);
@@ -79,6 +81,7 @@ pub room-sweep : (own : ℕ) (x : Chosen) (old clock : ℕ) (p : State → Bool)
 room-sweep own x old clock p t f ok =
     record {
       spans = each-sweep p (λ r. f (r .state)) t (ok .spans);
+      bare = each-sweep p (λ r e q. q) t (ok .bare);
       keys = each-sweep p (λ r e q. q) t (ok .keys);
       single = λ k. single-sweep t (ok .single) k p;
       size = size-sweep x p t (ok .size);

@@ -30,7 +30,7 @@ use Rattle.model.specs.Gateway.{Gateway, roomOf, recordAt}
 use Rattle.model.specs.Receive.{receive}
 use Rattle.model.specs.Step.{Call, At, Over, Receive, Tick, act, lift, on, noneOf, tickOf, judge, carry, step}
 use Rattle.model.specs.Trace.{trace, leftBy, after}
-use Rattle.invariants.specs.Invariants.{Octets, AllFit, none, more, Each, records, roomFor, TrueTime, TrueReplies, AboveClock, TickSweeps, Bounded, KeysFit, NearExpiries, Invariant, Invariants}
+use Rattle.invariants.specs.Invariants.{Octets, AllFit, none, more, Each, records, roomFor, TrueTime, TrueReplies, AboveClock, TickSweeps, Bounded, KeysFit, NearExpiries, BareUnmarked, Invariant, Invariants}
 use Rattle.invariants.proofs.RoomLaws.{each-sweep, no-records-each, no-records-records, openPlaces, records-places}
 use Rattle.invariants.proofs.GatewayLaws.{Size, places-of, none-of, RoomOk, RoomsOk, renew-same, swept-at, Holds, setup-holds}
 use Rattle.invariants.proofs.CommonLaws.{act-keeps, step-moves}
@@ -79,6 +79,9 @@ module _ (g : Gateway) (h : RoomsOk g) where
 
   near-expiries : NearExpiries g
   near-expiries = record { near = λ n. h .rooms n .spans }
+
+  bare-unmarked : BareUnmarked g
+  bare-unmarked = record { unmarked = λ n. h .rooms n .bare }
 
   -- ---- ticks
 
@@ -130,6 +133,7 @@ holds-invariant s g h =
       rooms = bounded g (h .rooms);
       keys = keys-fit g (h .rooms);
       expiries = near-expiries g (h .rooms);
+      bare = bare-unmarked g (h .rooms);
       settings = h .common .settings;
       quiet = h .common .quiet;
       restarts = h .common .restarts;

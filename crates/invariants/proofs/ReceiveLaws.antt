@@ -47,7 +47,7 @@ use Rattle.model.specs.Gateway.{Room}
 use Rattle.model.specs.Receive.{Acted, refuse, hereOf, accepted, reacted, decidedIn, checked, readIn, receive}
 use Rattle.invariants.specs.Invariants.{Tells, Span, LevelAndMac, KeyFits, Octets}
 use Rattle.invariants.proofs.RoomLaws.{each-find}
-use Rattle.invariants.proofs.ReactLaws.{SpanIn, Replies, Fair, refused as unfair, accepted as fair, react-fair}
+use Rattle.invariants.proofs.ReactLaws.{SpanIn, UnmarkedIn, Replies, Fair, refused as unfair, accepted as fair, react-fair}
 use Rattle.invariants.proofs.HelloBounds.{Brief, brief-read}
 use Rattle.hello.proofs.KindLaws.{Reads, refused as refused-read, accepted as brief}
 use Rattle.invariants.proofs.CommonLaws.{level-passes}
@@ -78,14 +78,14 @@ written-time system ack time b h =
 -- refusals 8 and 9 are given, or the frame's effect fits the room
 data Sound (clock : ℕ) (k : Key) (t : List Slot) : Reaction → Type 0 where
   refused : {x : Refusal} → Sound clock k t (RefusedReaction x)
-  sound : {after : Adjacency} {reply : Acknowledgement} {line : Line} → crowded k t ≡ false → SpanIn clock after → Replies clock after reply
+  sound : {after : Adjacency} {reply : Acknowledgement} {line : Line} → crowded k t ≡ false → SpanIn clock after → UnmarkedIn after → Replies clock after reply
       → (after ≡ Absent → find k t ≡ Absent) → Sound clock k t (Accepted after reply line)
 
 room-sound : (clock : ℕ) (k : Key) (t : List Slot) (a : Reaction) → Fair clock (find k t) a → Sound clock k t (ifRoom (crowded k t) a)
 unfolding ifRoom
 room-sound clock k t (RefusedReaction x) unfair = refused
-room-sound clock k t (Accepted after reply line) (fair span told gone) =
-    by-test (crowded k t) (λ e. rw e refused) (λ e. rw e (sound e span told gone))
+room-sound clock k t (Accepted after reply line) (fair span bare told gone) =
+    by-test (crowded k t) (λ e. rw e refused) (λ e. rw e (sound e span bare told gone))
 
 -- ---- the key of a frame that refusal 7 lets pass
 
@@ -126,17 +126,17 @@ module _ (c : Common) (s : Circuit) (r : Room) (hold : s .hold ≤ 65535) (ok : 
 
   -- ---- the stages
 
-  kept-ok : (k : Key) (after : Adjacency) → KeyFits (c .system) s k → crowded k (r .slots) ≡ false → SpanIn (c .clock) after
+  kept-ok : (k : Key) (after : Adjacency) → KeyFits (c .system) s k → crowded k (r .slots) ≡ false → SpanIn (c .clock) after → UnmarkedIn after
       → RoomOk (c .system) (Known s) (c .clock) (kept k after (r .slots))
   unfolding kept
-  kept-ok k Absent key free span = ok
-  kept-ok k (Present v) key free span = room-put (c .system) s (c .clock) (r .slots) k v ok free span key
+  kept-ok k Absent key free span bare = ok
+  kept-ok k (Present v) key free span bare = room-put (c .system) s (c .clock) (r .slots) k v ok free span bare key
 
   module _ (n : ℕ) (h : Hello) (k : Key) (key : KeyFits (c .system) s k) (b : List ℕ) where
     reacted-ok : (a : Reaction) → Sound (c .clock) k (r .slots) a → ActOk c s (reacted n s h k b a c r)
     unfolding reacted accepted refuse
     reacted-ok (RefusedReaction x) refused = ok
-    reacted-ok (Accepted after reply line) (sound free span told gone) = kept-ok k after key free span
+    reacted-ok (Accepted after reply line) (sound free span bare told gone) = kept-ok k after key free span bare
 
   module _ (n mac : ℕ) (b : List ℕ) where
     checked-ok : (h : Hello) → h .hold ≤ 65535 → timeIn (h .restart) ≤ 65535 → kindOf (h .link) ≡ s .kind → ActOk c s (checked n s mac b h c r)
@@ -185,7 +185,7 @@ module _ (c : Common) (s : Circuit) (r : Room) (hold : s .hold ≤ 65535) (ok : 
     reacted-reply : (a : Reaction) → Sound (c .clock) k (r .slots) a → ReplyOk (c .clock) k (reacted n s h k b a c r)
     unfolding reacted
     reacted-reply (RefusedReaction x) refused = refuse-reply k b x
-    reacted-reply (Accepted after reply line) (sound free span told gone) =
+    reacted-reply (Accepted after reply line) (sound free span bare told gone) =
         accepted-reply after reply line told (kept-found k after free gone)
 
   module _ (n mac : ℕ) (b : List ℕ) where

@@ -16,7 +16,10 @@ use Rattle.adjacency.specs.Record.{expiryOf}
 use Rattle.adjacency.specs.declared.record.Adjacency.{Adjacency}
 use Rattle.adjacency.specs.declared.record.Adjacency.the-variants.{Absent, Present}
 use Rattle.adjacency.specs.declared.record.Key.{Key}
+use Rattle.adjacency.specs.declared.record.Mark.the-variants.{Clear}
 use Rattle.adjacency.specs.declared.record.Record.{Record}
+use Rattle.adjacency.specs.declared.record.State.{State}
+use Rattle.adjacency.specs.declared.record.State.the-variants.{Init, Up}
 use Rattle.adjacency.specs.declared.place.Slot.{Slot}
 use Rattle.adjacency.specs.declared.place.Slot.the-variants.{Free, Held, Closed}
 use Rattle.room.specs.Gather.{gather}
@@ -142,6 +145,17 @@ pub record Span (clock expiry : ℕ) : Type 0 where
 pub record NearExpiries (g : Gateway) : Type 0 where
   pub near : (n : ℕ) → Each (λ r. Span (g .common .clock) (expiryOf (r .state))) (roomOf g n .slots)
 
+-- ---- document 02, W-203: a frame without the TLV "ends Suppressed, Restart and Planned"
+
+-- where a record's last accepted frame had no Restart TLV, none is marked
+abbrev pub Unmarked : State → Type 0
+Unmarked (Init d) = d .last .tlv ≡ false → d .suppressed ≡ false
+Unmarked (Up d m) = d .last .tlv ≡ false → (d .suppressed ≡ false) × (m ≡ Clear)
+
+-- .. so that such a record, where it is UP, is advertised
+pub record BareUnmarked (g : Gateway) : Type 0 where
+  pub unmarked : (n : ℕ) → Each (λ r. Unmarked (r .state)) (roomOf g n .slots)
+
 -- ---- document 01, "What the gateway holds": "Setup takes these": no other call does
 
 pub record SetupSettings (s : Settings) (c : Common) : Type 0 where
@@ -215,6 +229,7 @@ pub record Invariant (s : Settings) (g : Gateway) : Type 0 where
   pub rooms : Bounded g
   pub keys : KeysFit g
   pub expiries : NearExpiries g
+  pub bare : BareUnmarked g
   pub settings : SetupSettings s (g .common)
   pub quiet : Quiet (g .common .timers)
   pub restarts : Restarts s (g .common .timers)

@@ -132,7 +132,8 @@ shown (Ticked lost hellos t) = (0, false)
 abbrev pub looking : Call
 looking = At 1 (LookUp (record { level = 0; system = 0x192168001002; mac = 0 }))
 
--- "A record is advertised exactly when it is UP and not Suppressed": UP; UP with SA (4); INIT (three-way Down) without SA; none
+-- "A record is advertised exactly when it is UP and not Suppressed": UP; UP with SA (4); UP, after a frame without the Restart TLV (document 02,
+-- W-203); INIT (three-way Down) without SA; none
 abbrev pub Advertised : Type 0
 Advertised =
     OnSample
@@ -140,8 +141,17 @@ Advertised =
     map shown
     (answers
     (trace g
-    (looking ∷ receive (hello 0 (4 ∷ [])) ∷ looking ∷ receive (hello 2 (0 ∷ [])) ∷ looking ∷ Over (Tick 200) ∷ looking ∷ [])))
-    ≡ (2, true) ∷ (0, false) ∷ (2, false) ∷ (0, false) ∷ (1, false) ∷ (0, false) ∷ (0, false) ∷ [])
+    (looking
+    ∷ receive (hello 0 (4 ∷ []))
+    ∷ looking
+    ∷ receive (frameWith 0 [])
+    ∷ looking
+    ∷ receive (hello 2 (0 ∷ []))
+    ∷ looking
+    ∷ Over (Tick 200)
+    ∷ looking
+    ∷ [])))
+    ≡ (2, true) ∷ (0, false) ∷ (2, false) ∷ (0, false) ∷ (2, true) ∷ (0, false) ∷ (1, false) ∷ (0, false) ∷ (0, false) ∷ [])
 
 -- clear: 1 where there is no such circuit; else the record is gone, and the next hello is a new neighbour's (three-way Down gives INIT)
 abbrev pub Clears : Type 0

@@ -37,7 +37,6 @@ pub fn csnps_in(words: &[u64], rank: Rank, line: Line, levels: Levels, link: Lin
     ensures { λ r. ⌜ r ≡ csnpsIn rank line levels link (tableOf (now (words .entry))) ⌝ }
 {
     match line {
-        Line::Ordinary => Csnps::Nothing,
         Line::One => line_one_csnps(words, rank, levels, link),
         Line::Two => Csnps::Nothing,
         Line::Three => Csnps::Nothing,

@@ -3,13 +3,14 @@ use crate::calls::{call, mode, named, settings, spoilt, Call, Now};
 use crate::coverage::Coverage;
 use crate::frames::{mac, system, Meant, MACS, SYSTEMS};
 use crate::levels::ByLevel;
+use crate::marks::{self, is_up, Took};
 use crate::proved::Proved;
 use crate::random::Random;
 use crate::reference::Reference;
 use crate::side::{Answer, Outcome, Side, UNTOUCHED};
 use crate::starting::Start;
 use crate::watch::{timers_of, Seen, Watch};
-use isis_gr::{Ack, Flags, Freed, Hellos, Mark, Overload, Phase, Received, Record, Refusal, Timers};
+use isis_gr::{Ack, Flags, Freed, Hellos, Overload, Received, Record, Refusal, Timers};
 use isis_gr_reference::{Kind, Mac, Mode, Settings, MAX_CIRCUITS};
 use isis_gr_sys::GATEWAY_WORDS;
 
@@ -34,41 +35,6 @@ fn timers(c: &mut Coverage, t: Timers) {
     c.hit_if(t.overload() == Overload::Set, "overload set");
     c.hit_if(t.overload() == Overload::Clear, "overload clear");
     c.hit_if(t.overload() == Overload::Both, "overload both");
-}
-
-fn is_up(record: Option<Record>) -> bool {
-    record.is_some_and(|r| r.phase != Phase::Init)
-}
-
-fn mark_name(stood: Option<Record>) -> &'static str {
-    match stood.map(|r| r.phase) {
-        None => "no record",
-        Some(Phase::Init) => "INIT",
-        Some(Phase::Up(Mark::Clear)) => "UP",
-        Some(Phase::Up(Mark::Restart)) => "Restart",
-        Some(Phase::Up(Mark::Planned)) => "Planned",
-        Some(other) => panic!("{other:?} has no name"),
-    }
-}
-
-/// Which line of document 01 an accepted frame took, by its flags and the record before and after.
-fn line(c: &mut Coverage, flags: Option<u8>, stood: Option<Record>, after: Option<Record>) {
-    let up = is_up(stood);
-    let from = mark_name(stood);
-    let counted = flags.map(|f| if f & 1 == 1 { f & 0x1F & !8 } else { f & 0x1F });
-    let valid = counted.filter(|f| f.count_ones() < 2 || *f == 5);
-    let name = match valid {
-        None => {
-            c.hit_if(flags.is_some(), "ordinary, TLV ignored");
-            format!("ordinary, from {from}")
-        }
-        Some(f) if f & 1 == 1 && up => format!("line 1, from {from}"),
-        Some(f) if f & 1 == 1 => format!("line 2, from {from}"),
-        Some(f) if f & 8 == 8 && up && is_up(after) => format!("line 3, from {from}"),
-        Some(_) if from == "Planned" => "line 4".to_owned(),
-        Some(_) => format!("line 5, from {from}"),
-    };
-    c.hit(&name);
 }
 
 /// The branch of a refused call.
@@ -171,7 +137,8 @@ impl Pair {
         c.hit_if(got.reply.is_some() && after.is_none(), "reply RA, no record");
         let line1 = meant.flags.is_some_and(|f| f & 1 == 1) && is_up(stood) && got.reply.is_some();
         c.hit_if(line1 && lan && got.csnps.is_empty(), "no CSNPs on a LAN: another has the duty");
-        line(c, meant.flags, stood, after);
+        let configured = self.settings.circuits[usize::from(n) - 1].hold;
+        marks::count(c, meant, &Took { lan, clock: self.watch.clock, configured, stood, after });
         c.hit_if(stood.is_none() && after.is_none(), "no record, and none is kept");
         c.hit_if(is_up(stood) && (meant.wrong_system || meant.wrong_circuit), "wrong ID excused by RR on an UP record");
         c.hit_if(!is_up(stood) && meant.wrong_circuit, "wrong circuit ID excused while Restarting");

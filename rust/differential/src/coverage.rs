@@ -1,5 +1,6 @@
 //! How often each branch of the definitions was reached. A branch that was never reached is a failure of the test.
 use crate::levels;
+use crate::marks;
 use std::collections::BTreeMap;
 
 /// Counts by the branch's name.
@@ -25,28 +26,9 @@ fn branches() -> Vec<String> {
         "setup refused 12",
         "circuit 0, or above 8",
         "level that is neither 1 nor 2",
-        "ordinary, from no record",
-        "ordinary, from INIT",
-        "ordinary, from UP",
-        "ordinary, from Planned",
-        "ordinary, from Restart",
-        "ordinary, TLV ignored",
         "no record, and none is kept",
         "wrong ID excused by RR on an UP record",
         "wrong circuit ID excused while Restarting",
-        "line 1, from UP",
-        "line 1, from Restart",
-        "line 1, from Planned",
-        "line 2, from no record",
-        "line 2, from INIT",
-        "line 3, from UP",
-        "line 3, from Restart",
-        "line 3, from Planned",
-        "line 4",
-        "line 5, from no record",
-        "line 5, from INIT",
-        "line 5, from UP",
-        "line 5, from Restart",
         "reply RA",
         "reply RA, no record",
         "reply PA",
@@ -113,6 +95,7 @@ fn branches() -> Vec<String> {
     ] {
         all.push(text.to_owned());
     }
+    all.extend(marks::branches());
     all.extend(levels::branches());
     all
 }

@@ -28,6 +28,8 @@ pub struct Meant {
     pub system: u8,
     /// The level, 0 of P2P.
     pub level: u8,
+    /// Its Holding Time.
+    pub hold: u16,
     /// The flags of its one Restart TLV, if it has one that is well formed.
     pub flags: Option<u8>,
     /// That TLV has RA alone, and on a LAN it names us.
@@ -186,5 +188,5 @@ pub fn frame(r: &mut Random, circuit: &CircuitSettings) -> (Vec<u8>, Meant) {
     let flags = restarts.map(|(flags, ..)| flags);
     let remaining = restarts.map_or(0, |(_, time, _)| time);
     let acknowledges = restarts.is_some_and(|(flags, _, names_us)| flags & 0x1F == 2 && (p2p || names_us));
-    (out, Meant { system: from, level, flags, acknowledges, remaining, shows_up, wrong_system, wrong_circuit, damaged })
+    (out, Meant { system: from, level, hold, flags, acknowledges, remaining, shows_up, wrong_system, wrong_circuit, damaged })
 }

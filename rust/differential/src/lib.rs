@@ -8,6 +8,7 @@ pub mod coverage;
 pub mod frames;
 pub mod isolation;
 pub mod levels;
+pub mod marks;
 pub mod proved;
 pub mod random;
 pub mod reference;

@@ -138,17 +138,19 @@ pub(crate) fn react(hello: &Hello, before: Option<&Record>, own: &Own) -> Reacti
     Reaction { record: Some(record), reply, kept_up: was_up && hello.restart.has(Flags::RR) }
 }
 
-/// The ordinary road, or the first of lines 1 to 5 that fits, and mark Suppressed.
+/// The first of lines 1 to 5 that fits, and mark Suppressed. A frame without the TLV is read as one with all flags clear (document 02, W-203). One
+/// whose TLV is ignored says nothing of SA, so Suppressed stays (RFC 8706, 3.2.2).
 fn set_marks(record: &mut Record, was_up: bool, hello: &Hello, own: &Own) -> Option<ReplyKind> {
     let clock = u64::from(own.clock);
     let holding = clock + u64::from(hello.hold);
     let configured = clock + u64::from(own.hold);
-    let RestartTlv::Present { flags, remaining, .. } = hello.restart else {
-        // All marks stay (house).
-        record.expiry = holding;
-        return None;
+    let (flags, remaining) = match hello.restart {
+        RestartTlv::Absent | RestartTlv::Ignored => (Flags::NONE, 0),
+        RestartTlv::Present { flags, remaining, .. } => (flags, remaining),
     };
-    record.suppressed = flags.has(Flags::SA);
+    if hello.restart != RestartTlv::Ignored {
+        record.suppressed = flags.has(Flags::SA);
+    }
 
     if flags.has(Flags::RR) {
         if was_up {

@@ -104,29 +104,45 @@ fn rr_with_three_way_up_and_no_record_replies_0_and_keeps_nothing() {
     assert_eq!(run.accept(&Hello::p2p(UP)).reply, None);
 }
 
-#[test]
-fn frame_without_the_tlv_holds_and_keeps_all_marks() {
-    let mut run = p2p_up(100, 10);
-    run.accept(&Hello::p2p(UP).restart(PR, 300));
-    run.tick(110);
-    run.accept(&Hello::p2p(UP).hold(20));
-    assert_eq!((run.record().mark, run.record().expiry, run.record().tlv), (Mark::Planned, 130, false));
+/// A circuit of each kind, and on it a hello that leaves the record UP and one that leaves it INIT; both lack the Restart TLV.
+fn kinds() -> [(CircuitSettings, Hello, Hello); 2] {
+    [(p2p(), Hello::p2p(INITIALIZING), Hello::p2p(DOWN)), (lan(), Hello::lan_up(1), Hello::lan(1))]
+}
 
-    let mut run = p2p_up(100, 10);
-    run.accept(&Hello::p2p(UP).restart(RR | SA, 0));
-    run.accept(&Hello::p2p(UP).hold(40));
-    let record = run.record();
-    assert_eq!((record.mark, record.expiry, record.suppressed), (Mark::Restart, 140, true));
+/// Document 02, W-203; the configured time is 30.
+#[test]
+fn a_frame_without_the_tlv_is_read_as_one_with_all_flags_clear() {
+    for (circuit, up, init) in kinds() {
+        for (flags, mark, expiry) in [(SA, Mark::Clear, 150), (RR, Mark::Restart, 150), (RR | SA, Mark::Restart, 150), (PR, Mark::Planned, 140)] {
+            for (last, stays_up) in [(&up, true), (&init, false)] {
+                let mut run = Run::running(std::slice::from_ref(&circuit));
+                run.tick(100);
+                run.accept(&up);
+                run.accept(&up.clone().restart(flags, 300));
+                assert_eq!((run.record().mark, run.record().suppressed, run.record().tlv), (mark, flags & SA != 0, true));
+                run.tick(110);
+                let mut clear = run.clone();
+                let answer = run.accept(&last.clone().hold(40));
+                let record = run.record();
+                assert_eq!((record.mark, record.suppressed, record.tlv), (Mark::Clear, false, false));
+                assert_eq!((record.up, record.advertised(), record.expiry), (stays_up, stays_up, expiry), "flags {flags}");
+                assert_eq!(answer, clear.accept(&last.clone().hold(40).restart(0, 0)));
+                assert_eq!(Record { tlv: true, ..record }, clear.record());
+            }
+        }
+    }
 }
 
 #[test]
-fn frame_without_the_tlv_that_gives_init_drops_restart_and_planned_but_not_suppressed() {
-    for flags in [RR | SA, PR] {
-        let mut run = p2p_up(0, 27);
-        run.accept(&Hello::p2p(UP).restart(flags, 50));
-        run.accept(&Hello::p2p(DOWN));
-        let record = run.record();
-        assert_eq!((record.up, record.mark, record.suppressed), (false, Mark::Clear, flags & SA != 0));
+fn a_frame_without_the_tlv_ends_suppressed_of_an_init_record_too() {
+    for (circuit, up, init) in kinds() {
+        for (last, stays_up) in [(&up, true), (&init, false)] {
+            let mut run = Run::running(std::slice::from_ref(&circuit));
+            run.accept(&init.clone().restart(SA, 0));
+            assert_eq!((run.record().up, run.record().suppressed), (false, true));
+            run.accept(last);
+            assert_eq!((run.record().up, run.record().suppressed, run.record().expiry), (stays_up, false, 27));
+        }
     }
 }
 
@@ -192,8 +208,8 @@ fn sa_marks_and_unmarks_suppressed_in_either_state() {
     for state in [DOWN, INITIALIZING] {
         run.accept(&Hello::p2p(state).restart(SA, 0));
         assert!(run.record().suppressed && !run.record().advertised());
-        run.accept(&Hello::p2p(state));
-        assert!(run.record().suppressed);
+        run.accept(&Hello::p2p(state).restart(RA | PA, 0));
+        assert!(run.record().suppressed, "the TLV is ignored");
         run.accept(&Hello::p2p(state).restart(0, 0));
         assert_eq!((run.record().suppressed, run.record().advertised()), (false, state == INITIALIZING));
     }
@@ -233,11 +249,20 @@ fn flags_that_may_not_stand_together_are_ignored() {
 }
 
 #[test]
-fn ignored_flags_take_the_ordinary_road_while_planned() {
-    let mut run = p2p_up(0, 27);
-    run.accept(&Hello::p2p(UP).restart(PR, 300));
-    run.accept(&Hello::p2p(UP).restart(RR | RA, 300).hold(50));
-    assert_eq!((run.record().mark, run.record().expiry), (Mark::Planned, 50));
+fn ignored_flags_end_restart_and_planned_but_not_suppressed() {
+    for (circuit, up, init) in kinds() {
+        for (flags, expiry) in [(PR, 30), (RR, 50), (RR | SA, 50)] {
+            for (last, stays_up) in [(&up, true), (&init, false)] {
+                let mut run = Run::running(std::slice::from_ref(&circuit));
+                run.accept(&up);
+                run.accept(&up.clone().restart(flags, 300));
+                run.accept(&last.clone().restart(RR | RA, 300).hold(50));
+                let record = run.record();
+                assert_eq!((record.up, record.mark, record.expiry), (stays_up, Mark::Clear, expiry), "flags {flags}");
+                assert_eq!((record.suppressed, record.tlv), (flags & SA != 0, true), "flags {flags}");
+            }
+        }
+    }
 }
 
 #[test]

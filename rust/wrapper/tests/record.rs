@@ -48,6 +48,17 @@ fn a_suppressed_record_is_up_and_not_advertised() {
 }
 
 #[test]
+fn a_neighbour_that_went_back_to_old_software_is_advertised_again() {
+    let mut g = gateway(Mode::Running);
+    p2p(&mut g, INITIALIZING, RR | SA);
+    assert_eq!(p2p(&mut g, UP, RR | SA), (Standing::Up, Standing::Up, false));
+    let old = frame(17, router(2), &[tlv(240, &[UP])]);
+    assert!(receive(&mut g, P2P, &old).expect("accepted").change.advertised, "no Restart TLV: all flags clear");
+    let record = g.look_up_p2p(P2P, router(2)).expect("a circuit").expect("a record");
+    assert_eq!((record.phase, record.suppressed, record.tlv), (Phase::Up(Mark::Clear), false, false));
+}
+
+#[test]
 fn on_a_lan_the_key_has_the_level() {
     let mut g = gateway(Mode::Running);
     for (lists_us, before, after) in

@@ -1,27 +1,40 @@
--- A TLV that counts gives its line, its time and SA; `not-present` covers the ordinary road.
+-- A TLV that counts gives its line and its time; without one, or with one that is ignored, all flags are clear.
 use Rattle.restart_tlv.proofs.RestartLaws.{not-present}
 use Rattle.adjacency.specs.Marks.{lineOf}
-use mathlib.Core.Logic.{⊎-elim}
+use Rattle.adjacency.proofs.ClearLaws.{clear-road}
 use borrow.Author.Needs.{needs}
 use Rattle.adjacency.proofs.marks.road_of.Statement.{statement}
 use Rattle.adjacency.proofs.marks.road_of.Tie as tie
 
+is-suppressed-by-requires : tie.Need-is-suppressed-by-requires
+is-suppressed-by-requires c κs = search needs
+
 enum-known-tlv : tie.Need-enum-known-tlv
 enum-known-tlv c = search needs
 
+last-line-requires : tie.Need-last-line-requires
+last-line-requires c κs = search needs
+
 returns : tie.Need-returns
-unfolding lineOf
-returns c = ⊎-elim (λ e. rw e) (λ e. rw e) (not-present (c .before .args .tlv) (c .match .keys2))
+returns c =
+    let s = c .before .before .before .args in
+    rw (c .last-line .ensures, c .before .before .is-suppressed-by .ensures)
+    (clear-road (s .tlv) (s .mark) (s .was) (s .phase) (s .after) (not-present (s .tlv) (c .before .match .keys2)))
 
 line-by-requires : tie.Need-line-by-requires
 line-by-requires c κs = search needs
 
-has-requires : tie.Need-has-requires
-has-requires c κs = search needs
-
 returns-2 : tie.Need-returns-2
 unfolding lineOf
-returns-2 c = rw (c .before .before .before .tlv .given .1, c .before .line-by .ensures, c .has .ensures)
+returns-2 c = rw (c .line-by .ensures, c .before .before .before .before .is-suppressed-by .ensures, c .before .before .tlv .given .1)
 
 pub road-of-spec : {M : Type 1} → statement M
-road-of-spec = tie.close (tie.spec enum-known-tlv returns line-by-requires has-requires returns-2)
+road-of-spec =
+    tie.close
+    (tie.spec
+    is-suppressed-by-requires
+    enum-known-tlv
+    last-line-requires
+    returns
+    line-by-requires
+    returns-2)

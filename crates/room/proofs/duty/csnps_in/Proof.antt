@@ -8,11 +8,11 @@ use Rattle.room.proofs.duty.csnps_in.Tie as tie
 enum-told : tie.Need-enum-told
 enum-told c = search needs
 
-enum-told-2 : tie.Need-enum-told-2
-enum-told-2 c = search needs
-
 line-one-csnps-requires : tie.Need-line-one-csnps-requires
 line-one-csnps-requires c κs = search needs
+
+enum-told-2 : tie.Need-enum-told-2
+enum-told-2 c = search needs
 
 enum-told-3 : tie.Need-enum-told-3
 enum-told-3 c = search needs
@@ -23,15 +23,12 @@ enum-told-4 c = search needs
 enum-told-5 : tie.Need-enum-told-5
 enum-told-5 c = search needs
 
-enum-told-6 : tie.Need-enum-told-6
-enum-told-6 c = search needs
-
 returns : tie.Need-returns
-unfolding csnpsIn csnpsOf
-returns c = search needs
+returns c = rw (c .before .enum-told .given .1) (c .line-one-csnps .ensures)
 
 returns-2 : tie.Need-returns-2
-returns-2 c = rw (c .before .enum-told2 .given .1) (c .line-one-csnps .ensures)
+unfolding csnpsIn csnpsOf
+returns-2 c = search needs
 
 returns-3 : tie.Need-returns-3
 unfolding csnpsIn csnpsOf
@@ -45,24 +42,18 @@ returns-5 : tie.Need-returns-5
 unfolding csnpsIn csnpsOf
 returns-5 c = search needs
 
-returns-6 : tie.Need-returns-6
-unfolding csnpsIn csnpsOf
-returns-6 c = search needs
-
 pub csnps-in-spec : {M : Type 1} → statement M
 csnps-in-spec =
     tie.close
     (tie.spec
     enum-told
-    enum-told-2
     line-one-csnps-requires
+    enum-told-2
     enum-told-3
     enum-told-4
     enum-told-5
-    enum-told-6
     returns
     returns-2
     returns-3
     returns-4
-    returns-5
-    returns-6)
+    returns-5)
