@@ -78,8 +78,8 @@ markBy Three mark = Planned
 markBy Four mark = Clear
 markBy Five mark = Clear
 
--- SA set marks Suppressed, SA clear unmarks it, on a record of either state; all flags clear, SA is. An ignored TLV says nothing of SA: Suppressed
--- stays as it was (RFC 8706, 3.2.2: "Until an IIH with the SA bit clear has been received").
+-- SA set marks Suppressed, SA clear unmarks it, on a record of either state. Where all flags are clear, SA is. An ignored TLV says nothing of SA, so
+-- Suppressed stays (RFC 8706, 3.2.2: "Until an IIH with the SA bit clear has been received").
 abbrev pub suppressedBy : RestartTlv → Bool → Bool
 suppressedBy Absent was = hasBits (allClear .bits) SA
 suppressedBy Ignored was = was

@@ -79,7 +79,7 @@ fn line_by(flags: Flags, mark: Mark, phase: Phase, after: Phase) -> Line
     last_line(mark)
 }
 
-// SA, which is clear in a frame with no Restart TLV; an ignored one leaves the record as it was.
+// SA, which is clear where there is no Restart TLV; an ignored one leaves Suppressed as it was.
 fn is_suppressed_by(tlv: RestartTlv, was: bool) -> bool
     ensures { λ r. ⌜ r ≡ suppressedBy tlv was ⌝ }
 {

@@ -105,11 +105,11 @@ fn level(r: &mut Random) -> u8 {
     }
 }
 
-/// A receive on a circuit.
+/// A receive on a circuit. Most of a router's frames come from a MAC of its own, so that on a LAN too its records see many frames.
 pub fn receive(r: &mut Random, s: &Settings, number: u8) -> Call {
     let at = usize::from(number.wrapping_sub(1)) % s.circuits.len();
     let (frame, meant) = frame(r, &s.circuits[at]);
-    let from = mac(r.below(u64::from(MACS)) as u8);
+    let from = mac(if r.chance(75) { meant.system } else { r.below(u64::from(MACS)) as u8 });
     let room = if r.chance(3) { r.below(11) as usize } else { r.pick(&[11, 12, 20]) };
     Call::Receive(number, from, frame, room, meant)
 }

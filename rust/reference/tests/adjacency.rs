@@ -113,7 +113,9 @@ fn kinds() -> [(CircuitSettings, Hello, Hello); 2] {
 #[test]
 fn a_frame_without_the_tlv_is_read_as_one_with_all_flags_clear() {
     for (circuit, up, init) in kinds() {
-        for (flags, mark, expiry) in [(SA, Mark::Clear, 150), (RR, Mark::Restart, 150), (RR | SA, Mark::Restart, 150), (PR, Mark::Planned, 140)] {
+        for (flags, mark, expiry) in
+            [(SA, Mark::Clear, 150), (RR, Mark::Restart, 150), (RR | SA, Mark::Restart, 150), (PR, Mark::Planned, 140)]
+        {
             for (last, stays_up) in [(&up, true), (&init, false)] {
                 let mut run = Run::running(std::slice::from_ref(&circuit));
                 run.tick(100);
