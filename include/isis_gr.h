@@ -174,7 +174,7 @@ typedef struct {
     uint8_t state;      /* ISIS_GR_RECORD_.. */
     uint8_t advertised; /* 1 where it goes into our LSPs: UP and not suppressed */
     uint8_t mark;       /* ISIS_GR_MARK_.. */
-    uint8_t suppressed; /* 0 or 1 */
+    uint8_t suppressed; /* 1 from a hello with SA to one with SA clear, or without the Restart TLV */
     uint8_t priority;   /* of its last accepted frame, as are the rest */
     uint8_t tlv;        /* 1 where it had a Restart TLV */
     uint8_t reverse;    /* 1 where it had a reverse metric */

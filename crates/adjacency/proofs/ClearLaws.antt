@@ -1,6 +1,6 @@
 -- A frame with no Restart TLV, or with one that is ignored, beside the same frame with all flags clear (document 02, W-203).
 use Prim.Native.Nat.{ℕ}
-use mathlib.Core.Path.{_≡_, refl, sym, _∙_}
+use mathlib.Core.Path.{_≡_, refl}
 use mathlib.Core.Bool.{Bool, true, false, cond}
 use mathlib.Core.Logic.{_⊎_, inl, inr}
 use Rattle.basics.specs.Octets.{hasBits}
@@ -46,23 +46,23 @@ clear-road tlv mark was before after e = rw (clear-line tlv mark before after e,
 abbrev carrying : RestartTlv → Hello → Hello
 carrying r h = record { system = h .system; hold = h .hold; restart = r; reverse = h .reverse; link = h .link }
 
--- the record, Suppressed or not, counted as having the TLV or not; all else as it is
-abbrev counted : Bool → Bool → Data → Data
-counted suppressed tlv d =
+-- Suppressed or not, with the TLV in its last frame or not; all else as it is
+abbrev labelled : Bool → Bool → Data → Data
+labelled suppressed tlv d =
     record {
       expiry = d .expiry;
       suppressed = suppressed;
       last = record { priority = d .last .priority; tlv = tlv; reverse = d .last .reverse };
     }
 
-abbrev countedIn : Bool → Bool → Adjacency → Adjacency
-countedIn suppressed tlv Absent = Absent
-countedIn suppressed tlv (Present (Init d)) = Present (Init (counted suppressed tlv d))
-countedIn suppressed tlv (Present (Up d m)) = Present (Up (counted suppressed tlv d) m)
+abbrev labelledIn : Bool → Bool → Adjacency → Adjacency
+labelledIn suppressed tlv Absent = Absent
+labelledIn suppressed tlv (Present (Init d)) = Present (Init (labelled suppressed tlv d))
+labelledIn suppressed tlv (Present (Up d m)) = Present (Up (labelled suppressed tlv d) m)
 
 abbrev but : Bool → Bool → Reaction → Reaction
 but suppressed tlv (Refused why) = Refused why
-but suppressed tlv (Accepted after reply line) = Accepted (countedIn suppressed tlv after) reply line
+but suppressed tlv (Accepted after reply line) = Accepted (labelledIn suppressed tlv after) reply line
 
 module _ (here : Here) (h : Hello) (before : Adjacency) (time : ℕ) (n : Neighbor) where
   abbrev clear : Hello

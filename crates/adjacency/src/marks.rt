@@ -94,11 +94,10 @@ fn is_suppressed_by(tlv: RestartTlv, was: bool) -> bool
     }
 }
 
-// A frame with no Restart TLV, or with one that is ignored, leaves at once by the rule of flags clear.
+// A frame with no Restart TLV, or with one that is ignored, leaves at once for the rule of flags clear.
 pub fn road_of(tlv: RestartTlv, mark: Mark, was: bool, phase: Phase, after: Phase) -> Road
     ensures { λ r. ⌜ r ≡ roadOf tlv mark was phase after ⌝ }
 {
-    let suppressed = is_suppressed_by(tlv, was);
     let RestartTlv::Present {
         flags,
         time,
@@ -108,14 +107,13 @@ pub fn road_of(tlv: RestartTlv, mark: Mark, was: bool, phase: Phase, after: Phas
         return Road {
             line: last_line(mark),
             time: 0,
-            suppressed,
+            suppressed: is_suppressed_by(tlv, was),
         };
     };
-    let line = line_by(flags, mark, phase, after);
     Road {
-        line,
+        line: line_by(flags, mark, phase, after),
         time,
-        suppressed,
+        suppressed: is_suppressed_by(tlv, was),
     }
 }
 

@@ -42,7 +42,7 @@ pub struct Record {
     pub advertised: bool,
     /// The clock at which a tick removes it.
     pub expiry: u64,
-    /// Mark Suppressed.
+    /// Mark Suppressed: from a hello with SA to one with SA clear, or without the Restart TLV.
     pub suppressed: bool,
     /// Of its last accepted frame the priority.
     pub priority: u8,
