@@ -28,7 +28,7 @@ use hello::read::Link;
 use restart_tlv::reader::RestartTlv;
 ghost use mathlib.Core.Path.{_≡_};
 ghost use Rattle.adjacency.specs.React.{priorityOf, hasTlv, lastOf, expiryIn, timesOf, stateAs, dataBy, remainingIn, acceptedBy, reactOf, OwnRoad};
-ghost use Rattle.adjacency.specs.Marks.{timeIn};
+ghost use Rattle.adjacency.specs.Marks.{timeIn, replyBy};
 ghost use Rattle.adjacency.specs.Step.{wrongOf};
 
 // Refused (8), or the record afterwards, the reply, and the line that fitted.
@@ -136,6 +136,16 @@ fn remaining_in(after: Phase, expiry: u64, clock: u32) -> u16
     }
 }
 
+// The reply by the line that fitted. Its Remaining Time is counted only where there is one.
+fn reply_in(line: Line, after: Phase, expiry: u64, clock: u32) -> Acknowledgement
+    ensures { λ r. ⌜ r ≡ replyBy line (remainingIn after expiry clock) ⌝ }
+{
+    let Acknowledgement::Send(ack, _) = reply_by(line, 0) else {
+        return Acknowledgement::Nothing;
+    };
+    Acknowledgement::Send(ack, remaining_in(after, expiry, clock))
+}
+
 fn accept(road: Road, after: Phase, here: Here, frame: Hello, adjacency: Adjacency) -> Reaction
     requires { ⌜ OwnRoad road frame adjacency ⌝ }
     ensures { λ r. ⌜ r ≡ acceptedBy (road .line) after here frame adjacency ⌝ }
@@ -144,7 +154,7 @@ fn accept(road: Road, after: Phase, here: Here, frame: Hello, adjacency: Adjacen
     let data = data_by(road, here, frame, adjacency);
     let expiry = data.expiry;
     let state = state_as(after, data, mark_by(line, mark_of(adjacency)));
-    let reply = reply_by(line, remaining_in(after, expiry, here.clock));
+    let reply = reply_in(line, after, expiry, here.clock);
     Reaction::Accepted(state, reply, line)
 }
 

@@ -16,15 +16,12 @@ mark-by-requires c κs = search needs
 state-as-requires : tie.Need-state-as-requires
 state-as-requires c κs = search needs
 
-remaining-in-requires : tie.Need-remaining-in-requires
-remaining-in-requires c κs = search needs
-
-reply-by-requires : tie.Need-reply-by-requires
-reply-by-requires c κs = search needs
+reply-in-requires : tie.Need-reply-in-requires
+reply-in-requires c κs = search needs
 
 returns : tie.Need-returns
 unfolding acceptedBy
-returns c = rw (c .reply-by .ensures, c .before .remaining-in .ensures, c .before .before .state-as .ensures, c .before .before .before .mark-by .ensures, c .before .before .before .before .mark-of .ensures, c .before .before .before .before .before .data-by .ensures)
+returns c = rw (c .reply-in .ensures, c .before .state-as .ensures, c .before .before .mark-by .ensures, c .before .before .before .mark-of .ensures, c .before .before .before .before .data-by .ensures)
 
 pub accept-spec : {M : Type 1} → statement M
 accept-spec =
@@ -34,6 +31,5 @@ accept-spec =
     mark-of-requires
     mark-by-requires
     state-as-requires
-    remaining-in-requires
-    reply-by-requires
+    reply-in-requires
     returns)
