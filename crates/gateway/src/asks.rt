@@ -34,7 +34,8 @@ ghost use Rattle.model.specs.Step.{asksLevel, lookUp, nextHello, lift, step, At
 ghost use Rattle.model.specs.Step.{Waiting as Waits};
 ghost use Rattle.gateway.specs.Words.{gatewayWords, gatewayOf, Meets};
 
-fn asks_level(kind: CircuitKind, levels: Levels, level: u8) -> bool
+// Whether a key's level may be asked for on a circuit: it counts on a LAN alone.
+pub fn asks_level(kind: CircuitKind, levels: Levels, level: u8) -> bool
     ensures { λ r. ⌜ r ≡ asksLevel kind levels level ⌝ }
 {
     match kind {

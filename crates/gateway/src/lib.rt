@@ -6,5 +6,5 @@ pub mod config; // config.rt: the settings that setup takes
 mod frame; // frame.rt: receive
 mod ticks; // ticks.rt: tick and release
 mod notices; // notices.rt: CSNP set complete, database complete
-mod asks; // asks.rt: look up, link metric, flags of the next hello, the T1s that run
+pub mod asks; // asks.rt: look up, link metric, flags of the next hello, the T1s that run; asks_level is for isis_gr_why
 pub mod setup; // setup.rt: setup; its parts, circuit by circuit, are for isis_gr

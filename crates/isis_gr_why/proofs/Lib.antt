@@ -1,0 +1,6 @@
+pub mod ToldLaws
+pub mod DutyLaws
+pub mod StandingLaws
+pub mod MadeLaws
+pub mod SilentLaws
+pub mod ExplainsLaws

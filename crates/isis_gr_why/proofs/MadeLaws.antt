@@ -1,0 +1,82 @@
+-- A call that was made, for the code: by the promise of the function that makes it, and where it only asks, by what its step leaves.
+use Prim.Native.Nat.{ℕ}
+use mathlib.Core.Path.{_≡_, refl, sym, ap, _∙_}
+use mathlib.Core.Bool.{false}
+use mathlib.Core.List.{List}
+use Rattle.basics.proofs.BoolLaws.{by-test}
+use Rattle.basics.specs.Levels.{hasLevel}
+use Rattle.adjacency.specs.declared.record.Key.{Key}
+use Rattle.settings.specs.declared.circuit.Chosen.{Chosen}
+use Rattle.settings.specs.declared.circuit.Chosen.the-variants.{Known, Unknown}
+use Rattle.settings.specs.declared.circuit.Circuit.{Circuit}
+use Rattle.control.specs.Common.{Common, circuitOf}
+use Rattle.model.specs.Answers.{Answer, receivedOf}
+use Rattle.model.specs.Gateway.{Gateway, Room, roomOf, withRooms}
+use Rattle.model.specs.Receive.{Acted, refuse}
+use Rattle.model.specs.Step.{Local, LookUp, LinkMetric, NextHello, Receive, Waiting, At, Over, asksLevel, lookUp, linkMetricOf, nextHello, act, lift, on, judge, carry, step}
+use Rattle.model.specs.declared.answers.Received.{Received}
+use Rattle.gateway.specs.Words.{gatewayOf, Meets}
+use Rattle.gateway.proofs.WordLaws.{same-room}
+use Rattle.reasons.specs.Holds.{isReceive}
+use Rattle.reasons.specs.Why.{goneBy, callOf, reasonOf}
+use Rattle.reasons.specs.declared.why.Call.{Call}
+use Rattle.reasons.specs.declared.why.Call.the-variants.{Receive as ReceiveOn}
+use Rattle.reasons.specs.declared.why.Reason.{Reason}
+use Rattle.isis_gr_why.specs.Explains.{replied}
+use Rattle.isis_gr_why.specs.Told.{MadeOn}
+use Rattle.isis_gr_why.specs.declared.made.Made.the-variants.{Frame, Other}
+
+module _ (call : Call) (mac : ℕ) (frame b ws ws′ b′ : List ℕ) where
+  pub made-frame : (n : ℕ) (a : Received) → call ≡ ReceiveOn n → Meets (receivedOf a) (step (gatewayOf ws) (At n (Receive mac frame b))) ws ws′ b′
+      → MadeOn call mac frame b ws ws′ b′ (Frame n a)
+  made-frame n a e m =
+      rw e (record { makes = record { next = λ k. m .next; reply = λ k. m .reply }; tells = λ k. (refl, m .answer) })
+
+-- a call that writes no reply
+module _ (mac : ℕ) (frame b ws ws′ : List ℕ) (w : Reason) where
+  pub made-other : (call given : Call) → call ≡ given → ((k : Key) → gatewayOf ws′ ≡ step (gatewayOf ws) (callOf given mac frame b k) .next)
+      → ((k : Key) → b ≡ replied given (step (gatewayOf ws) (callOf given mac frame b k)) b) → ((k : Key) → goneBy (callOf given mac frame b k) ≡ reasonOf w)
+      → ((k : Key) → isReceive (callOf given mac frame b k) ≡ false) → MadeOn call mac frame b ws ws′ b (Other w)
+  made-other call given e next reply gone other =
+      rw e (record { makes = record { next = next; reply = reply }; tells = λ k. (gone k, other k) })
+
+-- ---- calls that only ask
+
+-- a call that leaves the common part and its room leaves the gateway
+module _ (g : Gateway) (n : ℕ) where
+  lift-same : (f : Common → Room → Acted) → f (g .common) (roomOf g n) .common ≡ g .common → f (g .common) (roomOf g n) .room ≡ roomOf g n
+      → g ≡ lift g n f .next
+  unfolding lift
+  lift-same f c r = rw (c, r, same-room (g .rooms) n) refl
+
+  pub looked-same : (k : Key) → g ≡ step g (At n (LookUp k)) .next
+  unfolding step on act lookUp refuse
+  looked-same k = go (circuitOf (g .common) n)
+    where
+      go : (q : Chosen) → g ≡ on g n (LookUp k) q .next
+      go Unknown = refl
+      go (Known s) =
+          by-test (asksLevel (s .kind) (s .levels) (k .level)) (λ e. lift-same (act n s (LookUp k)) (rw e refl) (rw e refl))
+          (λ e. lift-same (act n s (LookUp k)) (rw e refl) (rw e refl))
+
+  pub measured-same : g ≡ step g (At n LinkMetric) .next
+  unfolding step on act linkMetricOf
+  measured-same = go (circuitOf (g .common) n)
+    where
+      go : (q : Chosen) → g ≡ on g n LinkMetric q .next
+      go Unknown = refl
+      go (Known s) = lift-same (act n s LinkMetric) refl refl
+
+  pub flagged-same : (level : ℕ) → g ≡ step g (At n (NextHello level)) .next
+  unfolding step on act nextHello refuse
+  flagged-same level = go (circuitOf (g .common) n)
+    where
+      go : (q : Chosen) → g ≡ on g n (NextHello level) q .next
+      go Unknown = refl
+      go (Known s) =
+          by-test (hasLevel (s .levels) level) (λ e. lift-same (act n s (NextHello level)) (rw e refl) (rw e refl))
+          (λ e. lift-same (act n s (NextHello level)) (rw e refl) (rw e refl))
+
+pub waiting-same : (g : Gateway) → g ≡ step g (Over Waiting) .next
+unfolding step judge carry
+waiting-same g = refl

@@ -1,0 +1,4 @@
+pub mod Duty
+pub mod Why
+pub mod Holds
+pub mod SampleWhys
