@@ -4,3 +4,4 @@ pub mod StandingLaws
 pub mod MadeLaws
 pub mod SilentLaws
 pub mod ExplainsLaws
+pub mod WordsLaws
