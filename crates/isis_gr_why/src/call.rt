@@ -40,8 +40,8 @@ fn tell(
 {
     match question {
         Question::NotAdvertised => {
-            let left = standing_in(after, circuit, key);
-            why_hidden(left, made, circuit)
+            let found = standing_in(after, circuit, key);
+            why_hidden(found, made, circuit)
         }
         Question::Vanished => {
             let stood = standing_in(before, circuit, key);

@@ -2,7 +2,7 @@
 -- refusals, lines, priorities, MACs and System IDs.
 use Prim.Native.Nat.{ℕ, _+_}
 use mathlib.Core.Path.{_≡_}
-use mathlib.Core.List.{List, [], _∷_, map}
+use mathlib.Core.List.{List, [], _∷_, _++_, map}
 use lib.ListN.{set}
 use Rattle.settings.specs.declared.mode.Mode.the-variants.{Running}
 use Rattle.adjacency.specs.declared.record.Key.{Key}
@@ -105,11 +105,11 @@ heardWith x priority = frameBy (λ l. set l 19 priority) (λ m. m) (heard x 0)
 abbrev pub heardFrom : ℕ → ℕ → Call
 heardFrom x mac = frameBy (λ l. l) (λ m. 0x020000000000 + mac) (heard x 0)
 
--- After these hellos, RR from the neighbour with MAC 020000000002, whose own pair counts no more: nobody else, so we order; two more, of which the
--- first has the lesser pair; a third with the greatest MAC, that restarts too; priority 100 goes before every MAC; a priority below ours; one MAC
--- with two System IDs, of which the lower is named; and a hello without the Restart TLV.
+-- After these hellos and one of 192168001002, RR from that neighbour, whose own pair counts no more: nobody else, so we order; three more, of which the
+-- second has the greatest pair; one with a greater MAC, which restarts too and so is left aside; priority 100 goes before every MAC; a priority below
+-- ours; one MAC with three System IDs, of which the lowest is named; and a hello without the Restart TLV.
 abbrev pub restarts : List Call → Gateway → List Why
-restarts cs g = silent (after g (heard 2 0 ∷ cs)) (heard 2 1 ∷ [])
+restarts cs g = silent (after g (cs ++ heard 2 0 ∷ [])) (heard 2 1 ∷ [])
 
 abbrev pub OnLan : (Gateway → Type 0) → Type 0
 OnLan P = From (setup (settingsWith Running 3 1 lan)) P
@@ -118,7 +118,7 @@ abbrev pub Pairs : Type 0
 Pairs =
     OnLan (λ g. restarts [] g ≡ NotSo ∷ [])
     × OnLan (λ g. restarts (heard 3 0 ∷ heard 7 0 ∷ heard 5 0 ∷ []) g ≡ Outranked 0x192168001007 64 0x020000000007 ∷ [])
-    × OnLan (λ g. restarts (heard 3 0 ∷ heard 9 0 ∷ heard 9 1 ∷ heard 7 0 ∷ []) g ≡ Outranked 0x192168001007 64 0x020000000007 ∷ [])
+    × OnLan (λ g. restarts (heard 9 0 ∷ heard 9 1 ∷ heard 3 0 ∷ heard 7 0 ∷ []) g ≡ Outranked 0x192168001007 64 0x020000000007 ∷ [])
     × OnLan (λ g. restarts (heard 7 0 ∷ heardWith 3 100 ∷ []) g ≡ Outranked 0x192168001003 100 0x020000000003 ∷ [])
     × OnLan (λ g. restarts (heardWith 7 63 ∷ []) g ≡ NotSo ∷ [])
     × OnLan (λ g. restarts (heard 7 0 ∷ heardFrom 5 7 ∷ heardFrom 6 7 ∷ []) g ≡ Outranked 0x192168001005 64 0x020000000007 ∷ [])
