@@ -1,6 +1,6 @@
 -- The whole promise, of the parts: the words copied, the call made, the key and the MAC read, and the reason told of both memories.
 use Prim.Native.Nat.{ℕ}
-use mathlib.Core.Path.{_≡_, sym}
+use mathlib.Core.Path.{_≡_}
 use mathlib.Core.List.{List}
 use Rattle.adjacency.specs.declared.record.Key.{Key}
 use Rattle.model.specs.Step.{Call, step}

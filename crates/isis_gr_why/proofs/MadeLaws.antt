@@ -1,19 +1,21 @@
 -- A call that was made, for the code: by the promise of the function that makes it, and where it only asks, by what its step leaves.
 use Prim.Native.Nat.{ℕ}
-use mathlib.Core.Path.{_≡_, refl, sym, ap, _∙_}
-use mathlib.Core.Bool.{false}
-use mathlib.Core.List.{List}
-use Rattle.basics.proofs.BoolLaws.{by-test}
+use mathlib.Core.Path.{_≡_, refl, ap}
+use mathlib.Core.Bool.{Bool, true, false, cond}
+use mathlib.Core.List.{List, []}
 use Rattle.basics.specs.Levels.{hasLevel}
+use Rattle.basics.specs.declared.refusal.Refusal.{Refusal}
+use Rattle.basics.specs.declared.refusal.Refusal.the-variants.{NoCircuit}
+use Rattle.adjacency.specs.Keys.{keyOn}
+use Rattle.room.specs.Table.{find}
 use Rattle.adjacency.specs.declared.record.Key.{Key}
 use Rattle.settings.specs.declared.circuit.Chosen.{Chosen}
 use Rattle.settings.specs.declared.circuit.Chosen.the-variants.{Known, Unknown}
-use Rattle.settings.specs.declared.circuit.Circuit.{Circuit}
 use Rattle.control.specs.Common.{Common, circuitOf}
-use Rattle.model.specs.Answers.{Answer, receivedOf}
-use Rattle.model.specs.Gateway.{Gateway, Room, roomOf, withRooms}
+use Rattle.model.specs.Answers.{Fact, Looked, HelloFlags, recordAnswer, receivedOf}
+use Rattle.model.specs.Gateway.{Gateway, Room, roomOf}
 use Rattle.model.specs.Receive.{Acted, refuse}
-use Rattle.model.specs.Step.{Local, LookUp, LinkMetric, NextHello, Receive, Waiting, At, Over, asksLevel, lookUp, linkMetricOf, nextHello, act, lift, on, judge, carry, step}
+use Rattle.model.specs.Step.{LookUp, LinkMetric, NextHello, Receive, Waiting, At, Over, told, asksLevel, flagsAt, lookUp, linkMetricOf, nextHello, act, lift, on, judge, carry, step}
 use Rattle.model.specs.declared.answers.Received.{Received}
 use Rattle.gateway.specs.Words.{gatewayOf, Meets}
 use Rattle.gateway.proofs.WordLaws.{same-room}
@@ -49,15 +51,26 @@ module _ (g : Gateway) (n : ℕ) where
   unfolding lift
   lift-same f c r = rw (c, r, same-room (g .rooms) n) refl
 
+  -- told, or refused
+  either-same : (f : Common → Room → Acted) (t : Bool) (x : Fact) (y : Refusal) (c : Common) (r : Room)
+      → f c r ≡ cond t (told x c r) (refuse [] y c r) → (f c r .common ≡ c) × (f c r .room ≡ r)
+  unfolding refuse
+  either-same f true x y c r e = (ap (λ (a : Acted). a .common) e, ap (λ (a : Acted). a .room) e)
+  either-same f false x y c r e = (ap (λ (a : Acted). a .common) e, ap (λ (a : Acted). a .room) e)
+
+  asked-same : (f : Common → Room → Acted) (t : Bool) (x : Fact) (y : Refusal) → f (g .common) (roomOf g n) ≡ cond t (told x (g .common) (roomOf g n)) (refuse [] y (g .common) (roomOf g n))
+      → g ≡ lift g n f .next
+  asked-same f t x y e = let s = either-same f t x y (g .common) (roomOf g n) e in lift-same f (s .0) (s .1)
+
   pub looked-same : (k : Key) → g ≡ step g (At n (LookUp k)) .next
-  unfolding step on act lookUp refuse
+  unfolding step on act lookUp
   looked-same k = go (circuitOf (g .common) n)
     where
       go : (q : Chosen) → g ≡ on g n (LookUp k) q .next
       go Unknown = refl
       go (Known s) =
-          by-test (asksLevel (s .kind) (s .levels) (k .level)) (λ e. lift-same (act n s (LookUp k)) (rw e refl) (rw e refl))
-          (λ e. lift-same (act n s (LookUp k)) (rw e refl) (rw e refl))
+          asked-same (act n s (LookUp k)) (asksLevel (s .kind) (s .levels) (k .level)) (Looked (recordAnswer (find (keyOn (s .kind) k) (roomOf g n .slots)))) NoCircuit
+          refl
 
   pub measured-same : g ≡ step g (At n LinkMetric) .next
   unfolding step on act linkMetricOf
@@ -68,14 +81,12 @@ module _ (g : Gateway) (n : ℕ) where
       go (Known s) = lift-same (act n s LinkMetric) refl refl
 
   pub flagged-same : (level : ℕ) → g ≡ step g (At n (NextHello level)) .next
-  unfolding step on act nextHello refuse
+  unfolding step on act nextHello
   flagged-same level = go (circuitOf (g .common) n)
     where
       go : (q : Chosen) → g ≡ on g n (NextHello level) q .next
       go Unknown = refl
-      go (Known s) =
-          by-test (hasLevel (s .levels) level) (λ e. lift-same (act n s (NextHello level)) (rw e refl) (rw e refl))
-          (λ e. lift-same (act n s (NextHello level)) (rw e refl) (rw e refl))
+      go (Known s) = asked-same (act n s (NextHello level)) (hasLevel (s .levels) level) (HelloFlags (flagsAt n s level (g .common .timers))) NoCircuit refl
 
 pub waiting-same : (g : Gateway) → g ≡ step g (Over Waiting) .next
 unfolding step judge carry

@@ -24,8 +24,6 @@ use Rattle.adjacency.proofs.KeysLaws.{key-level}
 use Rattle.adjacency.specs.Keys.{keyOn, levelIn, keyIn}
 use Rattle.adjacency.specs.React.{lineIn, reactOf}
 use Rattle.adjacency.specs.Step.{wrongSource, levelOff}
-use Rattle.adjacency.specs.declared.duty.Csnps.the-variants.{Nothing, Ordered}
-use Rattle.adjacency.specs.declared.duty.Rank.{Rank}
 use Rattle.adjacency.specs.declared.marks.Acknowledgement.{Acknowledgement}
 use Rattle.adjacency.specs.declared.marks.Acknowledgement.the-variants.{Nothing as NoReply, Send}
 use Rattle.adjacency.specs.declared.marks.Line.{Line}
@@ -148,7 +146,7 @@ module _ (g : Gateway) (n mac : ℕ) (frame b : List ℕ) (o : Orders) where
   Silent c w = Received (frameAnswer o) ≡ step g c .answer → w ≡ noCsnps g c (step g c)
 
   ordered-at : isOrdered (o .csnps) ≡ true → Silent (At n (Receive mac frame b)) NotSo
-  unfolding noCsnps unordered
+  unfolding unordered
   ordered-at e q = rw (← q, e) refl
 
   pub silent-ordered : isOrdered (o .csnps) ≡ true → (c : Call) → c ≡ At n (Receive mac frame b) → Silent c NotSo
@@ -158,7 +156,6 @@ module _ (g : Gateway) (n mac : ℕ) (frame b : List ℕ) (o : Orders) where
       (line : Line) (le : line ≡ lineTold (replyFlags (o .reply)) stood) (w : Why) (next : Gateway)
       (f : (t : Circuit) (j : Hello) → circuitOf (g .common) n ≡ Known t → o .change .level ≡ levelIn (j .link) → w ≡ byLine line (dutyIn (rankOf t j) (roomOf next n .slots))) where
     fits-at : next ≡ step g (At n (Receive mac frame b)) .next → Silent (At n (Receive mac frame b)) w
-    unfolding noCsnps
     fits-at ne q =
         let t = took g n mac frame b (frameAnswer o) (sym q) in
         let l = le ∙ ap (lineTold (replyFlags (o .reply))) (se ∙ told-record g n mac frame b o t) ∙ told-line g n mac frame b o t in

@@ -1,6 +1,6 @@
 -- The call's promise in words.
 use Prim.Native.Nat.{ℕ}
-use mathlib.Core.Path.{_≡_, refl, sym, ap, _∙_}
+use mathlib.Core.Path.{_≡_, refl, sym, _∙_}
 use mathlib.Core.Bool.{Bool, true, false, true≢false}
 use mathlib.Core.List.{List, [], _∷_}
 use mathlib.Core.Logic.{⊎-elim}
@@ -9,7 +9,7 @@ use types.Run.{OneOf}
 use denote.Enum.Declared.{tagOf}
 use Rattle.adjacency.specs.declared.record.Key.{Key}
 use Rattle.reasons.proofs.why.Reason.{the-type}
-use Rattle.reasons.specs.Why.{Why, reasonOf}
+use Rattle.reasons.specs.Why.{reasonOf}
 use Rattle.reasons.specs.declared.why.Call.{Call}
 use Rattle.reasons.specs.declared.why.Question.{Question}
 use Rattle.reasons.specs.declared.why.Reason.{Reason}

@@ -13,7 +13,6 @@ use Rattle.adjacency.specs.declared.marks.Line.the-variants.{One, Two, Three}
 use Rattle.adjacency.specs.declared.record.Adjacency.{Adjacency}
 use Rattle.adjacency.specs.declared.record.Key.{Key}
 use Rattle.model.specs.Answers.{Answer, receivedOf}
-use Rattle.model.specs.Gateway.{Gateway}
 use Rattle.model.specs.Step.{Call, At, Receive, step}
 use Rattle.gateway.specs.Words.{gatewayOf}
 use Rattle.reasons.specs.Holds.{isReceive}

@@ -32,7 +32,6 @@ ghost use Rattle.adjacency.specs.Keys.{levelIn};
 ghost use Rattle.settings.specs.declared.circuit.Circuit.{Circuit};
 ghost use Rattle.settings.specs.declared.circuit.Chosen.the-variants.{Known};
 ghost use Rattle.control.specs.Common.{circuitOf};
-ghost use Rattle.model.specs.Answers.{receivedOf};
 ghost use Rattle.model.specs.Answers.{Received as ReceivedAnswer};
 ghost use Rattle.model.specs.Answers.{frameAnswer};
 ghost use Rattle.model.specs.Gateway.{roomOf};

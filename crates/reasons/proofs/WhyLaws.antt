@@ -36,7 +36,7 @@ use Rattle.model.specs.Receive.{rankOf}
 use Rattle.model.specs.Step.{Receive, Release, Clear, CsnpComplete, LookUp, LinkMetric, NextHello, Tick, DatabaseComplete, Waiting, Call, At, Over, step}
 use Rattle.reasons.specs.Duty.{dutyIn}
 use Rattle.reasons.specs.Holds.{ordersCsnps, leaves, Went, NotAsAsked, Unshown, Gone, Unordered, FitsLine, Silent, WhyHolds, NotSoExactly}
-use Rattle.reasons.specs.Why.{Why, NotSo, lineNo, standing, unknown, notAdvertised, goneBy, vanished, byLine, fitsRead, fitsOn, unordered, noCsnps, whyOf}
+use Rattle.reasons.specs.Why.{Why, NotSo, lineNo, standing, unknown, turnedAway, notAdvertised, goneBy, vanished, byLine, fitsRead, fitsOn, unordered, noCsnps, whyOf}
 use Rattle.reasons.specs.declared.why.Duty.{Duty}
 use Rattle.reasons.specs.declared.why.Duty.the-variants.{Ours, Theirs}
 use Rattle.reasons.specs.declared.why.Question.the-variants.{NotAdvertised, Vanished, NoCsnps}
@@ -48,7 +48,7 @@ use Rattle.reasons.proofs.StandingLaws.{went-lost}
 
 unknown-holds : (g : Gateway) (c : Call) (n : ℕ) (k : Key) (a : Answer) → step g c .answer ≡ a → leaves g c n k ≡ Absent
     → Unshown g c n k (unknown n c a)
-unfolding unknown
+unfolding turnedAway
 unknown-holds g (At m (Receive mac frame b)) n k (RefusedAnswer x) e z =
     by-test (eqb m n) (λ q. rw q (z, q, e)) (λ q. rw q (z, λ y r s. true≢false (sym r ∙ q)))
 unknown-holds g (At m (Receive mac frame b)) n k (Received f) e z = (z, λ y r s. let w : _≡_ {A = ℕ} 0 1 = cc in omega arith)
@@ -169,7 +169,6 @@ module _ (g : Gateway) (m mac : ℕ) (frame b : List ℕ) (n : ℕ) (k : Key) wh
       by-test (f .ordered) (λ q. rw q (inl (ap ordersCsnps e ∙ q))) (λ q. rw q (fits-holds f e q (took g m mac frame b f e)))
 
 no-csnps-holds : (g : Gateway) (c : Call) (n : ℕ) (k : Key) → Silent g c n k (noCsnps g c (step g c))
-unfolding noCsnps
 no-csnps-holds g (At m (Receive mac frame b)) n k =
     silent-holds g m mac frame b n k (step g (At m (Receive mac frame b)) .answer) (receive-said g m mac frame b) refl
 no-csnps-holds g (At m Release) n k = inr refl
@@ -209,7 +208,6 @@ ordered-not-so (Ticked lost hellos t) w e = refl
 ordered-not-so (Told f) w e = refl
 
 csnps-not-so : (g : Gateway) (c : Call) (n : ℕ) (k : Key) → NotAsAsked NoCsnps g c n k → noCsnps g c (step g c) ≡ NotSo
-unfolding noCsnps
 csnps-not-so g (At m (Receive mac frame b)) n k (inl e) = ordered-not-so _ _ e
 csnps-not-so g (At m (Receive mac frame b)) n k (inr e) = absurd (true≢false e)
 csnps-not-so g (At m Release) n k h = refl

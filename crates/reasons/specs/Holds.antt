@@ -33,35 +33,21 @@ use Rattle.control.specs.Common.{circuitOf}
 use Rattle.model.specs.Answers.{Answer, Refused as RefusedAnswer, Received, Ticked, Told, FrameAnswer, isShown}
 use Rattle.model.specs.Gateway.{Gateway, roomOf, recordAt}
 use Rattle.model.specs.Receive.{hereOf, rankOf}
-use Rattle.model.specs.Step.{Receive, Release, Clear, CsnpComplete, LookUp, LinkMetric, NextHello, Tick, Call, At, Over, step}
+use Rattle.model.specs.Step.{Receive, Release, Clear, Tick, Call, At, Over, step}
 use Rattle.reasons.specs.Duty.{theirs, pairAt, isTie}
-use Rattle.reasons.specs.Why.{Why, NotSo, Init, Suppressed, NoRecord, Refused, Expired, Released, Cleared, Fits, Outranked, lineNo, standing, whyOf}
+use Rattle.reasons.specs.Why.{Why, NotSo, Init, Suppressed, NoRecord, Refused, Expired, Released, Cleared, Fits, Outranked, lineNo, standing, ofReceive, whyOf}
 use Rattle.reasons.specs.declared.why.Duty.the-variants.{Theirs}
 use Rattle.reasons.specs.declared.why.Question.{Question}
 use Rattle.reasons.specs.declared.why.Question.the-variants.{NotAdvertised, Vanished, NoCsnps}
 
 -- ---- of a call
 
--- the number of the circuit that a receive names is n
-abbrev pub receivesAt : ℕ → Call → Bool
-receivesAt n (At m (Receive mac frame b)) = eqb m n
-receivesAt n (At m Release) = false
-receivesAt n (At m Clear) = false
-receivesAt n (At m (CsnpComplete level)) = false
-receivesAt n (At m (LookUp k)) = false
-receivesAt n (At m LinkMetric) = false
-receivesAt n (At m (NextHello level)) = false
-receivesAt n (Over w) = false
-
+-- a receive, and one on circuit n
 abbrev pub isReceive : Call → Bool
-isReceive (At m (Receive mac frame b)) = true
-isReceive (At m Release) = false
-isReceive (At m Clear) = false
-isReceive (At m (CsnpComplete level)) = false
-isReceive (At m (LookUp k)) = false
-isReceive (At m LinkMetric) = false
-isReceive (At m (NextHello level)) = false
-isReceive (Over w) = false
+isReceive c = ofReceive c (λ m mac frame. true) false
+
+abbrev pub receivesAt : ℕ → Call → Bool
+receivesAt n c = ofReceive c (λ m mac frame. eqb m n) false
 
 abbrev pub ordersCsnps : Answer → Bool
 ordersCsnps (Received f) = f .ordered

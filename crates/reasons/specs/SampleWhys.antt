@@ -7,9 +7,9 @@ use lib.ListN.{set}
 use Rattle.settings.specs.declared.mode.Mode.the-variants.{Running}
 use Rattle.adjacency.specs.declared.record.Key.{Key}
 use Rattle.model.specs.Gateway.{Gateway, setup}
-use Rattle.model.specs.Step.{Call, At, Over, Local, Receive, Release, Clear, CsnpComplete, LookUp, LinkMetric, NextHello, Tick, Waiting}
+use Rattle.model.specs.Step.{Call, At, Over, Receive, Release, Clear, CsnpComplete, LookUp, LinkMetric, NextHello, Tick, Waiting}
 use Rattle.model.specs.Trace.{after}
-use Rattle.model.specs.SampleFrames.{settings, hello, receiving, From}
+use Rattle.model.specs.SampleFrames.{settings, hello, From}
 use Rattle.model.specs.SampleCalls.{OnSample, bad, receive, receiveOn, good}
 use Rattle.model.specs.SampleRuns.{key}
 use Rattle.model.specs.SampleStarts.{settingsWith, lan, onLan, listing}

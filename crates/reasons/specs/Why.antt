@@ -1,6 +1,6 @@
 -- Why (document 02, W-204): the reason, of a gateway before a call, the call, a circuit and a record's key. Each definition goes over the step's outcome.
 use Prim.Native.Nat.{ℕ}
-use mathlib.Core.Bool.{Bool, true, false, cond}
+use mathlib.Core.Bool.{cond}
 use mathlib.Core.List.{List}
 use lib.Dec.{eqb}
 use Rattle.hello.specs.Hello.{helloRead}
@@ -22,7 +22,7 @@ use Rattle.model.specs.Numbers.{refusalNo}
 use Rattle.model.specs.Answers.{Answer, Refused as RefusedAnswer, Received, Ticked, Told}
 use Rattle.model.specs.Gateway.{Gateway, roomOf, recordAt}
 use Rattle.model.specs.Receive.{hereOf, rankOf}
-use Rattle.model.specs.Step.{Local, Receive, Release, Clear, CsnpComplete, LookUp, LinkMetric, NextHello, Global, Tick, DatabaseComplete, Waiting, Call, At, Over, Outcome, asksLevel, step}
+use Rattle.model.specs.Step.{Receive, Release, Clear, CsnpComplete, LookUp, LinkMetric, NextHello, Tick, DatabaseComplete, Waiting, Call, At, Over, Outcome, asksLevel, step}
 use Rattle.reasons.specs.Duty.{dutyIn}
 use Rattle.reasons.specs.declared.why.Call.{Call as CallGiven}
 use Rattle.reasons.specs.declared.why.Call.the-variants.{Receive as ReceiveOn, Tick as TickTo, Release as ReleaseOn, Clear as ClearOn, CsnpComplete as CsnpOn, DatabaseComplete as DatabaseOf, LookUp as LookUpOn, LinkMetric as MetricOn, NextHello as NextOn, Waiting as WaitingT1s}
@@ -65,21 +65,30 @@ standsOn g n k (Known s) = cond (asksLevel (s .kind) (s .levels) (k .level)) (re
 unfoldable pub standing : Gateway → ℕ → Key → Adjacency
 standing g n k = standsOn g n k (circuitOf (g .common) n)
 
+-- ---- a call
+
+-- what is said of a receive by its circuit, source MAC and frame, and what of every other call
+abbrev pub ofReceive : {A : Type 0} → Call → (ℕ → ℕ → List ℕ → A) → A → A
+ofReceive (At m (Receive mac frame b)) f other = f m mac frame
+ofReceive (At m Release) f other = other
+ofReceive (At m Clear) f other = other
+ofReceive (At m (CsnpComplete level)) f other = other
+ofReceive (At m (LookUp k)) f other = other
+ofReceive (At m LinkMetric) f other = other
+ofReceive (At m (NextHello level)) f other = other
+ofReceive (Over w) f other = other
+
 -- ---- "why is this neighbour not advertised"
 
--- "the number of a receive refused there, or 'no record'": on the circuit that is asked for
-unfoldable pub unknown : ℕ → Call → Answer → Why
-unknown n (At m (Receive mac frame b)) (RefusedAnswer x) = cond (eqb m n) (Refused x) NoRecord
-unknown n (At m (Receive mac frame b)) (Received f) = NoRecord
-unknown n (At m (Receive mac frame b)) (Ticked lost hellos t) = NoRecord
-unknown n (At m (Receive mac frame b)) (Told f) = NoRecord
-unknown n (At m Release) a = NoRecord
-unknown n (At m Clear) a = NoRecord
-unknown n (At m (CsnpComplete level)) a = NoRecord
-unknown n (At m (LookUp k)) a = NoRecord
-unknown n (At m LinkMetric) a = NoRecord
-unknown n (At m (NextHello level)) a = NoRecord
-unknown n (Over w) a = NoRecord
+-- "the number of a receive refused there, or 'no record'": n is the circuit that is asked for, m the receive's
+unfoldable pub turnedAway : ℕ → ℕ → Answer → Why
+turnedAway n m (RefusedAnswer x) = cond (eqb m n) (Refused x) NoRecord
+turnedAway n m (Received f) = NoRecord
+turnedAway n m (Ticked lost hellos t) = NoRecord
+turnedAway n m (Told f) = NoRecord
+
+abbrev pub unknown : ℕ → Call → Answer → Why
+unknown n c a = ofReceive c (λ m mac frame. turnedAway n m a) NoRecord
 
 -- of the record after the call: "the first that holds: .. INIT, Suppressed", and then the rest; "not so" of one that is advertised
 unfoldable pub notAdvertised : ℕ → Call → Answer → Adjacency → Why
@@ -140,15 +149,8 @@ unordered (Ticked lost hellos t) w = NotSo
 unordered (Told f) w = NotSo
 
 -- it looks at the call alone; "not so" of a call that is no receive
-unfoldable pub noCsnps : Gateway → Call → Outcome → Why
-noCsnps g (At m (Receive mac frame b)) o = unordered (o .answer) (fitsOn g (o .next) m mac frame (circuitOf (g .common) m))
-noCsnps g (At m Release) o = NotSo
-noCsnps g (At m Clear) o = NotSo
-noCsnps g (At m (CsnpComplete level)) o = NotSo
-noCsnps g (At m (LookUp k)) o = NotSo
-noCsnps g (At m LinkMetric) o = NotSo
-noCsnps g (At m (NextHello level)) o = NotSo
-noCsnps g (Over w) o = NotSo
+abbrev pub noCsnps : Gateway → Call → Outcome → Why
+noCsnps g c o = ofReceive c (λ m mac frame. unordered (o .answer) (fitsOn g (o .next) m mac frame (circuitOf (g .common) m))) NotSo
 
 -- ---- the reason
 

@@ -1,6 +1,5 @@
 -- The question decides; the memory after the call is that of its step.
 use Rattle.model.specs.Gateway.{Gateway}
-use Rattle.adjacency.specs.declared.record.Adjacency.{Adjacency}
 use Rattle.model.specs.Step.{step}
 use Rattle.gateway.specs.Words.{gatewayOf}
 use Rattle.reasons.specs.Why.{standing, notAdvertised, vanished, whyOf}

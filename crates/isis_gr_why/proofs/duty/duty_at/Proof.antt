@@ -2,7 +2,6 @@
 use Rattle.adjacency.specs.Place.{isHeld}
 use Rattle.isis_gr_why.proofs.DutyLaws.{duty-held, duty-not-held}
 use Rattle.slots.proofs.SlotLaws.{not-held}
-use Rattle.reasons.specs.Duty.{dutyAt}
 use mathlib.Core.Path.{sym, ap, _∙_}
 use borrow.Author.Needs.{needs}
 use Rattle.isis_gr_why.proofs.duty.duty_at.Statement.{statement}

@@ -5,7 +5,7 @@ use Rattle.slots.proofs.SlotLaws.{length-table}
 use Rattle.reasons.specs.Duty.{dutyFrom, dutyIn}
 use lib.ListN.{drop}
 use Prim.Native.Nat.{_-_, _≤_}
-use mathlib.Core.Path.{_≡_, refl, sym, _∙_}
+use mathlib.Core.Path.{_≡_, refl, _∙_}
 use native.Mathlib.Omega.{arith}
 use borrow.Author.Needs.{needs}
 use Rattle.isis_gr_why.proofs.duty.duty_in.Statement.{statement}

@@ -2,7 +2,6 @@
 use mathlib.Core.Path.{refl}
 use mathlib.Core.Path.{sym, _∙_}
 use borrow.Author.Tests.{eq-eqb, ne-eqb}
-use mathlib.Core.Bool.{_&&_}
 use borrow.Author.Needs.{needs}
 use Rattle.isis_gr_why.proofs.duty.is_tie.Statement.{statement}
 use Rattle.isis_gr_why.proofs.duty.is_tie.Tie as tie

@@ -4,9 +4,8 @@ use Rattle.isis_gr_why.proofs.SilentLaws.{outranked-by, not-unknown}
 use Rattle.gateway.proofs.WordLaws.{choice}
 use Rattle.gateway.specs.Words.{gatewayOf}
 use Rattle.control.specs.Common.{InRange}
-use Rattle.reasons.specs.Why.{byDuty}
 use native.Mathlib.Omega.{arith}
-use mathlib.Core.Path.{subst, sym, ap, _∙_}
+use mathlib.Core.Path.{subst, sym, _∙_}
 use borrow.Author.Needs.{needs}
 use Rattle.isis_gr_why.proofs.frames.why_outranked.Statement.{statement}
 use Rattle.isis_gr_why.proofs.frames.why_outranked.Tie as tie

@@ -2,6 +2,8 @@
 use Rattle.isis_gr_why.proofs.ToldLaws.{silent-other, silent-refused, told-frame}
 use mathlib.Core.Path.{refl, sym, ap, _∙_}
 use Rattle.model.specs.Answers.{receivedOf}
+use Rattle.model.specs.Step.{step}
+use Rattle.gateway.specs.Words.{gatewayOf}
 use borrow.Author.Needs.{needs}
 use Rattle.isis_gr_why.proofs.frames.why_silent.Statement.{statement}
 use Rattle.isis_gr_why.proofs.frames.why_silent.Tie as tie
@@ -13,7 +15,7 @@ enum-told : tie.Need-enum-told
 enum-told c = search needs
 
 returns : tie.Need-returns
-returns c = let a = c .before .before .before .before .args in λ frame b x t n. silent-other _ _ (c .enum-told .given .1) (a .mac) frame b x _ t _ _
+returns c = let a = c .before .before .before .before .args in λ frame b x t n. silent-other _ _ (c .enum-told .given .1) (a .mac) frame b x _ t (gatewayOf (a .before .now)) (step (gatewayOf (a .before .now)) x)
 
 enum-known-answer : tie.Need-enum-known-answer
 enum-known-answer c = search needs
@@ -25,7 +27,7 @@ why-unordered-requires : tie.Need-why-unordered-requires
 why-unordered-requires c κs = search needs
 
 returns-2 : tie.Need-returns-2
-returns-2 c = let a = c .before .before .before .before .before .before .before .before .args in λ frame b x t n. silent-refused _ _ _ (c .before .before .before .before .made .given .1) (a .mac) frame b x _ t _ (c .before .answer .given .1) _ _ refl
+returns-2 c = let a = c .before .before .before .before .before .before .before .before .args in λ frame b x t n. silent-refused _ _ _ (c .before .before .before .before .made .given .1) (a .mac) frame b x _ t _ (c .before .answer .given .1) (gatewayOf (a .before .now)) (step (gatewayOf (a .before .now)) x) refl
 
 returns-3 : tie.Need-returns-3
 returns-3 c =
