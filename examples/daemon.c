@@ -1,6 +1,7 @@
 /* A small speaker of IS-IS hellos on one interface (AF_PACKET; Linux, root): holds P2P or LAN adjacencies, restarts, starts, plans a restart,
  * and answers those that do. It keeps no LSPs: its CSNPs are empty, and a level's database is complete with its CSNP set, or, where none comes, as soon
- * as no T1 runs. What a daemon of its own would do about SPF, LSPs and forwarding is printed. `make live` runs it against FRR and against itself.
+ * as no T1 runs. What a daemon of its own would do about SPF, LSPs and forwarding is printed, and why a neighbour that is heard is not advertised or gets
+ * no CSNPs. `make live` runs it against FRR and against itself.
  *
  *   daemon NAME INTERFACE p2p|lan SYSTEM_ID IPV4 SECONDS [restart|start] [plan=AT] [reverse=METRIC] [levels=MASK] [priority=N]
  *
@@ -9,6 +10,7 @@
 #define _DEFAULT_SOURCE
 #include "isis_gr.h"
 
+#include "explain.h"
 #include "hello.h"
 #include "raw.h"
 
@@ -24,7 +26,7 @@ typedef struct {
 } neighbour;
 
 static isis_gr_gateway g; /* static: 5,120 octets are much for a small stack */
-static isis_gr_settings settings;
+static isis_gr_settings settings = {.t1 = T1, .t2 = T2, .tries = TRIES, .count = 1};
 static const isis_gr_circuit *const circuit = &settings.circuits[0];
 static const char *name, *interface;
 static uint8_t mode; /* ISIS_GR_MODE_..: as it was set up, and Running once that ended */
@@ -220,8 +222,15 @@ static void learn(const uint8_t *frame, const uint8_t *source, const isis_gr_rec
 
 static void hello_came(const uint8_t *source, const uint8_t *frame, size_t n) {
     static const char *const records[3] = {"none", "INIT", "UP"};
-    uint8_t reply[ISIS_GR_REPLY_OCTETS];
-    isis_gr_received r = isis_gr_receive(&g, CIRCUIT, source, frame, n, reply, sizeof reply);
+    uint8_t reply[ISIS_GR_REPLY_OCTETS], question;
+    char why[EXPLAIN_ROOM];
+    isis_gr_received r;
+    for (question = ISIS_GR_WHY_NOT_ADVERTISED; question <= ISIS_GR_WHY_NO_CSNPS; question++) { /* by a hello nobody vanishes */
+        if (explain_hello(why, &g, CIRCUIT, question, source, frame, n)) {
+            say("%s", why);
+        }
+    }
+    r = isis_gr_receive(&g, CIRCUIT, source, frame, n, reply, sizeof reply);
     if (r.code != ISIS_GR_OK) {
         say("refused %u: %s", (unsigned)r.code, isis_gr_text(r.code));
         return;
@@ -364,12 +373,8 @@ int main(int n, char **words) {
     setvbuf(stdout, NULL, _IOLBF, 0);
     fd = raw_open(interface, settings.circuits[0].mac);
     start_clock = clock_now = read_clock();
-    settings.t1 = T1;
-    settings.t2 = T2;
-    settings.tries = TRIES;
     settings.clock = clock_now;
     settings.mode = mode;
-    settings.count = 1;
     settings.circuits[0].hold = HOLD;
     settings.circuits[0].metric = metric = 10;
     settings.circuits[0].id = OWN_CIRCUIT;

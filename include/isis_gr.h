@@ -1,4 +1,5 @@
-/* isis_gr: restart signaling (RFC 8706) and reverse metric (RFC 8500) for an IS-IS router, proved correct. Link with libisis_gr.a.
+/* isis_gr: restart signaling (RFC 8706) and reverse metric (RFC 8500) for an IS-IS router, proved correct. Link with libisis_gr.a; a program that asks
+ * isis_gr_why links libisis_gr_why.a too, and no other needs it.
  *
  * The library does no I/O, allocates nothing, and has no global and no clock of its own: hello frames and clock ticks go in; records, Restart
  * TLVs, orders (actions that the caller must take) and link metrics come out. Document 01 numbers the refusals; RFC sections are named at
@@ -30,7 +31,7 @@ extern "C" {
 #endif
 
 #define ISIS_GR_VERSION_MAJOR 0
-#define ISIS_GR_VERSION_MINOR 10
+#define ISIS_GR_VERSION_MINOR 11
 
 /* The layout of settings and answers between this header and the archive; it rises whenever one of them changes. The code below is compiled into
    the caller, so set up hands it on: an archive of another layout refuses 12 (isis_gr_fault: ISIS_GR_SETTING_VERSION). */
@@ -83,6 +84,33 @@ enum {
     ISIS_GR_SETTING_HOLD = 10,
     ISIS_GR_SETTING_METRIC = 11
 };
+enum { ISIS_GR_WHY_NOT_ADVERTISED = 0, ISIS_GR_WHY_VANISHED = 1, ISIS_GR_WHY_NO_CSNPS = 2 }; /* the questions of isis_gr_why */
+enum {
+    ISIS_GR_CALL_RECEIVE = 0,
+    ISIS_GR_CALL_TICK = 1,
+    ISIS_GR_CALL_RELEASE = 2,
+    ISIS_GR_CALL_CLEAR = 3,
+    ISIS_GR_CALL_CSNP_COMPLETE = 4,
+    ISIS_GR_CALL_DATABASE_COMPLETE = 5,
+    ISIS_GR_CALL_LOOK_UP = 6,
+    ISIS_GR_CALL_LINK_METRIC = 7,
+    ISIS_GR_CALL_NEXT_HELLO_FLAGS = 8,
+    ISIS_GR_CALL_WAITING_T1S = 9
+};
+enum {
+    ISIS_GR_REASON_NOT_SO = 0,     /* the record is advertised after the call; it did not go in the call; CSNPs were ordered, or the call is no receive */
+    ISIS_GR_REASON_INIT = 1,       /* not advertised: the record is INIT after the call */
+    ISIS_GR_REASON_SUPPRESSED = 2, /* not advertised: it is UP and Suppressed (RFC 8706, 3.2.2) */
+    ISIS_GR_REASON_NO_RECORD = 3,  /* not advertised: there is none */
+    ISIS_GR_REASON_REFUSED = 4,    /* not advertised: there is none, and the call is a receive that was refused on that circuit, whatever the frame's
+                                      key; no CSNPs: the frame was refused */
+    ISIS_GR_REASON_EXPIRED = 5,    /* vanished: by a tick */
+    ISIS_GR_REASON_RELEASED = 6,   /* vanished: by release */
+    ISIS_GR_REASON_CLEARED = 7,    /* vanished: by clear */
+    ISIS_GR_REASON_LINE = 8,       /* no CSNPs: the first line that fits the frame is one of 2 to 5 (document 01, "Marks and holding time") */
+    ISIS_GR_REASON_OUTRANKED = 9,  /* no CSNPs: on a LAN another router has the duty (RFC 8706, 3.2.1) */
+    ISIS_GR_REASON_UNKNOWN = 10    /* no question or no call has that number: nothing was asked */
+};
 
 /* ---- memory and settings */
 
@@ -111,6 +139,21 @@ typedef struct {
     uint8_t count;  /* how many of the circuits there are, 1 to 8 */
     isis_gr_circuit circuits[ISIS_GR_MAX_CIRCUITS];
 } isis_gr_settings;
+
+/* ---- a call that isis_gr_why is asked about */
+
+/* Its number and its arguments. Fields that are not the call's are not looked at. */
+typedef struct {
+    uint8_t call;          /* ISIS_GR_CALL_.. */
+    uint8_t circuit;       /* of every call but tick, database_complete and waiting_t1s */
+    uint8_t level;         /* of csnp_complete, database_complete and next_hello_flags */
+    uint32_t clock;        /* of tick */
+    const uint8_t *source; /* of receive, as all below: six octets */
+    const uint8_t *frame;
+    size_t frame_len;
+    uint8_t *reply; /* written as receive writes it */
+    size_t reply_len;
+} isis_gr_call;
 
 /* ---- answers */
 
@@ -199,6 +242,17 @@ typedef struct {
     uint8_t lowest; /* the lowest circuit with one, 0 for none */
 } isis_gr_waiting;
 
+/* The reason; a field that does not belong to it is 0. */
+typedef struct {
+    uint8_t reason;       /* ISIS_GR_REASON_.. */
+    uint8_t refused;      /* refused: the refusal's number, ISIS_GR_REFUSED_.. */
+    uint8_t line;         /* line: 2 to 5 */
+    uint8_t system_id[6]; /* outranked: the router with the greatest pair (priority, MAC) of those that have the duty before us; of several System IDs
+                             with that pair the lowest */
+    uint8_t priority;     /* outranked: its pair */
+    uint8_t mac[6];
+} isis_gr_reason;
+
 /* ---- the archive's functions: words and octets, packed and unpacked below */
 
 typedef struct {
@@ -221,6 +275,17 @@ uint32_t isis_gr_raw_look_up(const uint64_t *gateway, uint8_t circuit, uint8_t l
 uint64_t isis_gr_raw_link_metric(const uint64_t *gateway, uint8_t circuit);
 uint32_t isis_gr_raw_next_hello_flags(const uint64_t *gateway, uint8_t circuit, uint8_t level);
 uint32_t isis_gr_raw_waiting_t1s(const uint64_t *gateway);
+
+/* the one of libisis_gr_why.a */
+
+typedef struct {
+    uint64_t answer;
+    uint64_t pair;
+} isis_gr_raw_reason;
+
+isis_gr_raw_reason isis_gr_raw_why(const uint64_t *before, uint64_t *after, uint8_t question, uint8_t call, uint8_t call_circuit, uint8_t call_level,
+                                   uint32_t clock, const uint8_t *source, const uint8_t *frame, size_t frame_len, uint8_t *reply, size_t reply_len,
+                                   uint8_t circuit, uint8_t level, const uint8_t *system_id, const uint8_t *mac);
 
 /* ---- packing */
 
@@ -438,6 +503,53 @@ static inline isis_gr_waiting isis_gr_waiting_t1s(const isis_gr_gateway *gateway
     w.count = word >> 8 & 255u;
     w.lowest = (uint8_t)(word >> 16);
     return w;
+}
+
+/* Why (document 02, W-204): why is this neighbour not advertised, why did it vanish, why did we not order CSNPs? Of the gateway before a call, the call, and
+   a circuit with a record's key, as isis_gr_look_up takes it (on P2P mac may be NULL). The question about CSNPs goes by the call alone.
+
+   The call is made on `after`, memory of a second gateway that is lent for it, whatever it holds, and that may not overlap `before`: on return it is the
+   gateway as the call leaves it, and reply has what receive writes. `before` is not changed. So ask before the call is made, with the live gateway as
+   `before`, and nothing need be copied; or later, with a copy of it that was kept. Nothing refuses a question; a circuit that is not there, or on
+   a LAN a level that is not enabled there, has no record. A number of a question or a call that is none is ISIS_GR_REASON_UNKNOWN, and `after` and reply are
+   as they were. Needs libisis_gr_why.a. */
+static inline isis_gr_reason isis_gr_why(const isis_gr_gateway *before, isis_gr_gateway *after, uint8_t question, const isis_gr_call *call, uint8_t circuit,
+                                         uint8_t level, const uint8_t system_id[6], const uint8_t *mac) {
+    static const uint8_t none[6] = {0, 0, 0, 0, 0, 0};
+    int lends = call->call == ISIS_GR_CALL_RECEIVE;
+    isis_gr_raw_reason words = isis_gr_raw_why(before->words, after->words, question, call->call, call->circuit, call->level, call->clock,
+                                               lends ? call->source : none, lends ? call->frame : NULL, lends ? call->frame_len : 0,
+                                               lends ? call->reply : NULL, lends ? call->reply_len : 0, circuit, level, system_id, mac ? mac : none);
+    uint8_t detail = (uint8_t)(words.answer >> 8);
+    isis_gr_reason r;
+    size_t i;
+    r.reason = (uint8_t)words.answer;
+    r.refused = r.reason == ISIS_GR_REASON_REFUSED ? detail : 0;
+    r.line = r.reason == ISIS_GR_REASON_LINE ? detail : 0;
+    r.priority = (uint8_t)(words.pair >> 48);
+    for (i = 0; i < 6; i++) {
+        r.system_id[i] = (uint8_t)(words.answer >> (56 - 8 * i));
+        r.mac[i] = (uint8_t)(words.pair >> (40 - 8 * i));
+    }
+    return r;
+}
+
+/* A text for a reason; a refusal's own text is isis_gr_text of the field refused. */
+static inline const char *isis_gr_reason_text(uint8_t reason) {
+    static const char *const texts[11] = {
+        "not so",
+        "INIT, the neighbour does not hear us yet",
+        "suppressed until a hello with SA clear arrives",
+        "there is no record",
+        "the frame was refused",
+        "its holding time ran out",
+        "released, while it planned a restart",
+        "cleared, as its link went down",
+        "a line that orders none fits the frame",
+        "another router has the greater pair",
+        "no such question or call",
+    };
+    return reason < 11 ? texts[reason] : "no such reason";
 }
 
 #ifdef __cplusplus

@@ -1,14 +1,16 @@
-//! Links the proved archive, and takes the sizes from the C header. `ISIS_GR_LIB_DIR` names the archive's folder; without it, the folder
-//! that `rt staticlib isis_gr` writes to.
+//! Links the proved archives, and takes the sizes from the C header. `ISIS_GR_LIB_DIR` names their folder; without it, the folder that `rt staticlib`
+//! writes to.
 use std::path::PathBuf;
 
 fn main() {
     println!("cargo:rerun-if-env-changed=ISIS_GR_LIB_DIR");
     let root = PathBuf::from(std::env::var_os("CARGO_MANIFEST_DIR").expect("cargo sets it")).join("../..");
     let folder = std::env::var_os("ISIS_GR_LIB_DIR").map(PathBuf::from).unwrap_or_else(|| root.join("target/staticlib"));
-    println!("cargo:rerun-if-changed={}", folder.join("libisis_gr.a").display());
     println!("cargo:rustc-link-search=native={}", folder.display());
-    println!("cargo:rustc-link-lib=static=isis_gr");
+    for archive in ["isis_gr", "isis_gr_why"] {
+        println!("cargo:rerun-if-changed={}", folder.join(format!("lib{archive}.a")).display());
+        println!("cargo:rustc-link-lib=static={archive}");
+    }
 
     let header = root.join("include/isis_gr.h");
     println!("cargo:rerun-if-changed={}", header.display());

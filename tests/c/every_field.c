@@ -1,6 +1,6 @@
-/* Drives every constant of isis_gr.h and every field of every answer to more than one value. The numbers expected are derived from
- * docs/RULES.md, whose heading stands at each function, or from document 02; none was taken from a run. tools/check_codes fails on a constant or
- * a field that no test of this folder names. */
+/* Drives every constant of isis_gr.h and every field of every answer to more than one value, but for those of isis_gr_why, which why.c does. The numbers
+ * expected are derived from docs/RULES.md, whose heading stands at each function, or from document 02; none was taken from a run. tools/check_codes
+ * fails on a constant or a field that no test of this folder names. */
 #include "neighbours.h"
 
 /* docs/RULES.md, "Refusals by number": each leaves the gateway and the reply as they were; and its text */

@@ -15,13 +15,14 @@ static unsigned char *at_call;
 
 /* ---- what the calls take */
 
-static isis_gr_gateway g;
+static isis_gr_gateway g, after;
 static isis_gr_settings settings;
 static uint8_t packed[ISIS_GR_SETTINGS_OCTETS], frame[LONGEST], reply[ISIS_GR_REPLY_OCTETS], source[6];
 static size_t length, reply_length;
-static uint8_t circuit, level;
+static uint8_t circuit, level, question;
 static uint32_t now;
 static uint64_t found[2];
+static isis_gr_call call; /* made of these, for why */
 
 /* ---- the calls: each once on the archive's function, once on the header's */
 
@@ -51,11 +52,14 @@ CALL(look_up, isis_gr_raw_look_up(g.words, circuit, level, frame + 9, source, fo
 CALL(link_metric, isis_gr_raw_link_metric(g.words, circuit), isis_gr_link_metric(&g, circuit).code)
 CALL(next_hello_flags, isis_gr_raw_next_hello_flags(g.words, circuit, level), isis_gr_next_hello_flags(&g, circuit, level).code)
 CALL(waiting_t1s, isis_gr_raw_waiting_t1s(g.words), isis_gr_waiting_t1s(&g).count & 0u)
+CALL(why, /* done where question and call are known: 10 divided by 10 is 1 */
+     isis_gr_raw_why(g.words, after.words, question, call.call, circuit, level, now, source, frame, length, reply, reply_length, circuit, level, frame + 9,
+                     source).answer % 256 / ISIS_GR_REASON_UNKNOWN,
+     isis_gr_why(&g, &after, question, &call, circuit, level, frame + 9, source).reason / ISIS_GR_REASON_UNKNOWN)
 
 /* a call and its limit */
 #define ROW(name, limit) {#name, limit, raw_##name, c_##name, 0, 0, 0, 0}
-
-enum { WORDS, SET_UP, FAULT, RECEIVE, TICK, RELEASE, CLEAR, CSNP, DATABASE, LOOK_UP, METRIC, FLAGS, WAITING, CALLS };
+enum { WORDS, SET_UP, FAULT, RECEIVE, TICK, RELEASE, CLEAR, CSNP, DATABASE, LOOK_UP, METRIC, FLAGS, WAITING, WHY, CALLS };
 
 static struct {
     const char *name;
@@ -65,8 +69,7 @@ static struct {
     unsigned inputs, done;
 } calls[CALLS] = {
     ROW(gateway_words, 16), ROW(set_up, 64), ROW(fault, 32), ROW(receive, 320), ROW(tick, 144), ROW(release, 64), ROW(clear, 16),
-    ROW(csnp_complete, 96), ROW(database_complete, 96), ROW(look_up, 64), ROW(link_metric, 16), ROW(next_hello_flags, 16),
-    ROW(waiting_t1s, 16),
+    ROW(csnp_complete, 96), ROW(database_complete, 96), ROW(look_up, 64), ROW(link_metric, 16), ROW(next_hello_flags, 16), ROW(waiting_t1s, 16), ROW(why, 800),
 };
 
 static size_t depth(void (*what)(void)) {
@@ -101,9 +104,14 @@ static uint32_t paint(int which) {
     return code;
 }
 
-/* ---- frames */
+/* A question about a call, made of what the calls take. */
+static void ask_why(uint8_t what, uint8_t which) {
+    call = (isis_gr_call){which, circuit, level, now, source, frame, length, reply, reply_length};
+    question = what;
+    paint(WHY);
+}
 
-static const uint8_t zeros[6] = {0, 0, 0, 0, 0, 0};
+/* ---- frames */
 
 /* from the router of a number, which is its System ID and its MAC */
 static void header(uint8_t type, uint8_t router) {
@@ -118,7 +126,7 @@ static void header(uint8_t type, uint8_t router) {
     frame[14] = router;
     frame[16] = 27;
     frame[19] = 64;
-    memcpy(source, zeros, 6);
+    memset(source, 0, 6);
     source[0] = 2;
     source[5] = router;
 }
@@ -173,6 +181,7 @@ static void empty_up_to(size_t last) {
 static void received(void) {
     seal();
     reply_length = sizeof reply;
+    ask_why(ISIS_GR_WHY_NO_CSNPS, ISIS_GR_CALL_RECEIVE);
     paint(RECEIVE);
 }
 
@@ -298,16 +307,21 @@ static void refused(void) {
     EXPECT(paint(SET_UP) == 12);
 }
 
-/* What is asked of each circuit: of the last record in a room and of one that does not stand. */
+/* What is asked of each circuit: of the last record in a room and of one that does not stand; why, every question about every call, and one more of each. */
 static void ask(void) {
     for (circuit = 0; circuit <= ISIS_GR_MAX_CIRCUITS + 1; circuit++) {
-        uint8_t router;
+        uint8_t router, what, which;
         paint(METRIC);
         for (level = 0; level < 4; level++) {
             paint(FLAGS);
             for (router = 2; router < 3 + ROUTERS; router++) {
                 header(15, router);
                 paint(LOOK_UP);
+            }
+            for (what = 0; what <= ISIS_GR_WHY_NO_CSNPS + 1; what++) {
+                for (which = 0; which <= ISIS_GR_CALL_WAITING_T1S + 1; which++) {
+                    ask_why(what, which);
+                }
             }
         }
     }

@@ -1,6 +1,7 @@
 /* Fuzzes receive: an input is a mode (an octet modulo 3) and a list of calls. Each call's octets: circuit, source's last octet, clock step, reply room,
    frame length (2), frame. The lent frame and reply are copies of exactly their length, so that AddressSanitizer sees every octet past them. A refusal
-   must leave gateway and reply as they were, and octets past 11 are never written. With clang's libFuzzer: make fuzz. */
+   must leave gateway and reply as they were, and octets past 11 are never written. Before each frame a question is asked about it, why: its second gateway
+   and reply must be those of the receive, and its reason must hold of the answer and of a look up. With clang's libFuzzer: make fuzz. */
 #include "../c/two_circuits.h"
 
 #include <stdlib.h>
@@ -18,10 +19,27 @@ static void require(int so) {
     }
 }
 
+/* the reason of a question about the frame, against its answer and the record of the key that was asked about, after it */
+static void require_reason(uint8_t question, isis_gr_reason why, isis_gr_received r, isis_gr_looked l) {
+    if (question == ISIS_GR_WHY_NOT_ADVERTISED) {
+        require((why.reason == ISIS_GR_REASON_NOT_SO) == (l.advertised == 1) && (why.reason == ISIS_GR_REASON_INIT) == (l.state == ISIS_GR_RECORD_INIT));
+        require((why.reason == ISIS_GR_REASON_SUPPRESSED) == (l.state == ISIS_GR_RECORD_UP && l.suppressed));
+        require(l.state != ISIS_GR_RECORD_NONE || why.reason == (r.code ? ISIS_GR_REASON_REFUSED : ISIS_GR_REASON_NO_RECORD));
+    } else if (question == ISIS_GR_WHY_VANISHED) {
+        require(why.reason == ISIS_GR_REASON_NOT_SO);
+    } else {
+        require((why.reason == ISIS_GR_REASON_NOT_SO) == (r.csnps != 0) && (why.reason == ISIS_GR_REASON_REFUSED) == (r.code != ISIS_GR_OK));
+        require((why.line >= 2 && why.line <= 5) == (why.reason == ISIS_GR_REASON_LINE));
+        require(why.reason != ISIS_GR_REASON_OUTRANKED || (r.reply == ISIS_GR_REPLY_RA && r.before == ISIS_GR_RECORD_UP && r.level != 0));
+    }
+    require(why.refused == (why.reason == ISIS_GR_REASON_REFUSED ? r.code : 0));
+}
+
 int LLVMFuzzerTestOneInput(const uint8_t *data, size_t size);
 
 int LLVMFuzzerTestOneInput(const uint8_t *data, size_t size) {
-    static isis_gr_gateway g, before;
+    static isis_gr_gateway g, before, after;
+    static const uint8_t nobody[6] = {0};
     uint32_t clock = 0;
     if (size == 0) {
         return 0;
@@ -32,8 +50,11 @@ int LLVMFuzzerTestOneInput(const uint8_t *data, size_t size) {
     while (size >= 6) {
         const uint8_t source[6] = {2, 0, 0, 0, 0, data[1]};
         size_t room = data[3] % 24, length = (size_t)data[4] << 8 | data[5], i;
-        uint8_t circuit = data[0] % 4;
-        uint8_t *frame, *reply;
+        uint8_t circuit = data[0] % 4, question = (uint8_t)((data[1] + data[5]) % 3), level;
+        uint8_t *frame, *reply, *lent;
+        const uint8_t *id;
+        isis_gr_call call = {ISIS_GR_CALL_RECEIVE, 0, 0, 0, NULL, NULL, 0, NULL, 0};
+        isis_gr_reason why;
         isis_gr_received r;
         clock += data[2] % 8;
         data += 6;
@@ -42,15 +63,29 @@ int LLVMFuzzerTestOneInput(const uint8_t *data, size_t size) {
         require(isis_gr_tick(&g, clock).code == ISIS_GR_OK);
         frame = malloc(length);
         reply = malloc(room);
+        lent = malloc(room);
         if (length > 0) {
             memcpy(frame, data, length);
         }
         if (room > 0) {
             memset(reply, 0xEE, room);
+            memset(lent, 0xEE, room);
         }
+        id = length < 15 ? nobody : frame + 9;
+        level = length > 4 && (frame[4] & 31) == 16 ? 2 : 1;
+        call.circuit = circuit;
+        call.source = source;
+        call.frame = frame;
+        call.frame_len = length;
+        call.reply = lent;
+        call.reply_len = room;
         before = g;
+        why = isis_gr_why(&g, &after, question, &call, circuit, level, id, source);
+        require(memcmp(&g, &before, sizeof g) == 0);
         r = isis_gr_receive(&g, circuit, source, frame, length, reply, room);
         require(r.code <= ISIS_GR_REFUSED_NO_ROOM);
+        require(memcmp(&g, &after, sizeof g) == 0 && (room == 0 || memcmp(lent, reply, room) == 0));
+        require_reason(question, why, r, isis_gr_look_up(&g, circuit, level, id, source));
         if (r.code != ISIS_GR_OK) {
             require(memcmp(&g, &before, sizeof g) == 0 && r.reply == ISIS_GR_REPLY_NONE && r.hello_flags == 0);
         }
@@ -65,6 +100,7 @@ int LLVMFuzzerTestOneInput(const uint8_t *data, size_t size) {
         }
         free(frame);
         free(reply);
+        free(lent);
         data += length;
         size -= length;
     }

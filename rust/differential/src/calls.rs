@@ -1,7 +1,8 @@
 //! Random settings and random calls.
 use crate::frames::{frame, mac, system, Meant, MACS, OWN, SYSTEMS};
 use crate::random::Random;
-use isis_gr_reference::{CircuitSettings, Kind, Levels, Mac, Mode, Settings, SystemId};
+use isis_gr::Question;
+use isis_gr_reference::{Asked, CircuitSettings, Kind, Levels, Mac, Mode, Settings, SystemId};
 
 /// A call of document 01, setup apart.
 #[derive(Clone, Debug, PartialEq, Eq)]
@@ -105,13 +106,23 @@ fn level(r: &mut Random) -> u8 {
     }
 }
 
+/// A MAC that several routers share, all with the greatest pair (priority, MAC) that there is.
+const SHARED: u8 = 20;
+
 /// A receive on a circuit. Most of a router's frames come from a MAC of its own, so that on a LAN too its records see many frames.
 pub fn receive(r: &mut Random, s: &Settings, number: u8) -> Call {
     let at = usize::from(number.wrapping_sub(1)) % s.circuits.len();
-    let (frame, meant) = frame(r, &s.circuits[at]);
-    let from = mac(if r.chance(75) { meant.system } else { r.below(u64::from(MACS)) as u8 });
+    let (mut frame, meant) = frame(r, &s.circuits[at]);
+    let from = match r.below(100) {
+        0..=71 => meant.system,
+        72..=79 => SHARED,
+        _ => r.below(u64::from(MACS)) as u8,
+    };
+    if let (SHARED, 1..=2, Some(priority)) = (from, meant.level, frame.get_mut(19)) {
+        *priority = 127;
+    }
     let room = if r.chance(3) { r.below(11) as usize } else { r.pick(&[11, 12, 20]) };
-    Call::Receive(number, from, frame, room, meant)
+    Call::Receive(number, mac(from), frame, room, meant)
 }
 
 /// The circuit that a call names, if it names one.
@@ -145,5 +156,38 @@ pub fn call(r: &mut Random, s: &Settings, now: &mut Now) -> Call {
         93..=94 => Call::Metric(n),
         95..=97 => Call::Flags(n, level(r)),
         _ => Call::Waiting,
+    }
+}
+
+/// A key, of those that frames have and of a few others.
+fn key(r: &mut Random, circuit: u8) -> Asked {
+    let from = r.below(u64::from(SYSTEMS)) as u8;
+    let (level, mac) = match r.below(100) {
+        0..=9 => (0, [0; 6]),
+        10..=69 => (level(r), mac(from)),
+        70..=79 => (level(r), mac(SHARED)),
+        _ => (level(r), mac(r.below(u64::from(MACS)) as u8)),
+    };
+    Asked { circuit, level, system: system(from), mac }
+}
+
+/// A question about a call, with a circuit and a key: often the call's own, or one whose record stands.
+pub fn question(r: &mut Random, call: &Call, stands: impl Fn(Asked) -> bool) -> (Question, Asked) {
+    let all = [Question::NotAdvertised, Question::Vanished, Question::NoCsnps];
+    let question = match call {
+        Call::Receive(..) if r.chance(80) => r.pick(&[Question::NotAdvertised, Question::NoCsnps]),
+        Call::Tick(_) | Call::Release(_) | Call::Clear(_) if r.chance(60) => Question::Vanished,
+        _ => r.pick(&all),
+    };
+    let circuit = named(call).filter(|_| r.chance(80)).unwrap_or_else(|| r.below(10) as u8);
+    match *call {
+        Call::Receive(_, mac, _, _, meant) if r.chance(60) => {
+            (question, Asked { circuit, level: meant.level, system: system(meant.system), mac })
+        }
+        _ => {
+            let tries = r.pick(&[1, 8]);
+            let drawn: Vec<Asked> = (0..tries).map(|_| key(r, circuit)).collect();
+            (question, drawn.iter().copied().find(|asked| stands(*asked)).unwrap_or(drawn[0]))
+        }
     }
 }

@@ -1,5 +1,5 @@
 //! One random run of both: a difference panics with the seed and the call.
-use crate::calls::{call, mode, named, settings, spoilt, Call, Now};
+use crate::calls::{call, mode, named, question, settings, spoilt, Call, Now};
 use crate::coverage::Coverage;
 use crate::frames::{mac, system, Meant, MACS, SYSTEMS};
 use crate::levels::ByLevel;
@@ -10,8 +10,9 @@ use crate::reference::Reference;
 use crate::side::{Answer, Outcome, Side, UNTOUCHED};
 use crate::starting::Start;
 use crate::watch::{timers_of, Seen, Watch};
-use isis_gr::{Ack, Flags, Freed, Hellos, Overload, Received, Record, Refusal, Timers};
-use isis_gr_reference::{Kind, Mac, Mode, Settings, MAX_CIRCUITS};
+use crate::why::{self, Asking};
+use isis_gr::{Ack, Flags, Freed, Hellos, Overload, Question, Received, Record, Refusal, Timers};
+use isis_gr_reference::{Asked, Kind, Mac, Mode, Settings, MAX_CIRCUITS};
 use isis_gr_sys::GATEWAY_WORDS;
 
 /// Both gateways, and the settings that they came from.
@@ -194,8 +195,21 @@ impl Pair {
         }
     }
 
-    /// One call on both; whether a restart or a start ended with it.
-    pub fn step(&mut self, c: &mut Coverage, call: &Call) -> bool {
+    /// A question about a call on both, and then the call; whether a restart or a start ended with it.
+    pub fn step(&mut self, c: &mut Coverage, call: &Call, (question, asked): (Question, Asked)) -> bool {
+        let (told, theirs) = (self.proved.why(question, call, asked), self.reference.why(question, call, asked));
+        assert_eq!((told.reason, &told.reply), (theirs.reason, &theirs.reply), "{question:?} of {asked:02x?}");
+        let before = self.proved.clone();
+        let (outcome, ended) = self.take(c, call);
+        assert!(told.after == self.proved && theirs.after == self.reference, "`after` is not what the call leaves");
+        assert_eq!(told.reply, outcome.reply, "the reply");
+        let (answer, after, settings) = (outcome.answer, &self.proved, &self.settings);
+        why::count(c, &Asking { question, asked, reason: told.reason, call, answer, before: &before, after, settings });
+        ended
+    }
+
+    /// One call on both.
+    fn take(&mut self, c: &mut Coverage, call: &Call) -> (Outcome, bool) {
         let before = self.proved.clone();
         let t1s = self.watch.t1s;
         let stood = match *call {
@@ -204,11 +218,11 @@ impl Pair {
         };
         let outcome = call.on(&mut self.proved);
         assert_eq!(outcome, call.on(&mut self.reference));
-        let Outcome { answer, reply } = outcome;
+        let answer = outcome.answer;
         match answer {
             Err(why) => {
                 assert!(self.proved == before, "a refusal changed the memory");
-                assert!(reply.iter().all(|octet| *octet == UNTOUCHED), "a refusal wrote the reply");
+                assert!(outcome.reply.iter().all(|octet| *octet == UNTOUCHED), "a refusal wrote the reply");
                 refused(c, call, why);
             }
             Ok(answer) => self.count(c, call, answer, stood),
@@ -226,7 +240,7 @@ impl Pair {
         c.hit_if(fewer && acknowledged, "T1 stops by an acknowledgement");
         c.hit_if(fewer && matches!(call, Call::Csnp(..)), "T1 stops by a CSNP set");
         c.hit_if(fewer && keeps && matches!(call, Call::Tick(_)), "T1 stops at its last expiry");
-        matches!(timers, Timers::Ended { .. })
+        (outcome, matches!(timers, Timers::Ended { .. }))
     }
 }
 
@@ -236,10 +250,12 @@ pub fn run(seed: u64, calls: u64) -> Coverage {
     let mut r = Random::new(seed);
     let mode = mode(&mut r);
     let mut pair = Pair::new(&mut r, &mut c, mode);
-    let mut now = Now(pair.settings.clock);
+    let (mut now, mut asking) = (Now(pair.settings.clock), Random::new(seed ^ 0xA5C));
     for i in 0..calls {
         let next = call(&mut r, &pair.settings, &mut now);
-        let outcome = std::panic::catch_unwind(std::panic::AssertUnwindSafe(|| pair.step(&mut c, &next)));
+        let stands = |at: Asked| pair.proved.look_up_lan(at.circuit, at.level, at.system, at.mac).is_ok_and(|found| found.is_some());
+        let asked = question(&mut asking, &next, stands);
+        let outcome = std::panic::catch_unwind(std::panic::AssertUnwindSafe(|| pair.step(&mut c, &next, asked)));
         match outcome {
             Ok(ended) if ended && r.chance(80) => pair.set_up_again(&mut c, now.0),
             Ok(_) => {}

@@ -1,6 +1,7 @@
 //! How often each branch of the definitions was reached. A branch that was never reached is a failure of the test.
 use crate::levels;
 use crate::marks;
+use crate::why;
 use std::collections::BTreeMap;
 
 /// Counts by the branch's name.
@@ -97,6 +98,7 @@ fn branches() -> Vec<String> {
     }
     all.extend(marks::branches());
     all.extend(levels::branches());
+    all.extend(why::branches());
     all
 }
 

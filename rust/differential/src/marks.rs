@@ -99,18 +99,26 @@ fn mark_name(stood: Option<Record>) -> &'static str {
     }
 }
 
+/// The first line that fits a frame, by the record of its key before and after.
+pub fn line(meant: Meant, stood: Option<Record>, after: Option<Record>) -> u8 {
+    let flags = if let Reading::Flags(f) = Reading::of(meant.flags) { f } else { 0 };
+    match flags {
+        f if f & 1 == 1 && is_up(stood) => 1,
+        f if f & 1 == 1 => 2,
+        f if f & 8 == 8 && is_up(stood) && is_up(after) => 3,
+        _ if mark_name(stood) == "Planned" => 4,
+        _ => 5,
+    }
+}
+
 /// Counts the line that a frame took, and holds the record to what document 02 says of a frame whose flags do not count.
 pub fn count(c: &mut Coverage, meant: Meant, took: &Took) {
     let reading = Reading::of(meant.flags);
-    let flags = if let Reading::Flags(f) = reading { f } else { 0 };
     let (from, tail) = (mark_name(took.stood), reading.tail());
-    let up = is_up(took.stood);
-    c.hit(&match flags {
-        f if f & 1 == 1 && up => format!("line 1, from {from}"),
-        f if f & 1 == 1 => format!("line 2, from {from}"),
-        f if f & 8 == 8 && up && is_up(took.after) => format!("line 3, from {from}"),
-        _ if from == "Planned" => format!("line 4{tail}"),
-        _ => format!("line 5, from {from}{tail}"),
+    c.hit(&match line(meant, took.stood, took.after) {
+        4 => format!("line 4{tail}"),
+        5 => format!("line 5, from {from}{tail}"),
+        n => format!("line {n}, from {from}"),
     });
     if let (Reading::Absent | Reading::Ignored, Some(after)) = (reading, took.after) {
         let suppressed = took.stood.is_some_and(|record| record.suppressed);

@@ -2,10 +2,12 @@
 //! the archive by their numbers.
 use crate::calls::Call;
 use crate::frames::Meant;
-use crate::side::Side;
+use crate::side::{Explained, Side, UNTOUCHED};
 use crate::words::{self, Words};
-use isis_gr::{CircuitSettings, Flags, Gateway, Hellos, Level, Levels, Received, Record, Refusal, Ticked, Timers, Waiting};
-use isis_gr_reference::{Kind, Mac, Mode, Settings, SystemId};
+use isis_gr::{
+    CircuitSettings, Flags, Gateway, Hellos, Key, Level, Levels, Question, Received, Record, Refusal, Ticked, Timers, Waiting, Why,
+};
+use isis_gr_reference::{Asked, Kind, Mac, Mode, Settings, SystemId};
 
 /// A gateway of the archive.
 #[derive(Clone)]
@@ -24,6 +26,29 @@ fn circuit(number: u8) -> Option<isis_gr::Circuit> {
 
 fn level(number: u8) -> Option<Level> {
     [Level::One, Level::Two].into_iter().find(|level| level.number() == number)
+}
+
+/// The key as the wrapper has it, where it can say it.
+fn key(Asked { level: at, system, mac, .. }: Asked) -> Option<Key> {
+    let system = isis_gr::SystemId(system);
+    let p2p = (at == 0 && mac == [0; 6]).then_some(Key::P2p(system));
+    p2p.or(level(at).map(|level| Key::Lan { level, system, mac: isis_gr::Mac(mac) }))
+}
+
+/// The call as the wrapper takes it to be asked about, where it can say it.
+fn spoken<'a>(call: &'a Call, reply: &'a mut [u8]) -> Option<isis_gr::Call<'a>> {
+    Some(match *call {
+        Call::Receive(n, from, ref frame, ..) => isis_gr::Call::Receive { circuit: circuit(n)?, from: isis_gr::Mac(from), frame, reply },
+        Call::Tick(clock) => isis_gr::Call::Tick { clock },
+        Call::Release(n) => isis_gr::Call::Release { circuit: circuit(n)? },
+        Call::Clear(n) => isis_gr::Call::Clear { circuit: circuit(n)? },
+        Call::Csnp(n, at) => isis_gr::Call::CsnpComplete { circuit: circuit(n)?, level: level(at)? },
+        Call::Database(at) => isis_gr::Call::DatabaseComplete { level: level(at)? },
+        Call::LookUpP2p(n, _) | Call::LookUpLan(n, ..) => isis_gr::Call::LookUp { circuit: circuit(n)? },
+        Call::Metric(n) => isis_gr::Call::LinkMetric { circuit: circuit(n)? },
+        Call::Flags(n, at) => isis_gr::Call::NextHelloFlags { circuit: circuit(n)?, level: level(at)? },
+        Call::Waiting => isis_gr::Call::Waiting,
+    })
 }
 
 /// The settings as the wrapper has them.
@@ -151,5 +176,16 @@ impl Side for Proved {
 
     fn waiting(&self) -> Waiting {
         self.0.waiting()
+    }
+
+    fn why(&self, question: Question, call: &Call, asked: Asked) -> Explained<Proved> {
+        let Explained { reason, after, reply } = words::explain(self.words(), question, call, asked);
+        let mut lent = vec![UNTOUCHED; reply.len()];
+        if let (Some(circuit), Some(key), Some(call)) = (circuit(asked.circuit), key(asked), spoken(call, &mut lent)) {
+            let mut other = Gateway::new();
+            assert_eq!(self.0.why(&mut other, question, call, circuit, key), Why { question, reason }, "as the wrapper reads it");
+            assert!(*other.words() == after && lent == reply, "as the wrapper lends it");
+        }
+        Explained { reason, after: Proved::of_words(after), reply }
     }
 }

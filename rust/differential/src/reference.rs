@@ -1,11 +1,12 @@
 //! The reference's side: its answers as the wrapper's types. The reference itself knows nothing of them.
-use crate::side::Side;
+use crate::calls::Call;
+use crate::side::{Explained, Side, UNTOUCHED};
 use isis_gr::{
-    Ack, Change, Circuit, Circuits, Flags, Freed, Hellos, Level, Levels, Mark, Overload, Phase, Received, Record, Refusal, Reply,
-    ReverseMetric, Standing, Ticked, Timers, Waiting,
+    Ack, Change, Circuit, Circuits, Flags, Freed, Hellos, Level, Levels, Line, Mark, Overload, Phase, Question, Reason, Received, Record,
+    Refusal, Reply, ReverseMetric, Standing, Ticked, Timers, Waiting,
 };
 use isis_gr_reference as theirs;
-use isis_gr_reference::{Mac, Settings, SystemId, MAX_CIRCUITS};
+use isis_gr_reference::{Asked, Mac, Settings, SystemId, MAX_CIRCUITS};
 
 /// A gateway of the reference.
 #[derive(Clone, Debug, PartialEq, Eq)]
@@ -109,6 +110,36 @@ fn record(found: theirs::Record) -> Record {
     Record { phase, advertised: found.advertised(), expiry, suppressed, priority, tlv, reverse }
 }
 
+fn question(asks: Question) -> theirs::Question {
+    match asks {
+        Question::NotAdvertised => theirs::Question::NotAdvertised,
+        Question::Vanished => theirs::Question::Vanished,
+        Question::NoCsnps => theirs::Question::NoCsnps,
+        other => panic!("{other:?} is no question of the reference"),
+    }
+}
+
+fn reason(named: theirs::Reason) -> Reason {
+    match named {
+        theirs::Reason::NotSo => Reason::NotSo,
+        theirs::Reason::Init => Reason::Init,
+        theirs::Reason::Suppressed => Reason::Suppressed,
+        theirs::Reason::NoRecord => Reason::NoRecord,
+        theirs::Reason::Refused(why) => Reason::Refused(refusal(why)),
+        theirs::Reason::Expired => Reason::Expired,
+        theirs::Reason::Released => Reason::Released,
+        theirs::Reason::Cleared => Reason::Cleared,
+        theirs::Reason::Line(2) => Reason::Fits(Line::Two),
+        theirs::Reason::Line(3) => Reason::Fits(Line::Three),
+        theirs::Reason::Line(4) => Reason::Fits(Line::Four),
+        theirs::Reason::Line(5) => Reason::Fits(Line::Five),
+        theirs::Reason::Line(n) => panic!("line {n}"),
+        theirs::Reason::Outranked { system, priority, mac } => {
+            Reason::Outranked { system: isis_gr::SystemId(system), priority, mac: isis_gr::Mac(mac) }
+        }
+    }
+}
+
 impl Side for Reference {
     fn new(settings: &Settings) -> Result<(Reference, Hellos), Refusal> {
         let (gateway, ordered) = theirs::Gateway::set_up(settings).map_err(refusal)?;
@@ -165,5 +196,23 @@ impl Side for Reference {
     fn waiting(&self) -> Waiting {
         let (count, lowest) = self.0.waiting();
         Waiting { count, lowest: lowest.map(|number| Circuit::new(number).expect("1 to 8")) }
+    }
+
+    fn why(&self, asks: Question, call: &Call, asked: Asked) -> Explained<Reference> {
+        let mut reply = Vec::new();
+        let made = match *call {
+            Call::Receive(circuit, source, ref frame, room, _) => {
+                reply = vec![UNTOUCHED; room];
+                theirs::Call::Receive { circuit, source, frame, reply: &mut reply }
+            }
+            Call::Tick(clock) => theirs::Call::Tick(clock),
+            Call::Release(n) => theirs::Call::Release(n),
+            Call::Clear(n) => theirs::Call::Clear(n),
+            Call::Csnp(n, level) => theirs::Call::CsnpComplete(n, level),
+            Call::Database(level) => theirs::Call::DatabaseComplete(level),
+            Call::LookUpP2p(..) | Call::LookUpLan(..) | Call::Metric(_) | Call::Flags(..) | Call::Waiting => theirs::Call::Asks,
+        };
+        let (named, after) = self.0.why(question(asks), made, asked);
+        Explained { reason: reason(named), after: Reference(after), reply }
     }
 }

@@ -3,8 +3,8 @@
 //! Arguments are plain numbers, so that circuits and levels that do not exist can be named. Answers are the wrapper's types: what is compared is what
 //! the wrapper read from the archive's words. Settings are the reference's, whose fields a test can read and spoil.
 use crate::calls::Call;
-use isis_gr::{Flags, Hellos, Received, Record, Refusal, Ticked, Timers, Waiting};
-use isis_gr_reference::{Mac, Settings, SystemId};
+use isis_gr::{Flags, Hellos, Question, Reason, Received, Record, Refusal, Ticked, Timers, Waiting};
+use isis_gr_reference::{Asked, Mac, Settings, SystemId};
 
 /// What a reply buffer holds before a call.
 pub const UNTOUCHED: u8 = 0xEE;
@@ -37,6 +37,19 @@ pub trait Side: Sized {
     fn next_hello_flags(&self, circuit: u8, level: u8) -> Result<Flags, Refusal>;
     /// T1s that still run.
     fn waiting(&self) -> Waiting;
+    /// Why, of this gateway before a call.
+    fn why(&self, question: Question, call: &Call, asked: Asked) -> Explained<Self>;
+}
+
+/// What a question is answered.
+#[derive(Clone, Debug, PartialEq, Eq)]
+pub struct Explained<S, R = Reason> {
+    /// The reason.
+    pub reason: R,
+    /// The gateway as the call leaves it.
+    pub after: S,
+    /// The reply buffer after the call; empty where the call has none.
+    pub reply: Vec<u8>,
 }
 
 /// What a call that was not refused answers.

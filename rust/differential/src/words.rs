@@ -1,10 +1,11 @@
 //! The archive's words as they are, apart from the wrapper's reading of them: what include/isis_gr.h says of every word is checked on random calls. A refusal
 //! tells nothing but its number and changes no word; a call that asks changes none either; a number is one that the header knows; bits without
-//! a meaning are 0; what is not told is not written.
-use crate::calls::{call, mode, settings, Call, Now};
+//! a meaning are 0; what is not told is not written. Of why: the gateway before the call is not written, and a number that is none changes nothing.
+use crate::calls::{call, mode, question, settings, Call, Now};
 use crate::random::Random;
-use crate::side::UNTOUCHED;
-use isis_gr_reference::{Kind, Mode, Settings};
+use crate::side::{Explained, UNTOUCHED};
+use isis_gr::{Line, Question, Reason, Refusal};
+use isis_gr_reference::{Asked, Kind, Mode, Settings};
 use isis_gr_sys::*;
 
 /// A gateway's words.
@@ -92,6 +93,114 @@ fn ask(words: &mut Words, call: &Call) -> Told {
         }
     };
     told
+}
+
+/// What the words of `after` hold before a question.
+const LENT: Words = [BLANK; GATEWAY_WORDS];
+
+/// The archive's answer to a question by its number, about a call with this number; the gateway before is not written.
+fn ask_why(words: &Words, question: u8, number: u8, call: &Call, asked: Asked) -> Explained<Words, ReasonWords> {
+    let (before, mut after) = (*words, LENT);
+    let (mut n, mut level, mut clock, mut source, mut lent, mut reply) =
+        (BLANK as u8, BLANK as u8, BLANK as u32, [UNTOUCHED; 6], &[][..], Vec::new());
+    match *call {
+        Call::Receive(circuit, from, ref frame, room, _) => (n, source, lent, reply) = (circuit, from, frame, vec![UNTOUCHED; room]),
+        Call::Tick(to) => clock = to,
+        Call::Release(circuit) | Call::Clear(circuit) | Call::Metric(circuit) => n = circuit,
+        Call::LookUpP2p(circuit, _) | Call::LookUpLan(circuit, ..) => n = circuit,
+        Call::Csnp(circuit, at) | Call::Flags(circuit, at) => (n, level) = (circuit, at),
+        Call::Database(at) => level = at,
+        Call::Waiting => {}
+    }
+    let Asked { circuit, level: at, system, mac } = asked;
+    let (frame, room) = (lent.as_ptr(), reply.len());
+    let to = reply.as_mut_ptr();
+    // SAFETY: each pointer is valid for a gateway's words, for six octets, or for the length beside it; those that are written overlap none.
+    let reason = unsafe {
+        let (gateway, source, system, mac) = (words.as_ptr(), source.as_ptr(), system.as_ptr(), mac.as_ptr());
+        isis_gr_raw_why(
+            gateway,
+            after.as_mut_ptr(),
+            question,
+            number,
+            n,
+            level,
+            clock,
+            source,
+            frame,
+            lent.len(),
+            to,
+            room,
+            circuit,
+            at,
+            system,
+            mac,
+        )
+    };
+    assert!(*words == before, "a question changed the gateway before the call");
+    Explained { reason, after, reply }
+}
+
+/// The number of a call that is asked about.
+fn call_number(call: &Call) -> u8 {
+    match call {
+        Call::Receive(..) => 0,
+        Call::Tick(_) => 1,
+        Call::Release(_) => 2,
+        Call::Clear(_) => 3,
+        Call::Csnp(..) => 4,
+        Call::Database(_) => 5,
+        Call::LookUpP2p(..) | Call::LookUpLan(..) => 6,
+        Call::Metric(_) => 7,
+        Call::Flags(..) => 8,
+        Call::Waiting => 9,
+    }
+}
+
+/// The reason that words tell, as the header says it.
+fn read(ReasonWords { answer, pair }: ReasonWords) -> Reason {
+    let (number, detail, system) = (bits(answer, 0, 8), bits(answer, 8, 8), bits(answer, 16, 48));
+    assert!(detail == 0 || number == 4 || number == 8, "a number or a line of no refusal and no line");
+    assert!((system, pair) == (0, 0) || number == 9, "a router that has no duty");
+    let octets = |n: u64| -> [u8; 6] { std::array::from_fn(|at| (n >> (40 - 8 * at)) as u8) };
+    match number {
+        0 => Reason::NotSo,
+        1 => Reason::Init,
+        2 => Reason::Suppressed,
+        3 => Reason::NoRecord,
+        4 => Reason::Refused(Refusal::of_number(detail as u32).filter(|refusal| refusal.number() <= 9).expect("a refusal of a frame")),
+        5 => Reason::Expired,
+        6 => Reason::Released,
+        7 => Reason::Cleared,
+        8 => Reason::Fits(*[Line::Two, Line::Three, Line::Four, Line::Five].get((detail as usize).wrapping_sub(2)).expect("2 to 5")),
+        9 => {
+            assert!(bits(pair, 48, 16) < 128, "a priority, and nothing above it");
+            let mac = isis_gr::Mac(octets(bits(pair, 0, 48)));
+            Reason::Outranked { system: isis_gr::SystemId(octets(system)), priority: bits(pair, 48, 8) as u8, mac }
+        }
+        _ => panic!("reason {number}"),
+    }
+}
+
+/// Why, by the archive's words.
+pub fn explain(words: &Words, question: Question, call: &Call, asked: Asked) -> Explained<Words> {
+    let number = match question {
+        Question::NotAdvertised => 0,
+        Question::Vanished => 1,
+        Question::NoCsnps => 2,
+        other => panic!("{other:?} has no number"),
+    };
+    let Explained { reason, after, reply } = ask_why(words, number, call_number(call), call, asked);
+    Explained { reason: read(reason), after, reply }
+}
+
+/// A number that is no question's or no call's: nothing was asked.
+fn check_unknown(r: &mut Random, words: &Words, call: &Call, asked: Asked) {
+    let (question, number) =
+        if r.chance(50) { (3 + r.below(253) as u8, call_number(call)) } else { (r.below(3) as u8, 10 + r.below(246) as u8) };
+    let Explained { reason, after, reply } = ask_why(words, question, number, call, asked);
+    assert_eq!(reason, ReasonWords { answer: 10, pair: 0 }, "question {question}, call {number}");
+    assert!(after == LENT && is_untouched(&reply), "nothing was asked, and something was written");
 }
 
 fn is_untouched(octets: &[u8]) -> bool {
@@ -238,9 +347,11 @@ pub fn run(seed: u64, calls: u64) {
         assert!(!set_up(&mut words.clone(), &near), "an unknown mode");
     }
     assert!(set_up(&mut words, &octets), "settings in range");
-    let mut now = Now(s.clock);
+    let (mut now, mut asking) = (Now(s.clock), Random::new(seed ^ 0xA5C));
     for _ in 0..calls {
         let next = call(&mut r, &s, &mut now);
+        let (_, asked) = question(&mut asking, &next, |_| false);
+        check_unknown(&mut asking, &words, &next, asked);
         check_places(hellos(&octets), &next, &tell(&mut words, &next));
     }
 }

@@ -6,7 +6,7 @@ use crate::frame::{self, Hello, Link, RESTART};
 use crate::metric;
 use crate::refusal::Refusal;
 use crate::settings::{CircuitSettings, Kind, Level, Levels, Mac, Mode, Settings, SystemId, MAX_CIRCUITS};
-use crate::table::{Key, Place, Room};
+use crate::table::{Key, Place, Room, Senior};
 use crate::timers::{Heard, Timers};
 use crate::tlvs::Flags;
 
@@ -184,6 +184,12 @@ impl Gateway {
         let mask = self.timers.as_ref().map_or(0, Timers::waiting);
         let lowest = (mask != 0).then(|| mask.trailing_zeros() as u8 / 2 + 1);
         (mask.count_ones(), lowest)
+    }
+
+    /// The router that has the CSNP duty before us at a level of a LAN circuit.
+    pub(crate) fn senior(&self, circuit: u8, level: u8) -> Option<Senior> {
+        let Circuit { settings: own, room } = &self.circuits[self.place(circuit).ok()?];
+        room.senior(Level::from_number(level)?, own.priority, own.mac)
     }
 
     /// The place of a circuit by its number. Refusal 1.

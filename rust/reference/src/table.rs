@@ -2,6 +2,7 @@
 
 use crate::adjacency::{Mark, Record};
 use crate::settings::{Kind, Level, Mac, SystemId};
+use std::cmp::Reverse;
 
 /// The records that a LAN circuit has room for, over both levels.
 const LAN_ROOM: usize = 16;
@@ -20,6 +21,28 @@ pub(crate) enum Key {
 struct Entry {
     key: Key,
     record: Record,
+}
+
+impl Entry {
+    /// A router, UP at this level, with a Restart TLV in its last frame and not marked Restart, that has a greater pair of
+    /// priority and MAC (RFC 8706, 3.2.1, item c). Who is DIS plays no part.
+    fn outranks(&self, level: Level, priority: u8, mac: Mac) -> bool {
+        let Entry { key, record } = self;
+        match key {
+            Key::Lan { level: at, mac: theirs, .. } => {
+                *at == level && record.up && record.tlv && record.mark != Mark::Restart && (record.priority, *theirs) > (priority, mac)
+            }
+            Key::PointToPoint { .. } => false,
+        }
+    }
+}
+
+/// A router that has the CSNP duty before us, with its pair.
+#[derive(Clone, Copy, Debug, PartialEq, Eq)]
+pub(crate) struct Senior {
+    pub(crate) system: SystemId,
+    pub(crate) priority: u8,
+    pub(crate) mac: Mac,
 }
 
 /// Where a key's record stands or may stand.
@@ -104,14 +127,18 @@ impl Room {
         any
     }
 
-    /// Whether some router, UP at this level, with a Restart TLV in its last frame and not marked Restart, has a greater
-    /// pair of priority and MAC (RFC 8706, 3.2.1, item c). Who is DIS plays no part.
+    /// Whether some router has the CSNP duty before us.
     pub(crate) fn outranked(&self, level: Level, priority: u8, mac: Mac) -> bool {
-        self.slots[..self.size].iter().flatten().any(|Entry { key, record }| match key {
-            Key::Lan { level: at, mac: theirs, .. } => {
-                *at == level && record.up && record.tlv && record.mark != Mark::Restart && (record.priority, *theirs) > (priority, mac)
-            }
-            Key::PointToPoint { .. } => false,
-        })
+        self.slots[..self.size].iter().flatten().any(|entry| entry.outranks(level, priority, mac))
+    }
+
+    /// Of those routers the one with the greatest pair; of several System IDs with that pair the lowest.
+    pub(crate) fn senior(&self, level: Level, priority: u8, mac: Mac) -> Option<Senior> {
+        let all = self.slots[..self.size].iter().flatten().filter(|entry| entry.outranks(level, priority, mac));
+        let named = all.filter_map(|Entry { key, record }| match *key {
+            Key::Lan { system, mac, .. } => Some(Senior { system, priority: record.priority, mac }),
+            Key::PointToPoint { .. } => None,
+        });
+        named.max_by_key(|router| (router.priority, router.mac, Reverse(router.system)))
     }
 }

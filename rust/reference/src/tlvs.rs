@@ -15,7 +15,7 @@ impl Flags {
     pub(crate) const PR: Flags = Flags(8);
     pub(crate) const PA: Flags = Flags(16);
 
-    pub(crate) fn octet(self) -> u8 {
+    pub(crate) const fn octet(self) -> u8 {
         self.0
     }
 

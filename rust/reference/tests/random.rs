@@ -217,6 +217,12 @@ fn random_calls_never_panic_and_refusals_change_nothing() {
                     let written = matches!(answer, Ok(Received { reply: Some(_), .. }));
                     let from = if written { 11 } else { 0 };
                     assert!(reply[from..].iter().all(|&octet| octet == UNTOUCHED));
+                    // A question that is asked before makes the same of a copy.
+                    let mut lent = vec![UNTOUCHED; room];
+                    let call = Call::Receive { circuit: named, source, frame: &frame, reply: &mut lent };
+                    let asked = Asked { circuit: named, level, system: dice.pick(&SYSTEMS), mac: source };
+                    let (_, after) = before.why(dice.pick(&[Question::NotAdvertised, Question::Vanished, Question::NoCsnps]), call, asked);
+                    assert_eq!((&after, &lent), (&gateway, &reply));
                     // Octets past the PDU Length are never read.
                     let mut longer = frame.clone();
                     longer.extend([0xd3; 30]);

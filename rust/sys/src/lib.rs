@@ -1,6 +1,6 @@
-//! The functions of the proved archive `libisis_gr.a`, as they are: words and octets. `include/isis_gr.h` says what each word holds, and what the
-//! proofs assume of a caller: pointers valid for the sizes named here, and buffers that neither overlap nor change during a call. The crate
-//! `isis-gr` is the safe way to use them.
+//! The functions of the proved archives `libisis_gr.a` and, of why, `libisis_gr_why.a`, as they are: words and octets. `include/isis_gr.h` says what each
+//! word holds, and what the proofs assume of a caller: pointers valid for the sizes named here, and buffers that neither overlap nor change during a
+//! call. The crate `isis-gr` is the safe way to use them.
 #![no_std]
 #![deny(missing_docs)]
 
@@ -14,6 +14,17 @@ pub struct ReceivedWords {
     pub answer: u64,
     /// The record.
     pub change: u64,
+}
+
+/// The two words of a reason: `answer` has its number in the lowest octet, the refusal's number or the line in the next, and the System ID of the router
+/// that has the duty in the upper six; `pair` has that router's MAC in the lower six octets, and its priority in the next.
+#[repr(C)]
+#[derive(Clone, Copy, PartialEq, Eq, Debug)]
+pub struct ReasonWords {
+    /// The reason, and a System ID.
+    pub answer: u64,
+    /// The pair.
+    pub pair: u64,
 }
 
 extern "C" {
@@ -51,4 +62,24 @@ extern "C" {
     pub fn isis_gr_raw_next_hello_flags(gateway: *const u64, circuit: u8, level: u8) -> u32;
     /// The T1s that still run.
     pub fn isis_gr_raw_waiting_t1s(gateway: *const u64) -> u32;
+    /// Why, of the gateway before a call, the call, which is made on the words of `after`, and a circuit with a record's key; the source MAC, the
+    /// System ID and the MAC of the key are six octets each, the source also where the call is no receive.
+    pub fn isis_gr_raw_why(
+        before: *const u64,
+        after: *mut u64,
+        question: u8,
+        call: u8,
+        call_circuit: u8,
+        call_level: u8,
+        clock: u32,
+        source: *const u8,
+        frame: *const u8,
+        frame_len: usize,
+        reply: *mut u8,
+        reply_len: usize,
+        circuit: u8,
+        level: u8,
+        system: *const u8,
+        mac: *const u8,
+    ) -> ReasonWords;
 }

@@ -1,4 +1,5 @@
 //! The archive's functions over references. All unsafe code of the crate is here.
+use crate::why::{Asked, Given};
 use isis_gr_sys as raw;
 
 pub(crate) use raw::{CIRCUITS, GATEWAY_WORDS, SETTINGS_OCTETS};
@@ -65,4 +66,30 @@ pub(crate) fn next_hello_flags(words: &Words, circuit: u8, level: u8) -> u32 {
 pub(crate) fn waiting(words: &Words) -> u32 {
     // SAFETY: the reference is valid for the words of a gateway.
     unsafe { raw::isis_gr_raw_waiting_t1s(words.as_ptr()) }
+}
+
+pub(crate) fn why(before: &Words, after: &mut Words, question: u8, given: Given<'_>, asked: &Asked) -> raw::ReasonWords {
+    let Given { call, circuit, level, clock, source, frame, reply } = given;
+    // SAFETY: all references are valid for the sizes that their types say, and each slice for the length that is handed on with it; those that are
+    // written overlap none.
+    unsafe {
+        raw::isis_gr_raw_why(
+            before.as_ptr(),
+            after.as_mut_ptr(),
+            question,
+            call,
+            circuit,
+            level,
+            clock,
+            source.as_ptr(),
+            frame.as_ptr(),
+            frame.len(),
+            reply.as_mut_ptr(),
+            reply.len(),
+            asked.circuit,
+            asked.level,
+            asked.system.as_ptr(),
+            asked.mac.as_ptr(),
+        )
+    }
 }

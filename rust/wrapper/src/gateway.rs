@@ -5,12 +5,13 @@ use crate::hellos::{Flags, HelloOrders, Hellos};
 use crate::names::{Circuit, Level, Mac, SystemId};
 use crate::record::Record;
 use crate::settings::{SettingError, Settings};
+use crate::why::{Call, Key, Question, Reason, Why};
 
 /// The octets of a reply, and the least reply buffer that `receive` takes.
 pub const REPLY_OCTETS: usize = 11;
 
-/// The level of a P2P look-up: it counts for nothing there, and is enabled on no LAN.
-const NO_LEVEL: u8 = 0;
+/// The level of a P2P key: it counts for nothing there, and is enabled on no LAN.
+pub(crate) const NO_LEVEL: u8 = 0;
 
 /// A gateway: memory of 5,120 octets that [`Gateway::set_up`] makes a gateway of, in place. It stands wherever its owner puts it: in a
 /// `static`, in a field, in a box. It is moved and cloned as so many octets.
@@ -148,6 +149,26 @@ impl Gateway {
     pub fn waiting(&self) -> Waiting {
         let word = ffi::waiting(&self.words);
         Waiting { count: word >> 8 & 0xFF, lowest: Circuit::new((word >> 16) as u8) }
+    }
+
+    /// Why (document 02, W-204), of this gateway before a call, the call, and a circuit with a record's key. The call is made on `after`, whatever that
+    /// holds: it is then the gateway as the call leaves it, and the reply buffer of a receive has what it writes. So ask before the call is made, of the
+    /// live gateway; or later, of a clone that was kept. A circuit that is not there, or on a LAN a level that is not enabled there, has no record.
+    ///
+    /// ```
+    /// # use isis_gr::{Call, Circuit, CircuitSettings, Gateway, Key, Kind, Levels, Mac, Mode, Question, Settings, SystemId};
+    /// let p2p = CircuitSettings::new(Kind::P2p, Levels::TWO, Mac([2; 6]));
+    /// let (mut gateway, mut scratch) = (Gateway::new(), Gateway::new());
+    /// gateway.set_up(&Settings::new(SystemId([1; 6]), Mode::Running, 0).circuit(p2p))?;
+    /// let first = Circuit::new(1).expect("1 to 8");
+    /// let key = Key::P2p(SystemId([2; 6]));
+    /// let why = gateway.why(&mut scratch, Question::NotAdvertised, Call::Tick { clock: 1 }, first, key);
+    /// assert_eq!(why.to_string(), "not advertised: there is no record");
+    /// # Ok::<(), isis_gr::SettingError>(())
+    /// ```
+    pub fn why(&self, after: &mut Gateway, question: Question, call: Call<'_>, circuit: Circuit, key: Key) -> Why {
+        let words = ffi::why(&self.words, &mut after.words, question.number(), call.given(), &key.asked(circuit));
+        Why { question, reason: Reason::of_words(words.answer, words.pair) }
     }
 }
 

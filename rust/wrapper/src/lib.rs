@@ -1,8 +1,8 @@
 //! Restart signaling (RFC 8706) and reverse metric (RFC 8500) for an IS-IS router.
 //!
-//! A safe wrapper of `libisis_gr.a`, whose every call is proved against its definition. It adds no rule: each method hands its arguments on
-//! and names what comes back. There is no I/O, no allocation and no clock inside: hello frames and clock ticks go in; records, Restart TLVs,
-//! orders (actions that the caller must take) and link metrics come out.
+//! A safe wrapper of `libisis_gr.a` and, for [`Gateway::why`], `libisis_gr_why.a`, whose every call is proved against its definition. It adds no rule:
+//! each method hands its arguments on and names what comes back. There is no I/O, no allocation and no clock inside: hello frames and clock ticks go in;
+//! records, Restart TLVs, orders (actions that the caller must take) and link metrics come out.
 //!
 //! A gateway is memory of its owner's. [`Gateway::new`] is a constant, so that a `static` holds it and no stack has to:
 //!
@@ -38,6 +38,7 @@ mod hellos;
 mod names;
 mod record;
 mod settings;
+mod why;
 
 pub use answers::{Ack, Freed, Overload, Received, Refusal, Reply, Ticked, Timers, Waiting};
 pub use gateway::{Gateway, REPLY_OCTETS};
@@ -45,3 +46,4 @@ pub use hellos::{Flags, HelloOrders, Hellos};
 pub use names::{Circuit, Circuits, Level, Levels, Mac, SystemId};
 pub use record::{Change, Mark, Phase, Record, ReverseMetric, Standing};
 pub use settings::{CircuitSettings, Kind, Mode, SettingError, Settings};
+pub use why::{Call, Key, Line, Question, Reason, Why};
