@@ -10,6 +10,7 @@ static void twelve_refusals(void) {
     isis_gr_ticked t;
     isis_gr_noticed n;
     isis_gr_looked l;
+    isis_gr_call call;
     uint32_t a, b;
     start(ISIS_GR_MODE_RUNNING, 100, 3, 60);
     p2p(HELLO_INITIALIZING, 0, 0);
@@ -17,25 +18,11 @@ static void twelve_refusals(void) {
     before = g;
     memset(reply, 0xEE, sizeof reply);
 
-    p2p(HELLO_UP, HELLO_RR, 0);
-    refused(ISIS_GR_REFUSED_NO_CIRCUIT, receive(3, peer_mac));
-    refused(ISIS_GR_REFUSED_REPLY_ROOM, isis_gr_receive(&g, P2P, peer_mac, frame, hello_end(&h), reply, ISIS_GR_REPLY_OCTETS - 1));
+    for (a = ISIS_GR_REFUSED_NO_CIRCUIT; a <= ISIS_GR_REFUSED_NO_ROOM; a++) {
+        call = refused_call(a, reply, sizeof reply);
+        refused(a, isis_gr_receive(&g, call.circuit, call.source, frame, call.frame_len, reply, call.reply_len));
+    }
     refused(ISIS_GR_REFUSED_NOT_HELLO, isis_gr_receive(&g, P2P, peer_mac, frame, 7, reply, sizeof reply));
-    refused(ISIS_GR_REFUSED_NOT_HELLO, receive(LAN, peer_mac));
-    refused(ISIS_GR_REFUSED_BAD_LENGTH, isis_gr_receive(&g, P2P, peer_mac, frame, hello_end(&h) - 1, reply, sizeof reply));
-    hello_put(&h, us, 1);
-    refused(ISIS_GR_REFUSED_TLV_PAST_END, receive(P2P, peer_mac));
-    p2p(HELLO_UP, -1, 0);
-    hello_tlv(&h, 211, NULL, 0);
-    refused(ISIS_GR_REFUSED_BAD_TLV, receive(P2P, peer_mac));
-    lan(1, us, 64, 0, 1);
-    refused(ISIS_GR_REFUSED_WRONG_SOURCE, receive(LAN, peer_mac));
-    hello_p2p(&h, frame, sizeof frame, ISIS_GR_LEVEL_BOTH, peer, HOLD);
-    hello_three_way(&h, HELLO_UP, 9, third, OWN_ID);
-    refused(ISIS_GR_REFUSED_WRONG_NEIGHBOR, receive(P2P, peer_mac));
-    hello_p2p(&h, frame, sizeof frame, ISIS_GR_LEVEL_BOTH, third, HOLD);
-    hello_three_way(&h, HELLO_DOWN, 9, NULL, 0);
-    refused(ISIS_GR_REFUSED_NO_ROOM, receive(P2P, third_mac));
     t = isis_gr_tick(&g, 99);
     EXPECT(t.code == ISIS_GR_REFUSED_CLOCK_BACK && t.lost == 0 && t.hellos == 0 && t.hello_flags == 0 && t.timers.restart == ISIS_GR_RESTART_NONE);
     n = isis_gr_csnp_complete(&g, P2P, 1);

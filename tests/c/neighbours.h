@@ -77,6 +77,59 @@ static inline isis_gr_received receive(uint8_t circuit, const uint8_t mac[6]) {
     return isis_gr_receive(&g, circuit, mac, frame, n, reply, sizeof reply);
 }
 
+/* a receive of the frame that was written last, as isis_gr_why takes it */
+static inline isis_gr_call hello_call(uint8_t circuit, const uint8_t mac[6], uint8_t *out, size_t room) {
+    isis_gr_call call = {ISIS_GR_CALL_RECEIVE, 0, 0, 0, NULL, frame, 0, NULL, 0};
+    call.circuit = circuit;
+    call.source = mac;
+    call.frame_len = hello_end(&h);
+    call.reply = out;
+    call.reply_len = room;
+    return call;
+}
+
+/* a receive that is refused with this number, 1 to 9, where the peer stands on P2P and nobody else does */
+static inline isis_gr_call refused_call(uint32_t code, uint8_t *out, size_t room) {
+    const uint8_t *from = peer_mac;
+    uint8_t circuit = P2P;
+    isis_gr_call call;
+    p2p(HELLO_UP, HELLO_RR, 0);
+    switch (code) {
+    case ISIS_GR_REFUSED_NO_CIRCUIT:
+        circuit = 3;
+        break;
+    case ISIS_GR_REFUSED_REPLY_ROOM:
+        room = ISIS_GR_REPLY_OCTETS - 1;
+        break;
+    case ISIS_GR_REFUSED_NOT_HELLO:
+        circuit = LAN;
+        break;
+    case ISIS_GR_REFUSED_TLV_PAST_END:
+        hello_put(&h, us, 1);
+        break;
+    case ISIS_GR_REFUSED_BAD_TLV:
+        p2p(HELLO_UP, -1, 0);
+        hello_tlv(&h, 211, NULL, 0);
+        break;
+    case ISIS_GR_REFUSED_WRONG_SOURCE:
+        lan(1, us, 64, 0, 1);
+        circuit = LAN;
+        break;
+    case ISIS_GR_REFUSED_WRONG_NEIGHBOR:
+        hello_p2p(&h, frame, sizeof frame, ISIS_GR_LEVEL_BOTH, peer, HOLD);
+        hello_three_way(&h, HELLO_UP, 9, third, OWN_ID);
+        break;
+    case ISIS_GR_REFUSED_NO_ROOM:
+        hello_p2p(&h, frame, sizeof frame, ISIS_GR_LEVEL_BOTH, third, HOLD);
+        hello_three_way(&h, HELLO_DOWN, 9, NULL, 0);
+        from = third_mac;
+        break;
+    }
+    call = hello_call(circuit, from, out, room);
+    call.frame_len -= code == ISIS_GR_REFUSED_BAD_LENGTH;
+    return call;
+}
+
 /* an answer of a refusal: its number, and the other fields 0 */
 static inline void refused(uint32_t code, isis_gr_received r) {
     static const uint8_t none[6] = {0};

@@ -30,15 +30,7 @@ static isis_gr_call tick(uint32_t clock) {
 }
 
 /* the frame that was written last */
-static isis_gr_call hello_from(uint8_t circuit, const uint8_t mac[6]) {
-    isis_gr_call call = on(ISIS_GR_CALL_RECEIVE, circuit, 0);
-    call.source = mac;
-    call.frame = frame;
-    call.frame_len = hello_end(&h);
-    call.reply = lent;
-    call.reply_len = ROOM;
-    return call;
-}
+static isis_gr_call hello_from(uint8_t circuit, const uint8_t mac[6]) { return hello_call(circuit, mac, lent, ROOM); }
 
 /* the call itself */
 static void make(isis_gr_gateway *on_this, const isis_gr_call *call, uint8_t *written) {
@@ -277,34 +269,17 @@ static void refused_as(uint8_t code, isis_gr_call call) {
 
 static void refusals(void) {
     isis_gr_call call;
+    uint8_t code;
     start(ISIS_GR_MODE_RUNNING, 100, 3, 60);
     p2p(HELLO_INITIALIZING, 0, 0);
     EXPECT(receive(P2P, peer_mac).code == ISIS_GR_OK);
-    refused_as(ISIS_GR_REFUSED_NO_CIRCUIT, hello_from(3, peer_mac));
-    call = hello_from(P2P, peer_mac);
-    call.reply_len = ISIS_GR_REPLY_OCTETS - 1;
-    refused_as(ISIS_GR_REFUSED_REPLY_ROOM, call);
-    refused_as(ISIS_GR_REFUSED_NOT_HELLO, hello_from(LAN, peer_mac));
+    for (code = ISIS_GR_REFUSED_NO_CIRCUIT; code <= ISIS_GR_REFUSED_NO_ROOM; code++) {
+        refused_as(code, refused_call(code, lent, ROOM));
+    }
     call = hello_from(P2P, peer_mac);
     call.frame = NULL;
     call.frame_len = 0;
     refused_as(ISIS_GR_REFUSED_NOT_HELLO, call);
-    call = hello_from(P2P, peer_mac);
-    call.frame_len--;
-    refused_as(ISIS_GR_REFUSED_BAD_LENGTH, call);
-    hello_put(&h, us, 1);
-    refused_as(ISIS_GR_REFUSED_TLV_PAST_END, hello_from(P2P, peer_mac));
-    p2p(HELLO_UP, NO_TLV, 0);
-    hello_tlv(&h, 211, NULL, 0);
-    refused_as(ISIS_GR_REFUSED_BAD_TLV, hello_from(P2P, peer_mac));
-    lan(1, us, 64, 0, 1);
-    refused_as(ISIS_GR_REFUSED_WRONG_SOURCE, hello_from(LAN, peer_mac));
-    hello_p2p(&h, frame, sizeof frame, ISIS_GR_LEVEL_BOTH, peer, HOLD);
-    hello_three_way(&h, HELLO_UP, 9, third, OWN_ID);
-    refused_as(ISIS_GR_REFUSED_WRONG_NEIGHBOR, hello_from(P2P, peer_mac));
-    hello_p2p(&h, frame, sizeof frame, ISIS_GR_LEVEL_BOTH, third, HOLD);
-    hello_three_way(&h, HELLO_DOWN, 9, NULL, 0);
-    refused_as(ISIS_GR_REFUSED_NO_ROOM, hello_from(P2P, third_mac));
 }
 
 /* ---- every call, and numbers that are none */

@@ -131,7 +131,8 @@ byLine Three d = Fits (lineNo Three)
 byLine Four d = Fits (lineNo Four)
 byLine Five d = Fits (lineNo Five)
 
--- of an accepted frame: the line that fits is that of the gateway before, the duty that of the room as the frame left it
+-- Of an accepted frame: the line that fits is that of the gateway before, the duty that of the room as the frame left it. Its circuit is there, and it was
+-- read, so the other clauses are never asked.
 unfoldable pub fitsRead : Gateway → Gateway → ℕ → Circuit → ℕ → Read → Why
 fitsRead g next n s mac (RefusedRead x) = NotSo
 fitsRead g next n s mac (ReadAs h) =

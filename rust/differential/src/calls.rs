@@ -125,6 +125,23 @@ pub fn receive(r: &mut Random, s: &Settings, number: u8) -> Call {
     Call::Receive(number, mac(from), frame, room, meant)
 }
 
+/// A call, by a name.
+pub fn name(call: &Call) -> &'static str {
+    match call {
+        Call::Receive(..) => "receive",
+        Call::Tick(_) => "tick",
+        Call::Release(_) => "release",
+        Call::Clear(_) => "clear",
+        Call::Csnp(..) => "csnp",
+        Call::Database(_) => "database",
+        Call::LookUpP2p(..) => "P2P look up",
+        Call::LookUpLan(..) => "LAN look up",
+        Call::Metric(_) => "metric",
+        Call::Flags(..) => "flags",
+        Call::Waiting => "waiting",
+    }
+}
+
 /// The circuit that a call names, if it names one.
 pub fn named(call: &Call) -> Option<u8> {
     match *call {

@@ -1,5 +1,5 @@
 //! One random run of both: a difference panics with the seed and the call.
-use crate::calls::{call, mode, named, question, settings, spoilt, Call, Now};
+use crate::calls::{call, mode, name, named, question, settings, spoilt, Call, Now};
 use crate::coverage::Coverage;
 use crate::frames::{mac, system, Meant, MACS, SYSTEMS};
 use crate::levels::ByLevel;
@@ -40,20 +40,7 @@ fn timers(c: &mut Coverage, t: Timers) {
 
 /// The branch of a refused call.
 fn refused(c: &mut Coverage, call: &Call, why: Refusal) {
-    let name = match call {
-        Call::Receive(..) => "receive",
-        Call::Tick(_) => "tick",
-        Call::Release(_) => "release",
-        Call::Clear(_) => "clear",
-        Call::Csnp(..) => "csnp",
-        Call::Database(_) => "database",
-        Call::LookUpP2p(..) => "P2P look up",
-        Call::LookUpLan(..) => "LAN look up",
-        Call::Metric(_) => "metric",
-        Call::Flags(..) => "flags",
-        Call::Waiting => "waiting",
-    };
-    c.hit(&format!("{name} refused {}", why.number()));
+    c.hit(&format!("{} refused {}", name(call), why.number()));
     c.hit_if(why == Refusal::NoRoom, "full room");
     c.hit_if(named(call).is_some_and(|n| !(1..=MAX_CIRCUITS).contains(&usize::from(n))), "circuit 0, or above 8");
     let (Call::Csnp(_, level) | Call::Database(level) | Call::LookUpLan(_, level, ..) | Call::Flags(_, level)) = *call else { return };

@@ -1,5 +1,5 @@
 //! The reasons (document 02, W-204), question by question: each is held to the document's words by what answers and look-ups show of the call, and counted.
-use crate::calls::{named, Call};
+use crate::calls::{name, named, Call};
 use crate::coverage::Coverage;
 use crate::frames::{mac, system, MACS, SYSTEMS};
 use crate::marks::{self, is_up};
@@ -29,7 +29,8 @@ pub struct Asking<'a> {
 }
 
 const KINDS: [&str; 2] = ["P2P", "LAN"];
-const OTHERS: [&str; 9] = ["tick", "release", "clear", "csnp", "database", "look up", "metric", "flags", "waiting"];
+/// The names of the calls that are no receive.
+const OTHERS: [&str; 10] = ["tick", "release", "clear", "csnp", "database", "P2P look up", "LAN look up", "metric", "flags", "waiting"];
 
 /// Every branch that must be reached.
 pub fn branches() -> Vec<String> {
@@ -72,22 +73,6 @@ pub fn branches() -> Vec<String> {
     }
     all.extend(OTHERS.map(|name| format!("no CSNPs: not so, {name}")));
     all
-}
-
-/// A call that is no receive.
-fn name(call: &Call) -> &'static str {
-    match call {
-        Call::Receive(..) => "receive",
-        Call::Tick(_) => "tick",
-        Call::Release(_) => "release",
-        Call::Clear(_) => "clear",
-        Call::Csnp(..) => "csnp",
-        Call::Database(_) => "database",
-        Call::LookUpP2p(..) | Call::LookUpLan(..) => "look up",
-        Call::Metric(_) => "metric",
-        Call::Flags(..) => "flags",
-        Call::Waiting => "waiting",
-    }
 }
 
 /// A router of a LAN, by its record.
