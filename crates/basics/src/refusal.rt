@@ -1,5 +1,5 @@
-// Why a call is refused, in the order in which it is checked (document 01, "Refusals by number"). The numbers
-// themselves stand in crate model.
+// Why a call is refused, in the order of the numbers (document 01, "Refusals by number"; document 02, W-205), which themselves stand in crate
+// model.
 pub enum Refusal {
     NoCircuit,
     ReplyRoom,
@@ -13,4 +13,6 @@ pub enum Refusal {
     ClockBack,
     NotRestarting,
     BadSetting,
+    NotBegun,
+    TooLong,
 }

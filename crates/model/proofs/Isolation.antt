@@ -16,7 +16,8 @@ use Rattle.model.specs.Step.{Call}
 use Rattle.model.specs.Trace.{trace}
 use Rattle.model.specs.Claim.{Neighbour, isIts, shared, observed, Agreeing, end, next, Isolation}
 use Rattle.model.proofs.ButFor.{but-for-refl}
-use Rattle.model.proofs.Near.{Near, near-sym, step-kept, its-near}
+use Rattle.model.proofs.Near.{Near, near-sym}
+use Rattle.model.proofs.NearSteps.{step-kept, its-near}
 
 -- how two lists with the same shared calls go together
 data Alike (b : Neighbour) : List Call → List Call → Type 0 where
@@ -73,5 +74,7 @@ isolation s g hellos r e b xs ys h =
       lan₂ = λ l. l;
       size = refl;
       elsewhere = λ n k. refl;
+      frames = refl;
+      unfinished = λ n k. refl;
       own = λ h₁ h₂. but-for-refl _ _;
     })

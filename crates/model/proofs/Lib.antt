@@ -4,4 +4,5 @@ pub mod RefusalLaws
 pub mod TimerEventLaws
 pub mod ButFor
 pub mod Near
+pub mod NearSteps
 pub mod Isolation

@@ -1,4 +1,4 @@
--- How near two runs stay: the invariant of demand 3, kept by every call. Callers: Isolation.
+-- How near two runs stay: the invariant of demand 3, kept by a call on a circuit and by one that names none. Callers: NearSteps, Isolation.
 use Prim.Native.Nat.{ℕ, zero, suc}
 use mathlib.Core.Path.{_≡_, refl, sym, ap, _∙_, subst}
 use mathlib.Core.Logic.{_≢_}
@@ -6,7 +6,7 @@ use mathlib.Core.Bool.{Bool, true, false, not, _&&_, true≢false, false≢true}
 use mathlib.Core.List.{List, map}
 use lib.ListN.{length, length-map}
 use lib.Dec.{eqb}
-use borrow.Author.Tests.{eqb-true, eqb-false, eq-eqb}
+use borrow.Author.Tests.{eq-eqb}
 use Rattle.basics.proofs.BoolLaws.{by-test, and-left, and-false}
 use Rattle.basics.specs.declared.kind.CircuitKind.{CircuitKind}
 use Rattle.basics.specs.declared.kind.CircuitKind.the-variants.{Lan, P2p}
@@ -25,10 +25,10 @@ use Rattle.control.specs.Common.{Common, circuitOf}
 use Rattle.settings.specs.declared.circuit.Chosen.{Chosen}
 use Rattle.settings.specs.declared.circuit.Chosen.the-variants.{Known, Unknown}
 use Rattle.model.specs.Answers.{Answer, TimersAnswer}
-use Rattle.model.specs.Gateway.{Room, Gateway, numbered, renew, noRoom, roomOf, recordAt}
+use Rattle.model.specs.Gateway.{Room, Gateway, withRooms, withCommon, numbered, renew, noRoom, roomOf, recordAt, unfinishedOn}
 use Rattle.model.specs.Receive.{Acted}
-use Rattle.model.specs.Step.{Local, Global, Tick, DatabaseComplete, Waiting, Call, At, Over, Outcome, act, lift, on, Judged, Refused as RefusedCall, Sweep, Tell, noneOf, isBack, tickOf, databaseOf, judge, sweptRoom, lapsed, carry, step}
-use Rattle.model.specs.Claim.{Neighbour, isSent, isIts, isLan, isThere, still, Observation, withoutLost, compared, Agree}
+use Rattle.model.specs.Step.{Local, Global, Tick, DatabaseComplete, Waiting, Call, At, Over, Outcome, act, lift, on, Judged, Refused as RefusedCall, Sweep, Tell, noneOf, isBack, tickOf, databaseOf, judge, sweptRoom, lapsed, carry}
+use Rattle.model.specs.Claim.{Neighbour, isSent, isLan, isThere, still, Observation, withoutLost, compared, Agree}
 use Rattle.model.proofs.Lists.{renew-both, length-renew, renew-numbered, numbered-map, ext-numbered}
 use Rattle.model.proofs.ButFor.{ButFor, but-for-refl, but-for-sym, but-for-trans, but-for-find, but-for-sweep, Same, act-its, act-both, act-common}
 
@@ -40,6 +40,8 @@ pub record Near (b : Neighbour) (s₁ s₂ : Bool) (g₁ g₂ : Gateway) : Type 
   pub lan₂ : s₂ ≡ true → isLan (circuitOf (g₂ .common) (b .circuit)) ≡ true
   pub size : length (g₁ .rooms) ≡ length (g₂ .rooms)
   pub elsewhere : (n : ℕ) → n ≢ b .circuit → roomOf g₁ n ≡ roomOf g₂ n
+  pub frames : length (g₁ .unfinished) ≡ length (g₂ .unfinished)
+  pub unfinished : (n : ℕ) → n ≢ b .circuit → unfinishedOn g₁ n ≡ unfinishedOn g₂ n
   pub own : s₁ ≡ true → s₂ ≡ true → ButFor (b .mac) (roomOf g₁ (b .circuit) .slots) (roomOf g₂ (b .circuit) .slots)
 
 pub near-sym : {b : Neighbour} {s₁ s₂ : Bool} {g₁ g₂ : Gateway} → Near b s₁ s₂ g₁ g₂ → Near b s₂ s₁ g₂ g₁
@@ -51,6 +53,8 @@ near-sym n =
       lan₂ = n .lan₁;
       size = sym (n .size);
       elsewhere = λ i h. sym (n .elsewhere i h);
+      frames = sym (n .frames);
+      unfinished = λ i h. sym (n .unfinished i h);
       own = λ h₁ h₂. but-for-sym (n .own h₂ h₁);
     }
 
@@ -76,7 +80,7 @@ pub record Kept (b : Neighbour) (s₁ s₂ : Bool) (c : Call) (x y : Outcome) : 
   pub near : Near b (still b s₁ c (x .answer)) (still b s₂ c (y .answer)) (x .next) (y .next)
 
 -- the records follow from nearness
-kept-of-near : (b : Neighbour) (s₁ s₂ : Bool) (c : Call) (x y : Outcome)
+pub kept-of-near : (b : Neighbour) (s₁ s₂ : Bool) (c : Call) (x y : Outcome)
     → Near b (still b s₁ c (x .answer)) (still b s₂ c (y .answer)) (x .next) (y .next)
     → (isThere b c ≡ false → (compared b c (x .answer) ≡ compared b c (y .answer)) × (x .reply ≡ y .reply))
     → (still b s₁ c (x .answer) ≡ true → still b s₂ c (y .answer) ≡ true
@@ -88,6 +92,7 @@ kept-of-near b s₁ s₂ c x y n away there =
       agree = record {
         call = refl;
         records = λ i k h. ap (λ (r : Room). find k (r .slots)) (n .elsewhere i h);
+        unfinished = n .unfinished;
         answer = λ h. away h .0;
         reply = λ h. away h .1;
         own-records = λ h₁ h₂ k h. but-for-find (n .own h₁ h₂) k h;
@@ -99,13 +104,13 @@ kept-of-near b s₁ s₂ c x y n away there =
 
 -- ---- what a call that names no circuit leaves as it was, in the mode Running
 
-data Steady (c : Common) : Judged → Type 0 where
+pub data Steady (c : Common) : Judged → Type 0 where
   refusing : {x : Refusal} → Steady c (RefusedCall x)
   sweeping : {clock : ℕ} {d : Common} {hellos : Hellos} {o : TimersAnswer} → d .timers .mode ≡ Running → d .circuits ≡ c .circuits
       → Steady c (Sweep clock d hellos o)
   telling : {d : Common} {a : Answer} → d .timers .mode ≡ Running → d .circuits ≡ c .circuits → Steady c (Tell d a)
 
-judge-steady : (c : Common) (w : Global) → c .timers .mode ≡ Running → Steady c (judge c w)
+pub judge-steady : (c : Common) (w : Global) → c .timers .mode ≡ Running → Steady c (judge c w)
 unfolding judge tickOf databaseOf
 judge-steady c (Tick clock) run =
     by-test (noneOf (c .circuits)) (λ h. rw h (telling run refl))
@@ -152,7 +157,7 @@ module _ (b : Neighbour) (s₁ s₂ : Bool) (g₁ g₂ : Gateway) (n : Near b s�
   set-near : (z₁ z₂ : Bool) → (z₁ ≡ true → s₁ ≡ true) → (z₂ ≡ true → s₂ ≡ true) → (c₁ c₂ : Common) → c₁ ≡ g₁ .common → c₂ ≡ g₂ .common
       → (i : ℕ) (r₁ r₂ : Room) → (i ≢ b .circuit → r₁ ≡ r₂)
       → (i ≡ b .circuit → z₁ ≡ true → z₂ ≡ true → ButFor (b .mac) (r₁ .slots) (r₂ .slots))
-      → Near b z₁ z₂ (record { common = c₁; rooms = renew (g₁ .rooms) i r₁ }) (record { common = c₂; rooms = renew (g₂ .rooms) i r₂ })
+      → Near b z₁ z₂ (withRooms (withCommon g₁ c₁) (renew (g₁ .rooms) i r₁)) (withRooms (withCommon g₂ c₂) (renew (g₂ .rooms) i r₂))
   set-near z₁ z₂ w₁ w₂ c₁ c₂ e₁ e₂ i r₁ r₂ away there =
       record {
         common = e₁ ∙ n .common ∙ sym e₂;
@@ -162,6 +167,8 @@ module _ (b : Neighbour) (s₁ s₂ : Bool) (g₁ g₂ : Gateway) (n : Near b s�
         size = cc (length-renew (g₁ .rooms) i r₁, length-renew (g₂ .rooms) i r₂, n .size);
         elsewhere = λ j h.
             renew-both (λ x y. x ≡ y) noRoom r₁ r₂ refl (g₁ .rooms) (g₂ .rooms) i j (n .size) (λ q. n .elsewhere j h) (λ q. away (rw q h));
+        frames = n .frames;
+        unfinished = n .unfinished;
         own = λ h₁ h₂.
             renew-both (λ x y. ButFor (b .mac) (x .slots) (y .slots)) noRoom r₁ r₂ (but-for-refl _ _) (g₁ .rooms) (g₂ .rooms) i (b .circuit)
             (n .size) (λ q. n .own (w₁ h₁) (w₂ h₂)) (λ q. there q h₁ h₂);
@@ -170,7 +177,7 @@ module _ (b : Neighbour) (s₁ s₂ : Bool) (g₁ g₂ : Gateway) (n : Near b s�
   -- the common part is changed alike in both
   common-near : (z₁ z₂ : Bool) → (z₁ ≡ true → s₁ ≡ true) → (z₂ ≡ true → s₂ ≡ true) → (c₁ c₂ : Common) → c₁ ≡ c₂
       → c₁ .timers .mode ≡ Running → c₁ .circuits ≡ g₁ .common .circuits
-      → Near b z₁ z₂ (record { common = c₁; rooms = g₁ .rooms }) (record { common = c₂; rooms = g₂ .rooms })
+      → Near b z₁ z₂ (withCommon g₁ c₁) (withCommon g₂ c₂)
   common-near z₁ z₂ w₁ w₂ c₁ c₂ e m q =
       let k₁ : circuitOf c₁ (b .circuit) ≡ circuitOf (g₁ .common) (b .circuit) = circuitOf-same (g₁ .common) c₁ q (b .circuit) in
       let k₂ : circuitOf c₂ (b .circuit) ≡ circuitOf (g₂ .common) (b .circuit) = cc (e, n .common) in
@@ -181,33 +188,35 @@ module _ (b : Neighbour) (s₁ s₂ : Bool) (g₁ g₂ : Gateway) (n : Near b s�
         lan₂ = λ h. rw k₂ (n .lan₂ (w₂ h));
         size = n .size;
         elsewhere = n .elsewhere;
+        frames = n .frames;
+        unfinished = n .unfinished;
         own = λ h₁ h₂. n .own (w₁ h₁) (w₂ h₂);
       }
 
   -- nothing is changed
-  same-near : (z₁ z₂ : Bool) → (z₁ ≡ true → s₁ ≡ true) → (z₂ ≡ true → s₂ ≡ true) → Near b z₁ z₂ g₁ g₂
+  pub same-near : (z₁ z₂ : Bool) → (z₁ ≡ true → s₁ ≡ true) → (z₂ ≡ true → s₂ ≡ true) → Near b z₁ z₂ g₁ g₂
   same-near z₁ z₂ w₁ w₂ = common-near z₁ z₂ w₁ w₂ (g₁ .common) (g₂ .common) (n .common) (n .mode) refl
 
-  -- a call on another circuit
+  -- a call c that is one on another circuit
   lift-away : (i : ℕ) (f : Common → Room → Acted) → i ≢ b .circuit
       → (lift g₁ i f .answer ≡ lift g₂ i f .answer) × (lift g₁ i f .reply ≡ lift g₂ i f .reply)
   unfolding lift
   lift-away i f h = (cc (n .common, n .elsewhere i h), cc (n .common, n .elsewhere i h))
 
-  away-on : (i : ℕ) (l : Local) → i ≢ b .circuit → (q : Chosen) → Kept b s₁ s₂ (At i l) (on g₁ i l q) (on g₂ i l q)
+  pub away-on : (c : Call) (i : ℕ) (l : Local) → i ≢ b .circuit → (q : Chosen) → Kept b s₁ s₂ c (on g₁ i l q) (on g₂ i l q)
   unfolding on lift
-  away-on i l h Unknown = kept-of-near b s₁ s₂ _ _ _ (same-near _ _ (and-left _ _) (and-left _ _)) (λ e. (refl, refl)) (λ h₁ h₂. (refl, refl))
-  away-on i l h (Known s) =
+  away-on c i l h Unknown = kept-of-near b s₁ s₂ _ _ _ (same-near _ _ (and-left _ _) (and-left _ _)) (λ e. (refl, refl)) (λ h₁ h₂. (refl, refl))
+  away-on c i l h (Known s) =
       let room : act i s l (g₁ .common) (roomOf g₁ i) .room ≡ act i s l (g₂ .common) (roomOf g₂ i) .room = cc (n .common, n .elsewhere i h) in
       let k = lift-away i (act i s l) h in
-      let answer = ap (compared b (At i l)) (k .0) in
+      let answer = ap (compared b c) (k .0) in
       kept-of-near b s₁ s₂ _ _ _
       (set-near _ _ (and-left _ _) (and-left _ _) _ _ (act-common i s _ _ (n .mode) l) (act-common i s _ _ mode₂ l) i _ _ (λ e. room)
       (λ e. absurd (h e)))
       (λ e. (answer, k .1)) (λ h₁ h₂. (answer, k .1))
 
   -- a shared call on its circuit
-  own-on : (l : Local) → isSent b l ≡ false → (q : Chosen) → (s₁ ≡ true → isLan q ≡ true)
+  pub own-on : (l : Local) → isSent b l ≡ false → (q : Chosen) → (s₁ ≡ true → isLan q ≡ true)
       → Kept b s₁ s₂ (At (b .circuit) l) (on g₁ (b .circuit) l q) (on g₂ (b .circuit) l q)
   unfolding on lift compared isThere
   own-on l e Unknown lan = kept-of-near b s₁ s₂ _ _ _ (same-near _ _ (and-left _ _) (and-left _ _)) (λ e. (refl, refl)) (λ h₁ h₂. (refl, refl))
@@ -227,23 +236,28 @@ module _ (b : Neighbour) (s₁ s₂ : Bool) (g₁ g₂ : Gateway) (n : Near b s�
       (λ h. absurd (h refl)) (λ q h₁ h₂. both h₁ h₂ .room))
       (λ h. absurd (true≢false (sym yes ∙ h))) (λ h₁ h₂. rw yes (both h₁ h₂ .answer, both h₁ h₂ .reply))
 
-  -- its frame, in the first run alone
-  its-on : (l : Local) → isSent b l ≡ true → (q : Chosen) → (s₁ ≡ true → isLan q ≡ true)
-      → Near b (still b s₁ (At (b .circuit) l) (on g₁ (b .circuit) l q .answer)) s₂ (on g₁ (b .circuit) l q .next) g₂
+  -- a call on its circuit, in the first run alone
+  pub alone-on : (z : Bool) → (z ≡ true → s₁ ≡ true) → (l : Local) (q : Chosen)
+      → ((s : Circuit) → q ≡ Known s → z ≡ true
+      → ButFor (b .mac) (act (b .circuit) s l (g₁ .common) (roomOf g₁ (b .circuit)) .room .slots) (roomOf g₁ (b .circuit) .slots))
+      → Near b z s₂ (on g₁ (b .circuit) l q .next) g₂
   unfolding on lift
-  its-on l e Unknown lan = same-near _ _ (and-left _ _) (λ h. h)
-  its-on l e (Known s) lan =
+  alone-on z w l Unknown but = same-near z s₂ w (λ h. h)
+  alone-on z w l (Known s) but =
       let i : ℕ = b .circuit in
-      let o : Outcome = on g₁ i l (Known s) in
-      subst (λ (rs : List Room). Near b (still b s₁ (At i l) (o .answer)) s₂ (o .next) (record { common = g₂ .common; rooms = rs }))
-      (renew-numbered (g₂ .rooms) i noRoom)
-      (set-near _ s₂ (and-left _ _) (λ h. h) _ _ (act-common i s _ _ (n .mode) l) refl i _ (roomOf g₂ i)
-      (λ h. absurd (h refl))
-      (λ q h₁ h₂.
-      but-for-trans (act-its b i s l (g₁ .common) (roomOf g₁ i) (lan-kind s _ refl (lan (and-left s₁ _ h₁))) e) (n .own (and-left s₁ _ h₁) h₂)))
+      subst (λ (rs : List Room). Near b z s₂ (on g₁ i l (Known s) .next) (withRooms g₂ rs)) (renew-numbered (g₂ .rooms) i noRoom)
+      (set-near z s₂ w (λ h. h) _ _ (act-common i s _ _ (n .mode) l) refl i _ (roomOf g₂ i) (λ h. absurd (h refl))
+      (λ q h₁ h₂. but-for-trans (but s refl h₁) (n .own (w h₁) h₂)))
+
+  -- its frame
+  pub its-on : (l : Local) → isSent b l ≡ true → (q : Chosen) → (s₁ ≡ true → isLan q ≡ true)
+      → Near b (still b s₁ (At (b .circuit) l) (on g₁ (b .circuit) l q .answer)) s₂ (on g₁ (b .circuit) l q .next) g₂
+  its-on l e q lan =
+      alone-on _ (and-left _ _) l q
+      (λ s r h. act-its b (b .circuit) s l (g₁ .common) (roomOf g₁ (b .circuit)) (lan-kind s _ refl (ap isLan (sym r) ∙ lan (and-left s₁ _ h))) e)
 
   -- a call that names no circuit
-  carry-kept : (w : Global) (d : Judged) → Steady (g₁ .common) d → Kept b s₁ s₂ (Over w) (carry g₁ d) (carry g₂ d)
+  pub carry-kept : (w : Global) (d : Judged) → Steady (g₁ .common) d → Kept b s₁ s₂ (Over w) (carry g₁ d) (carry g₂ d)
   unfolding carry isThere compared withoutLost
   carry-kept w d refusing = kept-of-near b s₁ s₂ _ _ _ (same-near _ _ (and-left _ _) (and-left _ _)) (λ e. (refl, refl)) (λ h₁ h₂. (refl, refl))
   carry-kept w d (telling m q) =
@@ -259,24 +273,10 @@ module _ (b : Neighbour) (s₁ s₂ : Bool) (g₁ g₂ : Gateway) (n : Near b s�
         lan₂ = c .lan₂;
         size = cc (length-map (g₁ .rooms) (sweptRoom clock), length-map (g₂ .rooms) (sweptRoom clock), n .size);
         elsewhere = λ i h. cc (swept-at clock (g₁ .rooms) i, swept-at clock (g₂ .rooms) i, n .elsewhere i h);
+        frames = n .frames;
+        unfinished = n .unfinished;
         own = λ h₁ h₂.
             rw (swept-at clock (g₁ .rooms) (b .circuit), swept-at clock (g₂ .rooms) (b .circuit))
             (but-for-sweep (expiredBy clock) (c .own h₁ h₂));
       })
       (λ e. (cc, refl)) (λ h₁ h₂. (cc, refl))
-
-  pub step-kept : (c : Call) → isIts b c ≡ false → Kept b s₁ s₂ c (step g₁ c) (step g₂ c)
-  unfolding step isIts
-  step-kept (Over w) e =
-      rw (ap (λ (c : Common). judge c w) (sym (n .common))) (carry-kept w (judge (g₁ .common) w) (judge-steady (g₁ .common) w (n .mode)))
-  step-kept (At i l) e =
-      rw (ap (λ (c : Common). circuitOf c i) (sym (n .common)))
-      (by-test (eqb i (b .circuit)) (λ h. rw (eqb-true i (b .circuit) h) (own-on l (cc) (circuitOf (g₁ .common) (b .circuit)) (n .lan₁)))
-      (λ h. away-on i l (eqb-false i (b .circuit) h) (circuitOf (g₁ .common) i)))
-
-  pub its-near : (c : Call) → isIts b c ≡ true → Near b (still b s₁ c (step g₁ c .answer)) s₂ (step g₁ c .next) g₂
-  unfolding step isIts
-  its-near (At i l) e =
-      let its : isSent b l ≡ true = by-test (eqb i (b .circuit)) (λ h. cc) (λ h. cc) in
-      rw (eqb-true i (b .circuit) (and-left _ (isSent b l) e)) (its-on l its (circuitOf (g₁ .common) (b .circuit)) (n .lan₁))
-  its-near (Over w) e = absurd (false≢true e)

@@ -1,7 +1,7 @@
 -- Demand 1, proved of the step: stage by stage, an answer that is a refusal comes with all as it was.
 use Prim.Native.Nat.{ℕ}
 use native.Mathlib.Omega.{arith}
-use mathlib.Core.Path.{_≡_, refl, ap, _∙_}
+use mathlib.Core.Path.{_≡_, refl, sym, ap, _∙_}
 use mathlib.Core.Bool.{Bool, true, false, cond}
 use mathlib.Core.List.{List, []}
 use Rattle.basics.proofs.BoolLaws.{by-test}
@@ -26,10 +26,11 @@ use Rattle.adjacency.specs.Keys.{keyIn}
 use Rattle.room.specs.Accept.{decided}
 use Rattle.timers.specs.Hellos.{Hellos}
 use Rattle.model.specs.Answers.{Refused, Told, Fact, TimersAnswer}
-use Rattle.model.specs.Gateway.{Gateway, Room, withRooms, renew, noRoom, roomOf}
+use Rattle.chunks.specs.Chunks.{Unfinished, None, Frame, Joined, Refused as RefusedChunk, As, join}
+use Rattle.model.specs.Gateway.{Gateway, Room, withRooms, withCommon, renew, noRoom, roomOf, unfinishedOn, withUnfinished}
 use Rattle.model.specs.Receive.{Acted, refuse, hereOf, accepted, reacted, decidedIn, checked, readIn, isShort, receive}
-use Rattle.model.specs.Step.{Outcome, Local, Receive, Release, Clear, CsnpComplete, LookUp, LinkMetric, NextHello, Global, Tick, DatabaseComplete, Waiting, At, Over, told, asksLevel, csnpComplete, lookUp, linkMetricOf, nextHello, act, lent, lift, on, Judged, Refused as RefusedCall, Sweep, Tell, noneOf, quiet, isBack, tickOf, databaseOf, judge, carry, step}
-use Rattle.model.specs.Refusals.{RefusalsKeep}
+use Rattle.model.specs.Step.{Outcome, Local, Receive, Release, Clear, CsnpComplete, LookUp, LinkMetric, NextHello, Global, Tick, DatabaseComplete, Waiting, Piece, Begin, Chunk, End, At, Over, Hand, told, asksLevel, csnpComplete, lookUp, linkMetricOf, nextHello, act, lent, lift, on, at, chunked, ended, hand, handOn, lentTo, Judged, Refused as RefusedCall, Sweep, Tell, noneOf, quiet, isBack, tickOf, databaseOf, judge, carry, step}
+use Rattle.model.specs.Refusals.{leftOn, leftRefused, RefusalsKeep}
 use Rattle.model.proofs.Lists.{renew-numbered}
 
 -- ---- calls on a circuit
@@ -97,7 +98,7 @@ on-stays g n l Unknown = λ x e. (refl, refl)
 on-stays g n l (Known s) = λ x e.
     let k = act-keeps n s l (g .common) (roomOf g n) x e in
     let room = ap (renew (g .rooms) n) (k .room) ∙ renew-numbered (g .rooms) n noRoom in
-    (ap (λ (c : Common). record { common = c; rooms = renew (g .rooms) n (act n s l (g .common) (roomOf g n) .room) }) (k .common) ∙ ap (withRooms g) room, k .reply)
+    (ap (λ (c : Common). withRooms (withCommon g c) (renew (g .rooms) n (act n s l (g .common) (roomOf g n) .room))) (k .common) ∙ ap (withRooms g) room, k .reply)
 
 module _ (g : Gateway) where
   abbrev Carried : Judged → Type 0
@@ -132,7 +133,33 @@ module _ (g : Gateway) where
       cond-carried (hasLevel (enabledLevels (c .circuits)) level) _ _ (cond-carried (isRunning (c .timers .mode)) _ _ (refusing NotRestarting) (told-carried _ _)) (refusing NoCircuit)
   judged c Waiting = told-carried c _
 
+-- ---- a frame in chunks
+
+-- no frame is begun, and none is left
+no-frame : (g : Gateway) (n : ℕ) → unfinishedOn g n ≡ None → g ≡ withUnfinished g n None
+no-frame g n e =
+    sym (ap (λ (l : List Unfinished). record { common = g .common; rooms = g .rooms; unfinished = l })
+    (ap (renew (g .unfinished) n) (sym e) ∙ renew-numbered (g .unfinished) n None))
+
+chunk-stays : (g : Gateway) (n : ℕ) (j : Joined) → Stays g [] (chunked g n j)
+unfolding chunked
+chunk-stays g n (RefusedChunk x) = λ y e. (refl, refl)
+chunk-stays g n (As u) = λ y e. absurd (let z : _≡_ {A = ℕ} 0 1 = cc in omega arith)
+
+end-stays : (g : Gateway) (n : ℕ) (b : List ℕ) (u : Unfinished) → unfinishedOn g n ≡ u → Stays (withUnfinished g n None) b (ended g n b u)
+unfolding ended at
+end-stays g n b None q = λ x e. (no-frame g n q, refl)
+end-stays g n b (Frame mac octets) q = on-stays (withUnfinished g n None) n (Receive mac octets b) (circuitOf (g .common) n)
+
+hand-stays : (g : Gateway) (n : ℕ) (p : Piece) (q : Chosen) → Stays (leftOn g n p q) (lentTo p) (handOn g n p q)
+unfolding handOn hand leftOn
+hand-stays g n p Unknown = λ x e. (refl, refl)
+hand-stays g n (Begin mac) (Known s) = λ x e. absurd (let z : _≡_ {A = ℕ} 0 1 = cc in omega arith)
+hand-stays g n (Chunk octets) (Known s) = chunk-stays g n (join (unfinishedOn g n) octets)
+hand-stays g n (End b) (Known s) = end-stays g n b (unfinishedOn g n) refl
+
 pub refusals-keep : RefusalsKeep
-unfolding step
+unfolding step at leftRefused
 refusals-keep g (At n l) x e = on-stays g n l (circuitOf (g .common) n) x e
 refusals-keep g (Over w) x e = judged g (g .common) w x e
+refusals-keep g (Hand n p) x e = hand-stays g n p (circuitOf (g .common) n) x e

@@ -1,7 +1,7 @@
 -- The timers after a call are those that its event leaves: stage by stage, then of a whole run.
 use Prim.Native.Nat.{ℕ}
-use mathlib.Core.Path.{_≡_, refl, ap, _∙_}
-use mathlib.Core.Bool.{Bool}
+use mathlib.Core.Path.{_≡_, refl, sym, ap, _∙_}
+use mathlib.Core.Bool.{Bool, false}
 use mathlib.Core.List.{List, [], _∷_}
 use Rattle.basics.proofs.BoolLaws.{by-test}
 use Rattle.basics.specs.Levels.{hasLevel}
@@ -27,11 +27,12 @@ use Rattle.settings.specs.declared.circuit.Circuit.{Circuit}
 use Rattle.settings.specs.declared.circuit.Chosen.{Chosen}
 use Rattle.settings.specs.declared.circuit.Chosen.the-variants.{Known, Unknown}
 use Rattle.control.specs.Common.{Common, circuitOf}
-use Rattle.model.specs.Gateway.{Gateway, Room, roomOf}
+use Rattle.chunks.specs.Chunks.{Unfinished, None, Frame, Joined, Refused as RefusedChunk, As, join}
+use Rattle.model.specs.Gateway.{Gateway, Room, roomOf, unfinishedOn, withUnfinished}
 use Rattle.model.specs.Receive.{Acted, refuse, saidOf, t1Of, accepted, reacted, decidedIn, checked, readIn, isShort, receive}
-use Rattle.model.specs.Step.{Local, Receive, Release, Clear, CsnpComplete, LookUp, LinkMetric, NextHello, Global, Tick, DatabaseComplete, Waiting, Call, At, Over, asksLevel, csnpComplete, lookUp, linkMetricOf, nextHello, act, lift, on, noneOf, isBack, tickOf, databaseOf, judge, carry, step}
+use Rattle.model.specs.Step.{Local, Receive, Release, Clear, CsnpComplete, LookUp, LinkMetric, NextHello, Global, Tick, DatabaseComplete, Waiting, Piece, Begin, Chunk, End, Call, At, Over, Hand, asksLevel, csnpComplete, lookUp, linkMetricOf, nextHello, act, lift, on, at, noneOf, isBack, tickOf, databaseOf, judge, carry, chunked, ended, hand, handOn, step}
 use Rattle.model.specs.Trace.{trace, leftBy, after}
-use Rattle.model.specs.TimerEvents.{TimerEvent, Hello as Heard, moved, movedAll, heardFrom, offeredOn, offeredOver, offered, whereDone, eventOf, eventsOf}
+use Rattle.model.specs.TimerEvents.{TimerEvent, Hello as Heard, moved, movedAll, heardFrom, offeredOn, offeredOver, offeredBy, offered, whereDone, eventOf, eventsOf}
 
 -- 2 is the number of UP
 up-number : (p : Phase) → eqb (phaseNo p) (phaseNo Up) ≡ isUp p
@@ -98,10 +99,35 @@ over-moves g (DatabaseComplete level) =
     (λ e. rw e refl)
 over-moves g Waiting = refl
 
+-- a frame in chunks: an end is a receive
+chunk-moves : (g : Gateway) (n : ℕ) (e : Bool → TimerEvent) (j : Joined)
+    → ((rose : Bool) → moved (e rose) (g .common .timers) ≡ g .common .timers)
+    → chunked g n j .next .common .timers ≡ moved (whereDone (chunked g n j .answer) e) (g .common .timers)
+unfolding chunked moved whereDone
+chunk-moves g n e (RefusedChunk x) q = refl
+chunk-moves g n e (As u) q = sym (q false)
+
+end-moves : (g : Gateway) (n : ℕ) (b : List ℕ) (u : Unfinished)
+    → ended g n b u .next .common .timers
+    ≡ moved (whereDone (ended g n b u .answer) (λ rose. offeredBy n (g .common) rose (End b) u)) (g .common .timers)
+unfolding ended at offeredBy moved whereDone
+end-moves g n b None = refl
+end-moves g n b (Frame mac octets) = on-moves (withUnfinished g n None) n (Receive mac octets b) (circuitOf (g .common) n)
+
+hand-moves : (g : Gateway) (n : ℕ) (p : Piece) (q : Chosen)
+    → handOn g n p q .next .common .timers
+    ≡ moved (whereDone (handOn g n p q .answer) (λ rose. offeredBy n (g .common) rose p (unfinishedOn g n))) (g .common .timers)
+unfolding handOn hand offeredBy moved whereDone
+hand-moves g n p Unknown = refl
+hand-moves g n (Begin mac) (Known s) = refl
+hand-moves g n (Chunk octets) (Known s) = chunk-moves g n _ (join (unfinishedOn g n) octets) (λ rose. refl)
+hand-moves g n (End b) (Known s) = end-moves g n b (unfinishedOn g n)
+
 pub step-timers : (g : Gateway) (c : Call) → step g c .next .common .timers ≡ moved (eventOf g c) (g .common .timers)
-unfolding step eventOf offered
+unfolding step at eventOf offered
 step-timers g (At n l) = on-moves g n l (circuitOf (g .common) n)
 step-timers g (Over w) = over-moves g w
+step-timers g (Hand n p) = hand-moves g n p (circuitOf (g .common) n)
 
 pub after-timers : (g : Gateway) (cs : List Call) → after g cs .common .timers ≡ movedAll (eventsOf (trace g cs)) (g .common .timers)
 unfolding trace leftBy movedAll

@@ -1,4 +1,4 @@
--- Demand 3 (document 01, "The runs of demand 3"): a bad neighbour harms itself. What two runs must agree on, and the claim.
+-- Demand 3 (document 01, "The runs of demand 3"; document 02, W-205): a bad neighbour harms itself. What two runs must agree on, and the claim.
 use Prim.Native.Nat.{ℕ}
 use mathlib.Core.Path.{_≡_}
 use mathlib.Core.Logic.{_≢_}
@@ -15,8 +15,8 @@ use Rattle.control.specs.Common.{circuitOf}
 use Rattle.settings.specs.declared.circuit.Chosen.{Chosen}
 use Rattle.settings.specs.declared.circuit.Chosen.the-variants.{Known, Unknown}
 use Rattle.model.specs.Answers.{Answer, Refused, Received, Ticked, Told, Done, FrameAnswer}
-use Rattle.model.specs.Gateway.{Gateway, Started, setup, renew, recordAt}
-use Rattle.model.specs.Step.{Local, Receive, Release, Clear, CsnpComplete, LookUp, LinkMetric, NextHello, Call, At, Over, Outcome}
+use Rattle.model.specs.Gateway.{Gateway, Started, setup, renew, recordAt, unfinishedOn}
+use Rattle.model.specs.Step.{Local, Receive, Release, Clear, CsnpComplete, LookUp, LinkMetric, NextHello, Call, At, Over, Hand, Outcome}
 use Rattle.model.specs.Trace.{Turn, trace}
 
 -- a bad neighbour: one source MAC on one circuit
@@ -36,16 +36,18 @@ isSent b (LookUp k) = false
 isSent b LinkMetric = false
 isSent b (NextHello level) = false
 
+-- .. and "every begin, chunk and end on the bad neighbour's circuit may differ along with its frames"
 unfoldable pub isIts : Neighbour → Call → Bool
 isIts b (At n l) = eqb n (b .circuit) && isSent b l
 isIts b (Over w) = false
+isIts b (Hand n p) = eqb n (b .circuit)
 
 -- "Without them the lists are equal .. those are the shared calls."
 unfoldable pub shared : Neighbour → List Call → List Call
 shared b [] = []
 shared b (c ∷ cs) = cond (isIts b c) (shared b cs) (c ∷ shared b cs)
 
--- ---- "On its LAN, until a run answers 9 there"
+-- ---- "On its LAN, until a run answers 9 there"; document 02, W-205: "it covers runs in which every frame there is given whole"
 
 unfoldable pub isLan : Chosen → Bool
 isLan Unknown = false
@@ -59,6 +61,7 @@ isLan (Known s) = by (s .kind)
 unfoldable pub isThere : Neighbour → Call → Bool
 isThere b (At n l) = eqb n (b .circuit)
 isThere b (Over w) = false
+isThere b (Hand n p) = eqb n (b .circuit)
 
 unfoldable pub isNine : Answer → Bool
 isNine (Refused n) = eqb n 9
@@ -66,9 +69,15 @@ isNine (Received f) = false
 isNine (Ticked lost hellos t) = false
 isNine (Told f) = false
 
+-- a call there after which the promise stands no more: one that is answered 9, or that hands a frame over in chunks
+abbrev pub ends : Call → Answer → Bool
+ends (At n l) a = isNine a
+ends (Over w) a = isNine a
+ends (Hand n p) a = true
+
 -- the promise for its LAN stood before a call, and stands after it
 abbrev pub still : Neighbour → Bool → Call → Answer → Bool
-still b s c a = s && not (isThere b c && isNine a)
+still b s c a = s && not (isThere b c && ends c a)
 
 -- ---- the runs
 
@@ -117,12 +126,14 @@ comparedThere b (NextHello level) a = a
 unfoldable pub compared : Neighbour → Call → Answer → Answer
 compared b (At n l) a = cond (eqb n (b .circuit)) (comparedThere b l a) a
 compared b (Over w) a = withoutLost (b .circuit) a
+compared b (Hand n p) a = a
 
 -- after a shared call
 pub record Agree (b : Neighbour) (x y : Observation) : Type 0 where
   pub call : x .call ≡ y .call
-  -- every record of every other circuit, and the answer and reply of a call that does not name its circuit
+  -- every record and the unfinished frame of every other circuit, and the answer and reply of a call that does not name its circuit
   pub records : (n : ℕ) (k : Key) → n ≢ b .circuit → recordAt (x .outcome .next) n k ≡ recordAt (y .outcome .next) n k
+  pub unfinished : (n : ℕ) → n ≢ b .circuit → unfinishedOn (x .outcome .next) n ≡ unfinishedOn (y .outcome .next) n
   pub answer : isThere b (x .call) ≡ false → compared b (x .call) (x .outcome .answer) ≡ compared b (y .call) (y .outcome .answer)
   pub reply : isThere b (x .call) ≡ false → x .outcome .reply ≡ y .outcome .reply
   -- while the promise for its LAN stands in both runs: the same there, but for records with its MAC

@@ -1,13 +1,16 @@
--- What the gateway holds (document 01, "What the gateway holds"): the common part, and each circuit's own.
+-- What the gateway holds (document 01, "What the gateway holds"; document 02, W-205): the common part, and of each circuit its records and its
+-- unfinished frame.
 use Prim.Native.Nat.{ℕ, zero, suc}
 use mathlib.Core.Bool.{cond}
 use mathlib.Core.List.{List, [], map}
-use lib.ListN.{getD, set}
+use lib.ListN.{getD, set, replicate}
+use Rattle.basics.specs.Mask.{circuits}
 use Rattle.basics.specs.declared.refusal.Refusal.the-variants.{BadSetting}
 use Rattle.adjacency.specs.declared.record.Adjacency.{Adjacency}
 use Rattle.adjacency.specs.declared.record.Key.{Key}
 use Rattle.adjacency.specs.declared.place.Slot.{Slot}
 use Rattle.room.specs.Table.{find, emptyRoom}
+use Rattle.chunks.specs.Chunks.{Unfinished, None}
 use Rattle.timers.specs.Hellos.{Hellos}
 use Rattle.timers.specs.Events.{startHellos}
 use Rattle.settings.specs.Settings.{settingsOk}
@@ -23,15 +26,16 @@ pub record Room : Type 0 where
 pub record Gateway : Type 0 where
   pub common : Common
   pub rooms : List Room
+  pub unfinished : List Unfinished
 
 abbrev pub withSlots : Room → List Slot → Room
 withSlots r t = record { slots = t }
 
 abbrev pub withRooms : Gateway → List Room → Gateway
-withRooms g rs = record { common = g .common; rooms = rs }
+withRooms g rs = record { common = g .common; rooms = rs; unfinished = g .unfinished }
 
 abbrev pub withCommon : Gateway → Common → Gateway
-withCommon g c = record { common = c; rooms = g .rooms }
+withCommon g c = record { common = c; rooms = g .rooms; unfinished = g .unfinished }
 
 -- ---- "circuits, numbered from 1"
 
@@ -52,18 +56,28 @@ noRoom = record { slots = [] }
 abbrev pub roomOf : Gateway → ℕ → Room
 roomOf g n = numbered (g .rooms) n noRoom
 
+-- "Each circuit has its own unfinished frame."
+abbrev pub unfinishedOn : Gateway → ℕ → Unfinished
+unfinishedOn g n = numbered (g .unfinished) n None
+
+abbrev pub withUnfinished : Gateway → ℕ → Unfinished → Gateway
+withUnfinished g n u = record { common = g .common; rooms = g .rooms; unfinished = renew (g .unfinished) n u }
+
 -- the record of a key on a circuit
 unfoldable pub recordAt : Gateway → ℕ → Key → Adjacency
 recordAt g n k = find k (roomOf g n .slots)
 
 -- ---- setup
 
--- "Setup takes these, a clock in seconds (32 bits) and a mode": every room is empty
+-- "Setup takes these, a clock in seconds (32 bits) and a mode": every room is empty, and no frame is begun
 abbrev pub newRoom : Circuit → Room
 newRoom s = record { slots = emptyRoom (s .kind) }
 
+abbrev pub noFrames : List Unfinished
+noFrames = replicate circuits None
+
 unfoldable pub newGateway : Settings → Gateway
-newGateway s = record { common = setupCommon s; rooms = map newRoom (s .circuits) }
+newGateway s = record { common = setupCommon s; rooms = map newRoom (s .circuits); unfinished = noFrames }
 
 -- the gateway, and the hellos that are ordered
 pub data Setup : Type 0 where

@@ -8,7 +8,7 @@ use Rattle.basics.specs.declared.levels.Levels.{Levels}
 use Rattle.basics.specs.declared.places.Lowest.{Lowest}
 use Rattle.basics.specs.declared.places.Lowest.the-variants.{Circuit, Nothing as NoneWaits}
 use Rattle.basics.specs.declared.refusal.Refusal.{Refusal}
-use Rattle.basics.specs.declared.refusal.Refusal.the-variants.{NoCircuit, ReplyRoom, NotHello, BadLength, TlvPastEnd, BadTlv, WrongSource, WrongNeighbor, NoRoom, ClockBack, NotRestarting, BadSetting}
+use Rattle.basics.specs.declared.refusal.Refusal.the-variants.{NoCircuit, ReplyRoom, NotHello, BadLength, TlvPastEnd, BadTlv, WrongSource, WrongNeighbor, NoRoom, ClockBack, NotRestarting, BadSetting, NotBegun, TooLong}
 use Rattle.restart_tlv.specs.Flags.{SA}
 use Rattle.restart_tlv.specs.Restart.{ackFlag}
 use Rattle.adjacency.specs.declared.duty.Csnps.{Csnps}
@@ -33,7 +33,7 @@ use Rattle.timers.specs.declared.outcome.Overload.the-variants.{Quiet, Set, Cle
 
 -- ---- document 01's
 
--- "Refusals by number, in the order checked"
+-- "Refusals by number, in the order checked"; 13 and 14 are document 02's (W-205)
 abbrev pub refusalNo : Refusal → ℕ
 refusalNo NoCircuit = 1
 refusalNo ReplyRoom = 2
@@ -47,6 +47,8 @@ refusalNo NoRoom = 9
 refusalNo ClockBack = 10
 refusalNo NotRestarting = 11
 refusalNo BadSetting = 12
+refusalNo NotBegun = 13
+refusalNo TooLong = 14
 
 -- the flags of the reply, "RA or PA alone" (2, 16), 0 without one; and its Remaining Time
 abbrev pub replyFlags : Acknowledgement → ℕ

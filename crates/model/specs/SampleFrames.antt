@@ -10,7 +10,7 @@ use Rattle.settings.specs.declared.mode.Mode.{Mode}
 use Rattle.settings.specs.declared.circuit.Circuit.{Circuit}
 use Rattle.settings.specs.declared.setup.Settings.{Settings}
 use Rattle.model.specs.Gateway.{Gateway, Setup, Refused as RefusedSetup, Started}
-use Rattle.model.specs.Step.{Outcome, Call, Receive, Tick, At, Over}
+use Rattle.model.specs.Step.{Outcome, Call, Receive, Tick, At, Over, Hand}
 use Rattle.model.specs.Trace.{Turn, trace}
 
 -- ---- settings
@@ -86,6 +86,7 @@ callsOf (r ∷ rs) = Over (Tick (r .clock)) ∷ receiving (r .frame) ∷ callsOf
 abbrev pub seenAt : {A : Type 0} → (Outcome → A) → Outcome → Call → List A → List A
 seenAt see o (At n l) rest = see o ∷ rest
 seenAt see o (Over w) rest = rest
+seenAt see o (Hand n p) rest = see o ∷ rest
 
 unfoldable pub seenBy : {A : Type 0} → (Outcome → A) → List Turn → List A
 seenBy see [] = []

@@ -1,5 +1,5 @@
--- The calls, and the step that each is (document 01, "What the gateway holds" and "Refusals by number"): its answer, the reply buffer,
--- and the next gateway. Each call's promise and every claim about lists of calls cite this step.
+-- The calls, and the step that each is (document 01, "What the gateway holds" and "Refusals by number"; document 02, W-205): its answer, the reply
+-- buffer, and the next gateway. Each call's promise and every claim about lists of calls cite this step.
 use Prim.Native.Nat.{ℕ, _-_}
 use mathlib.Core.Bool.{Bool, true, false, cond}
 use mathlib.Core.List.{List, [], _∷_, map}
@@ -9,11 +9,12 @@ use Rattle.basics.specs.declared.kind.CircuitKind.{CircuitKind}
 use Rattle.basics.specs.declared.kind.CircuitKind.the-variants.{Lan, P2p}
 use Rattle.basics.specs.declared.levels.Levels.{Levels}
 use Rattle.basics.specs.declared.refusal.Refusal.{Refusal}
-use Rattle.basics.specs.declared.refusal.Refusal.the-variants.{NoCircuit, ClockBack, NotRestarting}
+use Rattle.basics.specs.declared.refusal.Refusal.the-variants.{NoCircuit, ClockBack, NotRestarting, NotBegun}
 use Rattle.basics.specs.Levels.{hasLevel, onlyLevel}
 use Rattle.adjacency.specs.declared.record.Key.{Key}
 use Rattle.room.specs.Table.{find, released, expired, anyExpired, firstState, emptyRoom}
 use Rattle.metric.specs.Metric.{linkMetric}
+use Rattle.chunks.specs.Chunks.{Unfinished, None, Frame, begun, Joined, Refused as RefusedChunk, As, join}
 use Rattle.basics.specs.Mask.{circuits}
 use Rattle.timer_parts.specs.T1.{helloFlags}
 use Rattle.timers.specs.Hellos.{Hellos, noHellos}
@@ -30,7 +31,7 @@ use Rattle.settings.specs.declared.circuit.Chosen.the-variants.{Known, Unknown}
 use Rattle.adjacency.specs.Keys.{keyOn}
 use Rattle.model.specs.Numbers.{refusalNo, someWaits, lowestNo}
 use Rattle.model.specs.Answers.{Answer, Refused as RefusedAnswer, Ticked, Told, Fact, Done, Noticed, Looked, Metric, HelloFlags, Waits, TimersAnswer, timersAnswer, recordAnswer}
-use Rattle.model.specs.Gateway.{Room, Gateway, withSlots, roomOf, renew}
+use Rattle.model.specs.Gateway.{Room, Gateway, withSlots, withRooms, withCommon, roomOf, renew, unfinishedOn, withUnfinished}
 use Rattle.model.specs.Receive.{Acted, refuse, receive}
 
 -- ---- the calls
@@ -51,9 +52,17 @@ pub data Global : Type 0 where
   DatabaseComplete : (level : ℕ) → Global
   Waiting : Global
 
+-- those that hand a frame over in chunks (document 02, W-205), without their circuit's number: a frame is begun with its source MAC, a chunk added,
+-- and the frame ended with a reply buffer
+pub data Piece : Type 0 where
+  Begin : (mac : ℕ) → Piece
+  Chunk : (octets : List ℕ) → Piece
+  End : (buffer : List ℕ) → Piece
+
 pub data Call : Type 0 where
   At : (circuit : ℕ) → Local → Call
   Over : Global → Call
+  Hand : (circuit : ℕ) → Piece → Call
 
 pub record Outcome : Type 0 where
   pub answer : Answer
@@ -129,7 +138,7 @@ lent (NextHello level) = []
 unfoldable pub lift : Gateway → ℕ → (Common → Room → Acted) → Outcome
 lift g n f =
     let a : Acted = f (g .common) (roomOf g n) in
-    record { answer = a .answer; reply = a .reply; next = record { common = a .common; rooms = renew (g .rooms) n (a .room) } }
+    record { answer = a .answer; reply = a .reply; next = withRooms (withCommon g (a .common)) (renew (g .rooms) n (a .room)) }
 
 abbrev pub refused : Gateway → List ℕ → Refusal → Outcome
 refused g b x = record { answer = RefusedAnswer (refusalNo x); reply = b; next = g }
@@ -138,6 +147,9 @@ refused g b x = record { answer = RefusedAnswer (refusalNo x); reply = b; next =
 unfoldable pub on : Gateway → ℕ → Local → Chosen → Outcome
 on g n l Unknown = refused g (lent l) NoCircuit
 on g n l (Known s) = lift g n (act n s l)
+
+unfoldable pub at : Gateway → ℕ → Local → Outcome
+at g n l = on g n l (circuitOf (g .common) n)
 
 -- ---- the calls that name none
 
@@ -196,12 +208,45 @@ carry g (Sweep clock c hellos o) =
     record {
       answer = Ticked (map (lapsed clock) (g .rooms)) hellos o;
       reply = [];
-      next = record { common = c; rooms = map (sweptRoom clock) (g .rooms) };
+      next = withRooms (withCommon g c) (map (sweptRoom clock) (g .rooms));
     }
-carry g (Tell c a) = record { answer = a; reply = []; next = record { common = c; rooms = g .rooms } }
+carry g (Tell c a) = record { answer = a; reply = []; next = withCommon g c }
+
+-- ---- a frame in chunks
+
+abbrev pub handed : Gateway → Outcome
+handed g = record { answer = Told Done; reply = []; next = g }
+
+-- a chunk that was refused leaves "the unfinished frame .. as it was"
+unfoldable pub chunked : Gateway → ℕ → Joined → Outcome
+chunked g n (RefusedChunk x) = refused g [] x
+chunked g n (As u) = handed (withUnfinished g n u)
+
+-- 13, or receive on the joined octets: the frame is dropped, "even [by] one that receive refuses"
+unfoldable pub ended : Gateway → ℕ → List ℕ → Unfinished → Outcome
+ended g n b None = refused g b NotBegun
+ended g n b (Frame mac octets) = at (withUnfinished g n None) n (Receive mac octets b)
+
+-- "Beginning again drops it"
+unfoldable pub hand : Gateway → ℕ → Piece → Outcome
+hand g n (Begin mac) = handed (withUnfinished g n (begun mac))
+hand g n (Chunk octets) = chunked g n (join (unfinishedOn g n) octets)
+hand g n (End b) = ended g n b (unfinishedOn g n)
+
+-- the reply buffer that it lends
+abbrev pub lentTo : Piece → List ℕ
+lentTo (Begin mac) = []
+lentTo (Chunk octets) = []
+lentTo (End b) = b
+
+-- 1, ahead of 13 and 14
+unfoldable pub handOn : Gateway → ℕ → Piece → Chosen → Outcome
+handOn g n p Unknown = refused g (lentTo p) NoCircuit
+handOn g n p (Known s) = hand g n p
 
 -- ---- every call
 
 unfoldable pub step : Gateway → Call → Outcome
-step g (At n l) = on g n l (circuitOf (g .common) n)
+step g (At n l) = at g n l
 step g (Over w) = carry g (judge (g .common) w)
+step g (Hand n p) = handOn g n p (circuitOf (g .common) n)

@@ -1,4 +1,4 @@
--- What a call is to the timers (document 01, "Timers while Restarting"; document 02, W-201 and W-202): one event. The timers after a call are those
+-- What a call is to the timers (document 01, "Timers while Restarting"; document 02, W-201, W-202 and W-205): one event. The timers after a call are those
 -- that its event leaves (proofs/TimerEventLaws), so that a claim about the timers over lists of calls is one about lists of events.
 use Prim.Native.Nat.{ℕ, _-_}
 use mathlib.Core.Bool.{Bool, false, cond, not, _&&_}
@@ -20,9 +20,10 @@ use Rattle.control.specs.Common.{Common, circuitOf}
 use Rattle.adjacency.specs.declared.record.Phase.the-variants.{Up}
 use Rattle.model.specs.Numbers.{phaseNo}
 use Rattle.model.specs.Answers.{Answer, ChangeAnswer, Refused, Received, Ticked, Told}
-use Rattle.model.specs.Gateway.{Gateway}
+use Rattle.chunks.specs.Chunks.{Unfinished, None, Frame}
+use Rattle.model.specs.Gateway.{Gateway, unfinishedOn}
 use Rattle.model.specs.Receive.{saidOf, t1Of}
-use Rattle.model.specs.Step.{Local, Receive, Release, Clear, CsnpComplete, LookUp, LinkMetric, NextHello, Global, Tick, DatabaseComplete, Waiting, Call, At, Over, noneOf, step}
+use Rattle.model.specs.Step.{Local, Receive, Release, Clear, CsnpComplete, LookUp, LinkMetric, NextHello, Global, Tick, DatabaseComplete, Waiting, Piece, Begin, Chunk, End, Call, At, Over, Hand, noneOf, step}
 use Rattle.model.specs.Trace.{Turn}
 
 -- A hello: the clock at its arrival, the place of its T1, whether its record became UP, and what the frame says. A CSNP notice: the place of its T1,
@@ -69,9 +70,17 @@ offeredOver c (Tick clock) = cond (noneOf (c .circuits)) Nothing (Clock (c .leng
 offeredOver c (DatabaseComplete level) = Database (onlyLevel level)
 offeredOver c Waiting = Nothing
 
+-- an end is what receive is on the joined octets
+unfoldable pub offeredBy : ℕ → Common → Bool → Piece → Unfinished → TimerEvent
+offeredBy n c rose (Begin mac) u = Nothing
+offeredBy n c rose (Chunk octets) u = Nothing
+offeredBy n c rose (End b) None = Nothing
+offeredBy n c rose (End b) (Frame mac octets) = offeredOn n c rose (Receive mac octets b) (circuitOf c n)
+
 unfoldable pub offered : Gateway → Call → Bool → TimerEvent
 offered g (At n l) rose = offeredOn n (g .common) rose l (circuitOf (g .common) n)
 offered g (Over w) rose = offeredOver (g .common) w
+offered g (Hand n p) rose = offeredBy n (g .common) rose p (unfinishedOn g n)
 
 -- the record was not UP before the frame, and is UP after it
 abbrev pub isRise : ChangeAnswer → Bool

@@ -1,4 +1,4 @@
-// The numbers that answers have in document 01 ("Refusals by number"); specs/Numbers.antt is the table.
+// The numbers that answers have in document 01 ("Refusals by number") and document 02; specs/Numbers.antt is the table.
 use basics::refusal::Refusal;
 ghost use mathlib.Core.Path.{_≡_};
 ghost use Rattle.model.specs.Numbers.{refusalNo};
@@ -20,5 +20,7 @@ pub fn number_of(why: Refusal) -> u8
         Refusal::ClockBack => 10,
         Refusal::NotRestarting => 11,
         Refusal::BadSetting => 12,
+        Refusal::NotBegun => 13,
+        Refusal::TooLong => 14,
     }
 }

@@ -1,0 +1,46 @@
+-- A circuit's unfinished frame in two lent words and 1,500 lent octets (house), and what the functions on them are to do.
+use Prim.Native.Nat.{ℕ, _-_, _%_, _^_, _<_, _≤_}
+use mathlib.Core.Path.{_≡_}
+use mathlib.Core.Bool.{cond}
+use mathlib.Core.List.{List}
+use lib.ListN.{getD, take}
+use lib.Dec.{eqb}
+use Rattle.basics.specs.declared.refusal.Refusal.{Refusal}
+use Rattle.chunks.specs.declared.slot.Added.{Added}
+use Rattle.chunks.specs.declared.slot.Added.the-variants.{Refused as RefusedChunk, Done}
+use Rattle.chunks.specs.declared.slot.Pending.{Pending}
+use Rattle.chunks.specs.declared.slot.Pending.the-variants.{Idle, Begun}
+use Rattle.chunks.specs.Chunks.{Unfinished, None, Frame, mostOctets, Joined, Refused, As, join, after}
+
+abbrev pub slotWords : ℕ
+slotWords = 2
+
+-- the first word is 0, or one more than the length; the second is the MAC. Any words mean something.
+unfoldable pub pendingOf : List ℕ → Pending
+pendingOf us = cond (eqb (getD us 0 0) 0) Idle (Begun (getD us 1 0 % 2 ^ 48) ((getD us 0 0 - 1) % 1501))
+
+-- .. with the octets fs
+abbrev pub meant : List ℕ → Pending → Unfinished
+meant fs Idle = None
+meant fs (Begun mac n) = Frame mac (take n fs)
+
+-- ---- what the functions do
+
+abbrev pub InRange : Pending → Type 0
+InRange Idle = 0 ≤ 0
+InRange (Begun mac n) = (n ≤ mostOctets) × (mac < 2 ^ 48)
+
+pub record Loads (us : List ℕ) (r : Pending) : Type 0 where
+  pub is : r ≡ pendingOf us
+  pub range : InRange r
+
+-- which case of the definition an answer is
+abbrev pub answered : Joined → Added
+answered (Refused x) = RefusedChunk x
+answered (As u) = Done
+
+-- a refused chunk leaves every word and every octet as it was
+pub record Adds (chunk us fs : List ℕ) (r : Added) (us′ fs′ : List ℕ) : Type 0 where
+  pub answer : r ≡ answered (join (meant fs (pendingOf us)) chunk)
+  pub next : meant fs′ (pendingOf us′) ≡ after (meant fs (pendingOf us)) (join (meant fs (pendingOf us)) chunk)
+  pub kept : (x : Refusal) → r ≡ RefusedChunk x → (us′ ≡ us) × (fs′ ≡ fs)
