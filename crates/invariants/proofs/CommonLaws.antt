@@ -38,9 +38,10 @@ use Rattle.timer_parts.specs.declared.heard.Heard.{Heard}
 use Rattle.timer_parts.specs.declared.t3.T3.the-variants.{Idle}
 use Rattle.timers.specs.Timers.{Timers, settled, toT3, heardIn, csnpIn, noticeT2s}
 use Rattle.control.specs.Common.{Common, withClock, withTimers, circuitOf, startOf, setupCommon}
-use Rattle.model.specs.Gateway.{Room, Gateway}
+use Rattle.chunks.specs.Chunks.{Unfinished, None, Frame, Joined, Refused as RefusedChunk, As, join}
+use Rattle.model.specs.Gateway.{Room, Gateway, unfinishedOn, withUnfinished}
 use Rattle.model.specs.Receive.{refuse, hereOf, saidOf, t1Of, accepted, reacted, decidedIn, checked, readIn, receive}
-use Rattle.model.specs.Step.{Local, Receive, Release, Clear, CsnpComplete, LookUp, LinkMetric, NextHello, Global, Tick, DatabaseComplete, Waiting, Call, At, Over, asksLevel, csnpOf, csnpComplete, lookUp, linkMetricOf, nextHello, act, lift, on, Judged, Refused as RefusedCall, Sweep, Tell, noneOf, tickOf, databaseOf, judge, carry, step}
+use Rattle.model.specs.Step.{Local, Receive, Release, Clear, CsnpComplete, LookUp, LinkMetric, NextHello, Global, Tick, DatabaseComplete, Waiting, Piece, Begin, Chunk, End, Call, At, Over, Hand, asksLevel, csnpOf, csnpComplete, lookUp, linkMetricOf, nextHello, act, lift, on, at, Judged, Refused as RefusedCall, Sweep, Tell, noneOf, tickOf, databaseOf, judge, carry, chunked, ended, hand, handOn, step}
 use Rattle.invariants.specs.Invariants.{Quiet, Restarts, NoT3, SetupSettings, SetupTimers, Onward}
 use Rattle.invariants.proofs.QuietLaws.{started-quiet, started-restarts, started-no-t3, settled-quiet, settled-mode, settled-no-t3, settled-restarts, toT3-mode, heardIn-mode, csnpIn-mode, noticeT2s-mode, toT3-idle, heardIn-idle, csnpIn-idle, noticeT2s-idle}
 use Rattle.invariants.proofs.InRange.{Stands, circuits-ok, tries-ok, t1-asked}
@@ -277,10 +278,32 @@ module _ (g : Gateway) where
   carry-moves (Sweep clock d hellos o) (le, k) = moved (g .common) d clock le k
   carry-moves (Tell d a) k = keeps-moves (g .common) d k
 
+module _ (g : Gateway) where
+  stays : Moves (g .common) (g .common)
+  stays = keeps-moves (g .common) (g .common) (keeps-same (g .common))
+
+  chunk-moves : (n : ℕ) (j : Joined) → Moves (g .common) (chunked g n j .next .common)
+  unfolding chunked
+  chunk-moves n (RefusedChunk x) = stays
+  chunk-moves n (As u) = stays
+
+  end-moves : (n : ℕ) (b : List ℕ) (u : Unfinished) → Moves (g .common) (ended g n b u .next .common)
+  unfolding ended at
+  end-moves n b None = stays
+  end-moves n b (Frame mac octets) = on-moves (withUnfinished g n None) n (Receive mac octets b) (circuitOf (g .common) n) refl
+
+  hand-moves : (n : ℕ) (p : Piece) (x : Chosen) → Moves (g .common) (handOn g n p x .next .common)
+  unfolding handOn hand
+  hand-moves n p Unknown = stays
+  hand-moves n (Begin mac) (Known s) = stays
+  hand-moves n (Chunk octets) (Known s) = chunk-moves n (join (unfinishedOn g n) octets)
+  hand-moves n (End b) (Known s) = end-moves n b (unfinishedOn g n)
+
   pub step-moves : (c : Call) → Moves (g .common) (step g c .next .common)
-  unfolding step
-  step-moves (At n l) = on-moves n l (circuitOf (g .common) n) refl
-  step-moves (Over w) = carry-moves (judge (g .common) w) (judge-ok (g .common) w)
+  unfolding step at
+  step-moves (At n l) = on-moves g n l (circuitOf (g .common) n) refl
+  step-moves (Over w) = carry-moves g (judge (g .common) w) (judge-ok (g .common) w)
+  step-moves (Hand n p) = hand-moves n p (circuitOf (g .common) n)
 
 -- ---- what setup gives, and every call keeps
 

@@ -24,8 +24,9 @@ use Rattle.settings.specs.declared.circuit.Chosen.the-variants.{Known, Unknown}
 use Rattle.timers.specs.Hellos.{Hellos}
 use Rattle.model.specs.Gateway.{Room, Gateway, numbered, renew, noRoom, roomOf, newRoom, newGateway, Started, setup}
 use Rattle.model.specs.Step.{sweptRoom}
-use Rattle.invariants.specs.Invariants.{Each, end, roomFor, Span, Unmarked, KeyFits}
+use Rattle.invariants.specs.Invariants.{FramesFit, Each, end, roomFor, Span, Unmarked, KeyFits}
 use Rattle.invariants.proofs.CommonLaws.{known-stands, CommonOk, common-new}
+use Rattle.invariants.proofs.FrameLaws.{new-frames}
 use Rattle.invariants.proofs.InRange.{circuit-hold}
 use Rattle.invariants.proofs.RoomLaws.{each-put, each-sweep, NoRecords, no-records-each, no-records-gather, empty-no-records, openPlaces, empty-places, places-put, places-sweep, single-sweep, single-put}
 
@@ -164,15 +165,16 @@ module _ (s : Settings) (ok : settingsOk s ≡ true) where
   unfolding newGateway
   new-common = common-new s ok
 
--- ---- both parts of the gateway, of setup's settings
+-- ---- all parts of the gateway, of setup's settings
 
 pub record Holds (s : Settings) (g : Gateway) : Type 0 where
   pub common : CommonOk s (g .common)
   pub rooms : RoomsOk g
+  pub frames : FramesFit g
 
 pub setup-holds : (s : Settings) (g : Gateway) (hellos : Hellos) → setup s ≡ Started g hellos → Holds s g
 unfolding setup
 setup-holds s g hellos e =
     by-test (settingsOk s)
-    (λ a. let z : newGateway s ≡ g = cc in rw (← z) (record { common = new-common s a; rooms = new-rooms s a }))
+    (λ a. let z : newGateway s ≡ g = cc in rw (← z) (record { common = new-common s a; rooms = new-rooms s a; frames = new-frames s }))
     (λ a. absurd (let z : _≡_ {A = ℕ} 0 1 = cc in omega arith))

@@ -26,16 +26,17 @@ use Rattle.settings.specs.declared.circuit.Chosen.the-variants.{Known, Unknown}
 use Rattle.adjacency.specs.Keys.{keyIn}
 use Rattle.timers.specs.Hellos.{Hellos}
 use Rattle.model.specs.Answers.{Received, Ticked, FrameAnswer, TimersAnswer}
-use Rattle.model.specs.Gateway.{Gateway, roomOf, recordAt}
+use Rattle.chunks.specs.Chunks.{None, Frame}
+use Rattle.model.specs.Gateway.{Gateway, roomOf, recordAt, unfinishedOn, withUnfinished}
 use Rattle.model.specs.Receive.{receive}
-use Rattle.model.specs.Step.{Call, At, Over, Receive, Tick, act, lift, on, noneOf, tickOf, judge, carry, step}
+use Rattle.model.specs.Step.{Call, At, Over, Hand, Receive, Tick, End, act, lift, on, at, noneOf, tickOf, judge, carry, ended, hand, handOn, step}
 use Rattle.model.specs.Trace.{trace, leftBy, after}
-use Rattle.invariants.specs.Invariants.{Octets, AllFit, none, more, Each, records, roomFor, TrueTime, TrueReplies, AboveClock, TickSweeps, Bounded, KeysFit, NearExpiries, BareUnmarked, Invariant, Invariants}
+use Rattle.invariants.specs.Invariants.{Octets, AllFit, none, more, Gives, whole, ended as gives-ended, Each, records, roomFor, TrueTime, TrueReplies, AboveClock, TickSweeps, Bounded, KeysFit, NearExpiries, BareUnmarked, Invariant, Invariants}
 use Rattle.invariants.proofs.RoomLaws.{each-sweep, no-records-each, no-records-records, openPlaces, records-places}
 use Rattle.invariants.proofs.GatewayLaws.{Size, places-of, none-of, RoomOk, RoomsOk, renew-same, swept-at, Holds, setup-holds}
 use Rattle.invariants.proofs.CommonLaws.{act-keeps, step-moves}
 use Rattle.invariants.proofs.ReceiveLaws.{receive-reply}
-use Rattle.invariants.proofs.StepLaws.{step-holds}
+use Rattle.invariants.proofs.StepLaws.{rooms-aside, step-holds}
 
 -- ---- rooms
 
@@ -108,7 +109,7 @@ module _ (g : Gateway) (h : RoomsOk g) where
         → circuitOf (g .common) n ≡ Known s → helloRead (s .kind) (s .mac) frame ≡ Accepted j
         → step g (At n (Receive mac frame buffer)) .answer ≡ Received f → f .reply ≢ 0
         → TrueTime (step g (At n (Receive mac frame buffer))) n (keyIn (s .kind) mac j) (f .time)
-    unfolding step on lift act recordAt
+    unfolding step at on lift act recordAt
     reply-true told f e r a q =
         let ok : RoomOk (g .common .system) (Known s) (g .common .clock) (roomOf g n .slots) = rw e at (h .rooms n) in
         let done = act-keeps n s (g .common) (roomOf g n) e (Receive mac frame buffer) in
@@ -122,8 +123,22 @@ module _ (g : Gateway) (h : RoomsOk g) where
               (w .tells);
         })
 
-  true-replies : TrueReplies g
-  true-replies = record { time = λ n mac frame buffer s j f. reply-true n mac frame buffer s j f }
+-- an end on a circuit that is there, with its frame begun
+end-is : (g : Gateway) (n mac : ℕ) (frame b : List ℕ) (s : Circuit) → circuitOf (g .common) n ≡ Known s → unfinishedOn g n ≡ Frame mac frame
+    → step g (Hand n (End b)) ≡ step (withUnfinished g n None) (At n (Receive mac frame b))
+unfolding step handOn hand ended
+end-is g n mac frame b s e u = rw (e, u) refl
+
+reply-time : (g : Gateway) → RoomsOk g → (c : Call) (n mac : ℕ) (frame : List ℕ) (s : Circuit) (h : Hello) (f : FrameAnswer) → Gives g c n mac frame → Octets frame
+    → circuitOf (g .common) n ≡ Known s → helloRead (s .kind) (s .mac) frame ≡ Accepted h
+    → step g c .answer ≡ Received f → f .reply ≢ 0 → TrueTime (step g c) n (keyIn (s .kind) mac h) (f .time)
+reply-time g ok c n mac frame s h f (whole {buffer = b}) o e r a q = reply-true g ok n mac frame b s h f o e r a q
+reply-time g ok c n mac frame s h f (gives-ended {buffer = b} u) o e r a q =
+    let is = end-is g n mac frame b s e u in
+    rw is (reply-true (withUnfinished g n None) (rooms-aside g n None ok) n mac frame b s h f o e r (rw is at a) q)
+
+true-replies : (g : Gateway) → RoomsOk g → TrueReplies g
+true-replies g ok = record { time = reply-time g ok }
 
 holds-invariant : (s : Settings) (g : Gateway) → Holds s g → Invariant s g
 holds-invariant s g h =
@@ -134,6 +149,7 @@ holds-invariant s g h =
       keys = keys-fit g (h .rooms);
       expiries = near-expiries g (h .rooms);
       bare = bare-unmarked g (h .rooms);
+      frames = h .frames;
       settings = h .common .settings;
       quiet = h .common .quiet;
       restarts = h .common .restarts;

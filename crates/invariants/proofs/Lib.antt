@@ -6,6 +6,7 @@ pub mod CommonLaws
 pub mod RoomLaws
 pub mod ReactLaws
 pub mod HelloBounds
+pub mod FrameLaws
 pub mod GatewayLaws
 pub mod ReceiveLaws
 pub mod StepLaws

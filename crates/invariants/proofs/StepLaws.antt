@@ -17,13 +17,15 @@ use Rattle.settings.specs.declared.setup.Settings.{Settings}
 use Rattle.control.specs.Common.{Common, withClock, circuitOf}
 use Rattle.settings.specs.declared.circuit.Chosen.{Chosen}
 use Rattle.settings.specs.declared.circuit.Chosen.the-variants.{Known, Unknown}
-use Rattle.model.specs.Gateway.{Room, Gateway, noRoom, numbered, renew, roomOf}
+use Rattle.chunks.specs.Chunks.{Unfinished, None, Frame, Joined, Refused as RefusedChunk, As, join}
+use Rattle.model.specs.Gateway.{Room, Gateway, withRooms, withCommon, noRoom, numbered, renew, roomOf, unfinishedOn, withUnfinished}
 use Rattle.model.specs.Receive.{Acted, refuse}
-use Rattle.model.specs.Step.{Local, Receive, Release, Clear, CsnpComplete, LookUp, LinkMetric, NextHello, Call, At, Over, asksLevel, csnpComplete, lookUp, linkMetricOf, nextHello, act, lift, on, Judged, Refused as RefusedCall, Sweep, Tell, judge, carry, step}
-use Rattle.invariants.specs.Invariants.{Octets, Fits, Span}
+use Rattle.model.specs.Step.{Local, Receive, Release, Clear, CsnpComplete, LookUp, LinkMetric, NextHello, Piece, Begin, Chunk, End, Call, At, Over, Hand, asksLevel, csnpComplete, lookUp, linkMetricOf, nextHello, act, lift, on, at, Judged, Refused as RefusedCall, Sweep, Tell, judge, carry, chunked, ended, hand, handOn, step}
+use Rattle.invariants.specs.Invariants.{Octets, Fits, FramesFit, Span}
 use Rattle.invariants.proofs.NumberedLaws.{renew-all}
 use Rattle.invariants.proofs.CommonLaws.{Keeps, act-keeps, JudgedOk, judge-ok, step-moves, common-moved}
 use Rattle.invariants.proofs.GatewayLaws.{RoomOk, room-empty, room-sweep, RoomsOk, swept-at, Holds}
+use Rattle.invariants.proofs.FrameLaws.{step-frames}
 use Rattle.invariants.proofs.ReceiveLaws.{ActOk, receive-ok}
 
 -- ---- a call on a circuit
@@ -69,7 +71,7 @@ module _ (g : Gateway) (h : RoomsOk g) where
   -- the clock moved on, or stood, and the rooms in order by it
   keeps-rooms : (d : Common) (clock : ℕ) (rooms : List Room) → Keeps (withClock clock (g .common)) d
       → ((n : ℕ) → RoomOk (g .common .system) (circuitOf (g .common) n) clock (numbered rooms n noRoom .slots))
-      → RoomsOk (record { common = d; rooms = rooms })
+      → RoomsOk (withRooms (withCommon g d) rooms)
   keeps-rooms d clock rooms k ok =
       record {
         hold = λ n s e. h .hold n s (sym (same-circuit (g .common) d (k .circuits) n) ∙ e);
@@ -99,13 +101,52 @@ module _ (g : Gateway) (h : RoomsOk g) where
       (room-sweep (g .common .system) (circuitOf (g .common) n) (g .common .clock) clock (expiredBy clock) (roomOf g n .slots) (left-span (g .common .clock) clock le) (h .rooms n)))
   carry-rooms (Tell d a) k = keeps-rooms d (g .common .clock) (g .rooms) k (h .rooms)
 
+-- ---- a frame in chunks
+
+-- the frames are nothing to the rooms
+pub rooms-aside : (g : Gateway) (n : ℕ) (u : Unfinished) → RoomsOk g → RoomsOk (withUnfinished g n u)
+rooms-aside g n u h = record { hold = h .hold; rooms = h .rooms }
+
+-- a receive of octets fits
+fits-receive : (n mac : ℕ) (frame b : List ℕ) → Octets frame → Fits (At n (Receive mac frame b))
+fits-receive n mac frame b o =
+    record {
+      frame = λ m x f c e. let q : frame ≡ f = cc in rw (← q) o;
+      chunk = λ m x e. absurd (let z : _≡_ {A = ℕ} 0 1 = cc in omega arith);
+    }
+
+module _ (g : Gateway) (h : RoomsOk g) (frames : FramesFit g) where
+  chunk-rooms : (n : ℕ) (j : Joined) → RoomsOk (chunked g n j .next)
+  unfolding chunked
+  chunk-rooms n (RefusedChunk x) = h
+  chunk-rooms n (As u) = rooms-aside g n u h
+
+  end-rooms : (n : ℕ) (b : List ℕ) (u : Unfinished) → unfinishedOn g n ≡ u → RoomsOk (ended g n b u .next)
+  unfolding ended at
+  end-rooms n b None e = h
+  end-rooms n b (Frame mac octets) e =
+      on-rooms (withUnfinished g n None) (rooms-aside g n None h) n (Receive mac octets b) (circuitOf (g .common) n) refl
+      (fits-receive n mac octets b ((rw e at (frames .fit n)) .1))
+
+  hand-rooms : (n : ℕ) (p : Piece) (x : Chosen) → RoomsOk (handOn g n p x .next)
+  unfolding handOn hand
+  hand-rooms n p Unknown = h
+  hand-rooms n (Begin mac) (Known s) = rooms-aside g n _ h
+  hand-rooms n (Chunk octets) (Known s) = chunk-rooms n (join (unfinishedOn g n) octets)
+  hand-rooms n (End b) (Known s) = end-rooms n b (unfinishedOn g n) refl
+
 -- ---- every call
 
-step-rooms : (g : Gateway) (c : Call) → RoomsOk g → Fits c → RoomsOk (step g c .next)
-unfolding step
-step-rooms g (At n l) h f = on-rooms g h n l (circuitOf (g .common) n) refl f
-step-rooms g (Over w) h f = carry-rooms g h (judge (g .common) w) (judge-ok (g .common) w)
+step-rooms : (g : Gateway) (c : Call) → RoomsOk g → FramesFit g → Fits c → RoomsOk (step g c .next)
+unfolding step at
+step-rooms g (At n l) h k f = on-rooms g h n l (circuitOf (g .common) n) refl f
+step-rooms g (Over w) h k f = carry-rooms g h (judge (g .common) w) (judge-ok (g .common) w)
+step-rooms g (Hand n p) h k f = hand-rooms g h k n p (circuitOf (g .common) n)
 
 pub step-holds : (s : Settings) (g : Gateway) (c : Call) → Holds s g → Fits c → Holds s (step g c .next)
 step-holds s g c h f =
-    record { common = common-moved s (g .common) (step g c .next .common) (step-moves g c) (h .common); rooms = step-rooms g c (h .rooms) f }
+    record {
+      common = common-moved s (g .common) (step g c .next .common) (step-moves g c) (h .common);
+      rooms = step-rooms g c (h .rooms) (h .frames) f;
+      frames = step-frames g c (h .frames) f;
+    }

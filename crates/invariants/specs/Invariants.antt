@@ -1,4 +1,4 @@
--- What stays true of a gateway, whatever calls it gets: sentences of document 01, and the claim that each holds after every list of calls.
+-- What stays true of a gateway, whatever calls it gets: sentences of documents 01 and 02, and the claim that each holds after every list of calls.
 use Prim.Native.Nat.{ℕ, suc, _+_, _≤_, _<_}
 use mathlib.Core.Path.{_≡_}
 use mathlib.Core.Bool.{Bool, true, false}
@@ -6,7 +6,7 @@ use mathlib.Core.Logic.{_≢_}
 use mathlib.Core.List.{List, [], _∷_}
 use lib.ListN.{length, getD}
 use Rattle.basics.specs.Octets.{octet, big}
-use Rattle.basics.specs.Mask.{placeBits}
+use Rattle.basics.specs.Mask.{circuits, placeBits}
 use Rattle.hello.specs.Hello.{helloRead}
 use Rattle.basics.specs.declared.kind.CircuitKind.{CircuitKind}
 use Rattle.basics.specs.declared.kind.CircuitKind.the-variants.{Lan, P2p}
@@ -23,6 +23,7 @@ use Rattle.adjacency.specs.declared.record.State.the-variants.{Init, Up}
 use Rattle.adjacency.specs.declared.place.Slot.{Slot}
 use Rattle.adjacency.specs.declared.place.Slot.the-variants.{Free, Held, Closed}
 use Rattle.room.specs.Gather.{gather}
+use Rattle.chunks.specs.Chunks.{Unfinished, None, Frame, mostOctets}
 use Rattle.basics.specs.Levels.{Level, isOn, hasLevel}
 use Rattle.basics.specs.declared.levels.Levels.{Levels}
 use Rattle.timer_parts.specs.T2.{t2At, anyT2}
@@ -41,23 +42,39 @@ use Rattle.control.specs.Common.{Common, circuitOf}
 use Rattle.settings.specs.declared.circuit.Chosen.the-variants.{Known, Unknown}
 use Rattle.adjacency.specs.Keys.{keyIn}
 use Rattle.model.specs.Answers.{Received, Ticked, FrameAnswer, TimersAnswer}
-use Rattle.model.specs.Gateway.{Gateway, Started, setup, roomOf, recordAt}
-use Rattle.model.specs.Step.{Call, At, Over, Receive, Tick, Outcome, step}
+use Rattle.model.specs.Gateway.{Gateway, Started, setup, roomOf, recordAt, unfinishedOn}
+use Rattle.model.specs.Step.{Call, At, Over, Hand, Receive, Tick, Chunk, End, Outcome, step}
 use Rattle.model.specs.Trace.{after}
 
 -- ---- the lists
 
--- a lent frame is octets
+-- a lent frame or chunk is octets
 abbrev pub Octets : List ℕ → Type 0
 Octets s = (i : ℕ) → octet s i < 256
 
 -- .. of a call that lends one, and of every call of a list
 pub record Fits (c : Call) : Type 0 where
   pub frame : (n mac : ℕ) (frame buffer : List ℕ) → c ≡ At n (Receive mac frame buffer) → Octets frame
+  pub chunk : (n : ℕ) (octets : List ℕ) → c ≡ Hand n (Chunk octets) → Octets octets
 
 pub data AllFit : List Call → Type 0 where
   none : AllFit []
   more : {c : Call} {cs : List Call} → Fits c → AllFit cs → AllFit (c ∷ cs)
+
+-- ---- document 02, W-205: "Each circuit has its own unfinished frame"; 14, "more than 1,500 octets joined"
+
+abbrev pub FrameFits : Unfinished → Type 0
+FrameFits None = 0 ≤ 0
+FrameFits (Frame mac octets) = (length octets ≤ mostOctets) × Octets octets
+
+pub record FramesFit (g : Gateway) : Type 0 where
+  pub one : length (g .unfinished) ≡ circuits
+  pub fit : (n : ℕ) → FrameFits (unfinishedOn g n)
+
+-- the frame that a call gives to receive, with its circuit and source MAC: a receive its own, an end the unfinished one
+pub data Gives (g : Gateway) : Call → ℕ → ℕ → List ℕ → Type 0 where
+  whole : {n mac : ℕ} {frame buffer : List ℕ} → Gives g (At n (Receive mac frame buffer)) n mac frame
+  ended : {n mac : ℕ} {frame buffer : List ℕ} → unfinishedOn g n ≡ Frame mac frame → Gives g (Hand n (End buffer)) n mac frame
 
 -- ---- records
 
@@ -91,10 +108,9 @@ pub record TrueTime (o : Outcome) (n : ℕ) (k : Key) (time : ℕ) : Type 0 wher
 
 -- .. so of every frame that is replied to: s is the circuit's settings, h the hello read
 pub record TrueReplies (g : Gateway) : Type 0 where
-  pub time : (n mac : ℕ) (frame buffer : List ℕ) (s : Circuit) (h : Hello) (f : FrameAnswer) → Octets frame
+  pub time : (c : Call) (n mac : ℕ) (frame : List ℕ) (s : Circuit) (h : Hello) (f : FrameAnswer) → Gives g c n mac frame → Octets frame
       → circuitOf (g .common) n ≡ Known s → helloRead (s .kind) (s .mac) frame ≡ Accepted h
-      → step g (At n (Receive mac frame buffer)) .answer ≡ Received f → f .reply ≢ 0
-      → TrueTime (step g (At n (Receive mac frame buffer))) n (keyIn (s .kind) mac h) (f .time)
+      → step g c .answer ≡ Received f → f .reply ≢ 0 → TrueTime (step g c) n (keyIn (s .kind) mac h) (f .time)
 
 -- ---- document 01, "Marks and holding time": "A tick removes each record with expiry at or below the clock"
 
@@ -230,6 +246,7 @@ pub record Invariant (s : Settings) (g : Gateway) : Type 0 where
   pub keys : KeysFit g
   pub expiries : NearExpiries g
   pub bare : BareUnmarked g
+  pub frames : FramesFit g
   pub settings : SetupSettings s (g .common)
   pub quiet : Quiet (g .common .timers)
   pub restarts : Restarts s (g .common .timers)

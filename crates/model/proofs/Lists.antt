@@ -1,12 +1,12 @@
 -- Lists numbered from 1: two of one length, with an element renewed in each. The laws of `numbered` and `renew`; no proof about a
 -- gateway unfolds them.
-use Prim.Native.Nat.{ℕ, zero, suc}
+use Prim.Native.Nat.{ℕ, zero, suc, _≤_, _<_}
 use mathlib.Core.Path.{_≡_, refl, ap}
 use mathlib.Core.Logic.{_≢_}
 use mathlib.Core.List.{List, [], _∷_, map}
 use native.Mathlib.Omega.{arith}
 use lib.ListN.{length, getD, set, length-set, List·getD-map}
-use lib.Seq.{set-getD, ext-getD}
+use lib.Seq.{set-getD, ext-getD, getD-set-same, getD-set-other, set-set, set-comm}
 use Rattle.model.specs.Gateway.{numbered, renew}
 
 set-both : {A : Type 0} (R : A → A → Type 0) (d v₁ v₂ : A) → R d d → (l₁ l₂ : List A) (i j : ℕ) → length l₁ ≡ length l₂
@@ -38,6 +38,28 @@ pub renew-numbered : {A : Type 0} (l : List A) (n : ℕ) (d : A) → renew l n (
 unfolding numbered renew
 renew-numbered l zero d = refl
 renew-numbered l (suc i) d = set-getD l i d
+
+pub renew-same : {A : Type 0} (l : List A) (n : ℕ) (v d : A) → 0 < n → n ≤ length l → numbered (renew l n v) n d ≡ v
+unfolding numbered renew
+renew-same l zero v d p le = absurd (omega arith)
+renew-same l (suc i) v d p le = getD-set-same l i v d (omega arith)
+
+pub renew-other : {A : Type 0} (l : List A) (n m : ℕ) (v d : A) → m ≢ n → numbered (renew l n v) m d ≡ numbered l m d
+unfolding numbered renew
+renew-other l n zero v d h = refl
+renew-other l zero (suc j) v d h = refl
+renew-other l (suc i) (suc j) v d h = getD-set-other l i j v d (λ q. h (ap suc q))
+
+pub renew-again : {A : Type 0} (l : List A) (n : ℕ) (v w : A) → renew (renew l n v) n w ≡ renew l n w
+unfolding renew
+renew-again l zero v w = refl
+renew-again l (suc i) v w = set-set l i v w
+
+pub renew-swap : {A : Type 0} (l : List A) (n m : ℕ) (v w : A) → n ≢ m → renew (renew l n v) m w ≡ renew (renew l m w) n v
+unfolding renew
+renew-swap l zero m v w h = refl
+renew-swap l (suc i) zero v w h = refl
+renew-swap l (suc i) (suc j) v w h = set-comm l i j v w (λ q. h (ap suc q))
 
 pub numbered-map : {A B : Type 0} (f : A → B) (l : List A) (n : ℕ) (d : A) → numbered (map f l) n (f d) ≡ f (numbered l n d)
 unfolding numbered
