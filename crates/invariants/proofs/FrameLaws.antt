@@ -1,7 +1,7 @@
 -- Unfinished frames (document 02, W-205): one for each circuit, each of at most 1,500 octets, from setup on and after every call.
 use Prim.Native.Nat.{ℕ, zero, suc, _+_, _≤_, _<_}
 use native.Mathlib.Omega.{arith}
-use mathlib.Core.Path.{_≡_, refl, _∙_}
+use mathlib.Core.Path.{_≡_, refl, ap, _∙_}
 use mathlib.Core.List.{List, [], _∷_, _++_}
 use lib.ListN.{length, getD, replicate, length-append, length-replicate}
 use lib.Dec.{ltb}
@@ -79,6 +79,29 @@ unfolding carry
 carry-frames g (RefusedCall x) = refl
 carry-frames g (Sweep clock d hellos o) = refl
 carry-frames g (Tell d a) = refl
+
+hand-length : (g : Gateway) (n : ℕ) (p : Piece) (x : Chosen) → length (handOn g n p x .next .unfinished) ≡ length (g .unfinished)
+unfolding handOn hand chunked ended at
+hand-length g n p Unknown = refl
+hand-length g n (Begin mac) (Known s) = length-renew (g .unfinished) n (Frame mac [])
+hand-length g n (Chunk octets) (Known s) = by (join (unfinishedOn g n) octets)
+  where
+    by : (j : Joined) → length (chunked g n j .next .unfinished) ≡ length (g .unfinished)
+    by (RefusedChunk x) = refl
+    by (As u) = length-renew (g .unfinished) n u
+hand-length g n (End b) (Known s) = by (unfinishedOn g n)
+  where
+    by : (u : Unfinished) → length (ended g n b u .next .unfinished) ≡ length (g .unfinished)
+    by None = refl
+    by (Frame mac octets) =
+        ap length (on-frames (withUnfinished g n None) n (Receive mac octets b) (circuitOf (g .common) n)) ∙ length-renew (g .unfinished) n None
+
+-- as many as there were
+pub step-length : (g : Gateway) (c : Call) → length (step g c .next .unfinished) ≡ length (g .unfinished)
+unfolding step at
+step-length g (At n l) = ap length (on-frames g n l (circuitOf (g .common) n))
+step-length g (Over w) = ap length (carry-frames g (judge (g .common) w))
+step-length g (Hand n p) = hand-length g n p (circuitOf (g .common) n)
 
 left-frames : (g d : Gateway) → d .unfinished ≡ g .unfinished → FramesFit g → FramesFit d
 left-frames g d e h = record { one = rw e (h .one); fit = λ n. rw e (h .fit n) }

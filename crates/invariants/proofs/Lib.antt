@@ -10,4 +10,5 @@ pub mod FrameLaws
 pub mod GatewayLaws
 pub mod ReceiveLaws
 pub mod StepLaws
+pub mod CuttingLaws
 pub mod InvariantsHold

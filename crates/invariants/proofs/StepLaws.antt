@@ -1,5 +1,5 @@
 -- Every call keeps what holds of a gateway: of the rooms the calls on a circuit touch their own alone, and a tick sweeps all.
-use Prim.Native.Nat.{ℕ, zero, suc, _≤_}
+use Prim.Native.Nat.{ℕ, _≤_}
 use native.Mathlib.Omega.{arith}
 use mathlib.Core.Path.{_≡_, refl, sym, ap, _∙_}
 use mathlib.Core.Bool.{false}
@@ -22,6 +22,7 @@ use Rattle.model.specs.Gateway.{Room, Gateway, withRooms, withCommon, noRoom, n
 use Rattle.model.specs.Receive.{Acted, refuse}
 use Rattle.model.specs.Step.{Local, Receive, Release, Clear, CsnpComplete, LookUp, LinkMetric, NextHello, Piece, Begin, Chunk, End, Call, At, Over, Hand, asksLevel, csnpComplete, lookUp, linkMetricOf, nextHello, act, lift, on, at, Judged, Refused as RefusedCall, Sweep, Tell, judge, carry, chunked, ended, hand, handOn, step}
 use Rattle.invariants.specs.Invariants.{Octets, Fits, FramesFit, Span}
+use Rattle.model.proofs.Near.{circuitOf-same}
 use Rattle.invariants.proofs.NumberedLaws.{renew-all}
 use Rattle.invariants.proofs.CommonLaws.{Keeps, act-keeps, JudgedOk, judge-ok, step-moves, common-moved}
 use Rattle.invariants.proofs.GatewayLaws.{RoomOk, room-empty, room-sweep, RoomsOk, swept-at, Holds}
@@ -55,12 +56,6 @@ module _ (n : ℕ) (c : Common) (s : Circuit) (r : Room) (hold : s .hold ≤ 655
   act-ok LinkMetric f = ok
   act-ok (NextHello level) f = flags-ok level
 
--- the circuits stay, and so which number is known
-same-circuit : (c d : Common) → d .circuits ≡ c .circuits → (n : ℕ) → circuitOf d n ≡ circuitOf c n
-unfolding circuitOf
-same-circuit c d e zero = refl
-same-circuit c d e (suc i) = rw e refl
-
 -- what a sweep leaves expires after the clock
 left-span : (old clock : ℕ) → old ≤ clock → (s : State) → expiredBy clock s ≡ false → Span old (expiryOf s) → Span clock (expiryOf s)
 left-span old clock le s e q =
@@ -74,8 +69,8 @@ module _ (g : Gateway) (h : RoomsOk g) where
       → RoomsOk (withRooms (withCommon g d) rooms)
   keeps-rooms d clock rooms k ok =
       record {
-        hold = λ n s e. h .hold n s (sym (same-circuit (g .common) d (k .circuits) n) ∙ e);
-        rooms = λ n. rw (same-circuit (g .common) d (k .circuits) n, k .clock, k .system) (ok n);
+        hold = λ n s e. h .hold n s (sym (circuitOf-same (g .common) d (k .circuits) n) ∙ e);
+        rooms = λ n. rw (circuitOf-same (g .common) d (k .circuits) n, k .clock, k .system) (ok n);
       }
 
   on-rooms : (n : ℕ) (l : Local) (x : Chosen) → circuitOf (g .common) n ≡ x → Fits (At n l) → RoomsOk (on g n l x .next)

@@ -1,1 +1,2 @@
 pub mod Invariants
+pub mod Cutting

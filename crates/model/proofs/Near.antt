@@ -121,7 +121,7 @@ judge-steady c (DatabaseComplete level) run =
     by-test (hasLevel (enabledLevels (c .circuits)) level) (λ h. rw (h, run) refusing) (λ h. rw h refusing)
 judge-steady c Waiting run = telling run refl
 
-circuitOf-same : (c d : Common) → d .circuits ≡ c .circuits → (n : ℕ) → circuitOf d n ≡ circuitOf c n
+pub circuitOf-same : (c d : Common) → d .circuits ≡ c .circuits → (n : ℕ) → circuitOf d n ≡ circuitOf c n
 unfolding circuitOf
 circuitOf-same c d e zero = refl
 circuitOf-same c d e (suc i) = cc
