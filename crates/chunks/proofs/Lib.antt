@@ -1,2 +1,3 @@
+pub mod SampleChunks
 pub mod ChunkLaws
 pub mod SlotLaws

@@ -1,4 +1,4 @@
--- Document 01, "Sample runs", C1 to C10, the rows beside them, the rows of a start and those of both levels, evaluated.
+-- Document 01, "Sample runs", C1 to C10, the rows beside them, those of a start, of both levels and of frames in chunks, evaluated.
 use mathlib.Core.Path.{refl}
 use lib.Count.{ones}
 use Rattle.basics.specs.Octets.{big, hasBits, octetsOf}
@@ -18,6 +18,7 @@ use Rattle.adjacency.specs.Duty.{csnpsOf, outranks}
 use Rattle.adjacency.specs.Keys.{sameKey, keyOn}
 use Rattle.room.specs.Table.{find, has, full, crowded, replace, insert, put, sweep, firstState, emptyRoom}
 use Rattle.metric.specs.Metric.{heldTo}
+use Rattle.chunks.specs.Chunks.{join}
 use Rattle.basics.specs.Mask.{bitsOf, anyTrue, anyShared, countTrue, firstPair}
 use Rattle.timer_parts.specs.Heard.{heardWithoutTlv, acknowledges, heardTlv, heardOf}
 use Rattle.timer_parts.specs.T1.{startEntry, begins, begin, begunBy, helloFlags, stopT1, again, noted, due, helloDue, tickT1, done, satisfied, acknowledged, heardT1, freedBy}
@@ -34,17 +35,18 @@ use Rattle.control.specs.Common.{circuitOf, setupCommon}
 use Rattle.room.specs.Accept.{ifRoom, decided, kept, written, csnpsIn}
 use Rattle.model.specs.Gateway.{numbered, renew, recordAt, newGateway, setup}
 use Rattle.model.specs.Receive.{refuse, accepted, reacted, decidedIn, checked, readIn, receive}
-use Rattle.model.specs.Step.{csnpComplete, lookUp, linkMetricOf, nextHello, act, lift, on, at, noneOf, tickOf, databaseOf, judge, carry, step}
+use Rattle.model.specs.Step.{csnpComplete, lookUp, linkMetricOf, nextHello, act, lift, on, at, noneOf, tickOf, databaseOf, judge, carry, chunked, ended, hand, handOn, step}
 use Rattle.model.specs.Trace.{trace, leftBy}
 use Rattle.model.specs.SampleFrames.{callsOf, seenBy}
 use Rattle.model.specs.SampleRuns.{SampleRuns}
 use Rattle.model.specs.SampleCalls.{SampleCalls}
 use Rattle.model.specs.SampleStarts.{SampleStarts}
 use Rattle.model.specs.SampleLevels.{numbersFrom, SampleLevels}
+use Rattle.model.specs.SamplePieces.{cut, handing, callsCut, seenEnds, inTurn, SamplePieces}
 
-rows : SampleRuns × SampleCalls × SampleStarts × SampleLevels
-unfolding ones big hasBits octetsOf tlvs tlvsUp cutAt ofType loneFault unless counted without invalid needsNeighbor needsTime leastLength restartBad restartWith timeOf neighborOf restartOctets layoutOf notHello badLength threeWayBad threeWayLength stateOf identifiersOf reverseBad reverseOf faultOn earlier ruleFault tlvsRead pduRead layoutRead helloRead wrongSource wrongId wrongNeighbor linkStep keptUp stepOf planned lineBy lineOf dataBy acceptedBy lineIn reactOf csnpsOf sameKey find has full crowded replace insert put sweep firstState emptyRoom heldTo bitsOf acknowledges heardTlv heardOf startEntry due helloDue tickT1 done satisfied acknowledged heardT1 freedBy startTimer startT2s anyT2 anyAfter cancelT2 cancelBoth expireT2 expireBoth spfDue lowerT3 heardT3 expiresT3 expiredT3 withT1s withT2s withT3 countRuns lowestRuns countTrue firstPair anyShared serving servingWith servedAt noT1 atT1 tickT1s expireT2s waits cancelT2s tickT3 finish closed settled toT3 heardIn overloadOf overloadDue outcomeWith outcomeOf ordered tickHellos overloaded freedWith heardOrders ordering beginHello begins begin begunBy rises anyTrue headBy startT1 startHellos started every some circuitOk lengthsOk settingsOk enabledLevels circuitOf setupCommon keyOn ifRoom decided kept written csnpsIn numbered renew recordAt newGateway setup refuse accepted reacted decidedIn checked readIn receive csnpComplete lookUp linkMetricOf nextHello act lift on at noneOf tickOf databaseOf judge carry step trace leftBy callsOf seenBy neighboursFault listed listRead listedTo linkRead outranks heardWithoutTlv stopT1 again noted helloFlags noticeT2 noticeBoth over csnpIn noticeT2s numbersFrom
-rows = ((refl, refl, (refl, refl), refl, (refl, refl, refl)), (refl, refl, refl, refl, refl, (refl, refl), (refl, refl)), ((refl, refl), refl, refl, refl, refl, refl, refl, refl, refl, refl, refl, refl, refl), ((refl, refl, refl), refl, refl, (refl, refl), refl, refl, (refl, refl), refl))
+rows : SampleRuns × SampleCalls × SampleStarts × SampleLevels × SamplePieces
+unfolding ones big hasBits octetsOf tlvs tlvsUp cutAt ofType loneFault unless counted without invalid needsNeighbor needsTime leastLength restartBad restartWith timeOf neighborOf restartOctets layoutOf notHello badLength threeWayBad threeWayLength stateOf identifiersOf reverseBad reverseOf faultOn earlier ruleFault tlvsRead pduRead layoutRead helloRead wrongSource wrongId wrongNeighbor linkStep keptUp stepOf planned lineBy lineOf dataBy acceptedBy lineIn reactOf csnpsOf sameKey find has full crowded replace insert put sweep firstState emptyRoom heldTo bitsOf acknowledges heardTlv heardOf startEntry due helloDue tickT1 done satisfied acknowledged heardT1 freedBy startTimer startT2s anyT2 anyAfter cancelT2 cancelBoth expireT2 expireBoth spfDue lowerT3 heardT3 expiresT3 expiredT3 withT1s withT2s withT3 countRuns lowestRuns countTrue firstPair anyShared serving servingWith servedAt noT1 atT1 tickT1s expireT2s waits cancelT2s tickT3 finish closed settled toT3 heardIn overloadOf overloadDue outcomeWith outcomeOf ordered tickHellos overloaded freedWith heardOrders ordering beginHello begins begin begunBy rises anyTrue headBy startT1 startHellos started every some circuitOk lengthsOk settingsOk enabledLevels circuitOf setupCommon keyOn ifRoom decided kept written csnpsIn numbered renew recordAt newGateway setup refuse accepted reacted decidedIn checked readIn receive csnpComplete lookUp linkMetricOf nextHello act lift on at noneOf tickOf databaseOf judge carry chunked ended hand handOn join step trace leftBy callsOf seenBy neighboursFault listed listRead listedTo linkRead outranks heardWithoutTlv stopT1 again noted helloFlags noticeT2 noticeBoth over csnpIn noticeT2s numbersFrom cut handing callsCut seenEnds inTurn
+rows = ((refl, refl, (refl, refl), refl, (refl, refl, refl)), (refl, refl, refl, refl, refl, (refl, refl), (refl, refl)), ((refl, refl), refl, refl, refl, refl, refl, refl, refl, refl, refl, refl, refl, refl), ((refl, refl, refl), refl, refl, (refl, refl), refl, refl, (refl, refl), refl), (refl, (refl, refl, refl), (refl, refl), (refl, refl, refl), refl, refl))
 
 pub sample-runs : SampleRuns
 sample-runs = rows .0
@@ -57,3 +59,6 @@ sample-starts = rows .2
 
 pub sample-levels : SampleLevels
 sample-levels = rows .3
+
+pub sample-pieces : SamplePieces
+sample-pieces = rows .4

@@ -12,3 +12,4 @@ pub mod SampleRuns
 pub mod SampleCalls
 pub mod SampleStarts
 pub mod SampleLevels
+pub mod SamplePieces

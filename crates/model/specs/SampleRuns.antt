@@ -22,7 +22,7 @@ use Rattle.model.specs.Answers.{Answer, Refused, Received, Told, Metric}
 use Rattle.model.specs.Gateway.{Gateway, setup, recordAt}
 use Rattle.model.specs.Step.{Outcome, LinkMetric, At, step}
 use Rattle.model.specs.Trace.{after}
-use Rattle.model.specs.SampleFrames.{settings, hello, acknowledging, reversing, row, lentOctets, receiving, callsOf, played, From}
+use Rattle.model.specs.SampleFrames.{settings, hello, acknowledging, reversing, Row, row, lentOctets, receiving, callsOf, played, From}
 
 -- ---- what is seen of a row
 
@@ -73,27 +73,30 @@ received flags time csnps before after = accepted flags time csnps before after 
 -- ---- C1 to C7: marks and holding time
 
 -- The first row brings the record to UP with expiry 110. C1 to C6 follow, one after another.
-abbrev pub C1toC6 : Type 0
-C1toC6 =
-    From (setup (settings Running 10 80))
-    (λ g.
-    played seen g
-    (row 83 1 (0 ∷ 0 ∷ 0 ∷ [])
+abbrev pub rows1to6 : List Row
+rows1to6 =
+    row 83 1 (0 ∷ 0 ∷ 0 ∷ [])
     ∷ row 100 0 (1 ∷ 0 ∷ 0 ∷ [])
     ∷ row 105 0 (1 ∷ 0 ∷ 0 ∷ [])
     ∷ row 106 0 (0 ∷ 0 ∷ 0 ∷ [])
     ∷ row 110 0 (8 ∷ 0x01 ∷ 0x2C ∷ [])
     ∷ row 120 0 (8 ∷ 0x02 ∷ 0x58 ∷ [])
     ∷ row 130 0 (1 ∷ 0 ∷ 0 ∷ [])
-    ∷ [])
-    ≡ saw (up 110 Clear) lentOctets (received 0 0 0 0 2)
+    ∷ []
+
+abbrev pub seen1to6 : List Seen
+seen1to6 =
+    saw (up 110 Clear) lentOctets (received 0 0 0 0 2)
     ∷ saw (up 127 Restart) (octets 0x02 0x00 0x1B) (received 2 27 3 2 2)
     ∷ saw (up 127 Restart) (octets 0x02 0x00 0x16) (received 2 22 3 2 2)
     ∷ saw (up 133 Clear) lentOctets (received 0 0 0 2 2)
     ∷ saw (up 410 Planned) (octets 0x10 0x01 0x2C) (received 16 300 0 2 2)
     ∷ saw (up 410 Planned) (octets 0x10 0x01 0x22) (received 16 290 0 2 2)
     ∷ saw (up 160 Restart) (octets 0x02 0x00 0x1E) (received 2 30 3 2 2)
-    ∷ [])
+    ∷ []
+
+abbrev pub C1toC6 : Type 0
+C1toC6 = From (setup (settings Running 10 80)) (λ g. played seen g rows1to6 ≡ seen1to6)
 
 -- C7: no record stands
 abbrev pub C7 : Type 0
