@@ -30,9 +30,9 @@ use Rattle.settings.specs.declared.circuit.Circuit.{Circuit}
 use Rattle.control.specs.Common.{Common, circuitOf}
 use Rattle.model.specs.Numbers.{isOrdered}
 use Rattle.model.specs.Answers.{Answer, Refused as RefusedAnswer, Received, FrameAnswer, frameAnswer, changeOf}
-use Rattle.model.specs.Gateway.{Room, Gateway, withSlots, numbered, renew, noRoom, roomOf, recordAt}
+use Rattle.model.specs.Gateway.{Room, Gateway, withRooms, withCommon, withSlots, numbered, renew, noRoom, roomOf, recordAt}
 use Rattle.model.specs.Receive.{Acted, refuse, hereOf, rankOf, ordersOf, accepted, reacted, decidedIn, checked, readIn, isShort, receive}
-use Rattle.model.specs.Step.{Receive, Call, At, Outcome, act, lift, on, step}
+use Rattle.model.specs.Step.{Receive, Call, At, Outcome, act, lift, on, at, step}
 use Rattle.reasons.proofs.LineLaws.{line-fits}
 
 -- ---- a receive on a circuit that is there
@@ -121,7 +121,7 @@ pub data Said : Answer → Type 0 where
   receiving : {f : FrameAnswer} → Said (Received f)
 
 abbrev outcomeOf : Gateway → ℕ → Acted → Outcome
-outcomeOf g n a = record { answer = a .answer; reply = a .reply; next = record { common = a .common; rooms = renew (g .rooms) n (a .room) } }
+outcomeOf g n a = record { answer = a .answer; reply = a .reply; next = withRooms (withCommon g (a .common)) (renew (g .rooms) n (a .room)) }
 
 received-same : (f h : FrameAnswer) → Received f ≡ Received h → f ≡ h
 received-same f h e = cc
@@ -167,7 +167,7 @@ module _ (g : Gateway) (n mac : ℕ) (frame b : List ℕ) where
       go (taken t) = taken-took f s k t p e
 
   pub took : (f : FrameAnswer) → step g call .answer ≡ Received f → Took g n mac frame b f
-  unfolding step
+  unfolding step at
   took f e = on-took f (circuitOf (g .common) n) refl refl e
 
   -- line 1's order, of the room as the frame left it
@@ -186,5 +186,5 @@ module _ (g : Gateway) (n mac : ℕ) (frame b : List ℕ) where
       go (taken t) = rw (t .acts) receiving
 
   pub receive-said : Said (step g call .answer)
-  unfolding step
+  unfolding step at
   receive-said = on-said (circuitOf (g .common) n)

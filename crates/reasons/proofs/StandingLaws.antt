@@ -32,20 +32,17 @@ use Rattle.settings.specs.declared.circuit.Chosen.the-variants.{Known, Unknown}
 use Rattle.settings.specs.declared.circuit.Circuit.{Circuit}
 use Rattle.control.specs.Common.{Common, circuitOf}
 use Rattle.model.specs.Answers.{Answer, TimersAnswer}
-use Rattle.model.specs.Gateway.{Room, Gateway, numbered, renew, noRoom, roomOf, recordAt}
+use Rattle.chunks.specs.Chunks.{Unfinished, None, Frame, Joined, Refused as RefusedChunk, As, join}
+use Rattle.model.specs.Gateway.{Room, Gateway, numbered, noRoom, roomOf, recordAt, unfinishedOn, withUnfinished}
 use Rattle.model.specs.Receive.{Acted, refuse, accepted, receive}
-use Rattle.model.specs.Step.{Local, Receive, Release, Clear, CsnpComplete, LookUp, LinkMetric, NextHello, Global, Tick, DatabaseComplete, Waiting, Call, At, Over, asksLevel, csnpComplete, lookUp, linkMetricOf, nextHello, act, lift, on, Judged, Refused as RefusedCall, Sweep, Tell, noneOf, isBack, tickOf, databaseOf, judge, sweptRoom, carry, step}
-use Rattle.model.proofs.Lists.{renew-both, renew-numbered, numbered-map}
+use Rattle.model.specs.Step.{Local, Receive, Release, Clear, CsnpComplete, LookUp, LinkMetric, NextHello, Global, Tick, DatabaseComplete, Waiting, Piece, Begin, Chunk, End, Call, At, Over, Hand, asksLevel, csnpComplete, lookUp, linkMetricOf, nextHello, act, lift, on, at, Judged, Refused as RefusedCall, Sweep, Tell, noneOf, isBack, tickOf, databaseOf, judge, sweptRoom, carry, chunked, ended, hand, handOn, step}
+use Rattle.model.proofs.Lists.{renew-other, numbered-map}
+use Rattle.model.proofs.Near.{circuitOf-same}
 use Rattle.reasons.specs.Holds.{Went}
 use Rattle.reasons.specs.Why.{standsOn, standing}
 use Rattle.reasons.proofs.FrameLaws.{Comes, turned, taken, receive-comes, renew-there}
 
 -- ---- rooms by number
-
--- only the one of that number is renewed
-renew-other : {A : Type 0} (l : List A) (m n : ℕ) (d v : A) → m ≢ n → numbered (renew l m v) n d ≡ numbered l n d
-renew-other l m n d v h =
-    renew-both (λ x y. x ≡ y) d v (numbered l m d) refl l l m n refl (λ q. refl) (λ q. absurd (h q)) ∙ ap (λ x. numbered x n d) (renew-numbered l m d)
 
 swept-at : (clock : ℕ) (rs : List Room) (n : ℕ) → numbered (map (sweptRoom clock) rs) n noRoom ≡ sweptRoom clock (numbered rs n noRoom)
 unfolding sweep
@@ -156,7 +153,7 @@ module _ (g : Gateway) (m : ℕ) (s : Circuit) (l : Local) (j : Key) (v : State)
 
   lift-away : (n : ℕ) → m ≢ n → roomOf (lift g m (act m s l) .next) n ≡ roomOf g n
   unfolding lift
-  lift-away n h = renew-other (g .rooms) m n noRoom _ h
+  lift-away n h = renew-other (g .rooms) m n _ noRoom (λ e. h (sym e))
 
 on-lost : (g : Gateway) (m : ℕ) (l : Local) (q : Chosen) (n : ℕ) (j : Key) (v : State) → recordAt g n j ≡ Present v
     → recordAt (on g m l q .next) n j ≡ Absent → (m ≡ n) × LostBy l v
@@ -208,26 +205,57 @@ module _ (g : Gateway) where
       (λ e. rw e (refused-carries _ _))
   judge-carries Waiting = told-carries _ _ _ refl
 
+-- ---- a frame in chunks: an end is a receive, and no record is lost
+
+record Hands (g d : Gateway) : Type 0 where
+  circuits : d .common .circuits ≡ g .common .circuits
+  lost : (n : ℕ) (j : Key) (v : State) → recordAt g n j ≡ Present v → recordAt d n j ≡ Absent → ⊥
+
+module _ (g : Gateway) where
+  -- the rooms are as they were
+  same-hands : (u : List Unfinished) → Hands g (record { common = g .common; rooms = g .rooms; unfinished = u })
+  unfolding recordAt
+  same-hands u = record { circuits = refl; lost = λ n j v p e. let z : _≡_ {A = ℕ} 0 1 = cc in omega arith }
+
+  chunk-hands : (m : ℕ) (j : Joined) → Hands g (chunked g m j .next)
+  unfolding chunked
+  chunk-hands m (RefusedChunk x) = same-hands _
+  chunk-hands m (As u) = same-hands _
+
+  end-hands : (m : ℕ) (b : List ℕ) (u : Unfinished) → Hands g (ended g m b u .next)
+  unfolding ended at recordAt
+  end-hands m b None = same-hands _
+  end-hands m b (Frame mac octets) =
+      record {
+        circuits = on-circuits (withUnfinished g m None) m (Receive mac octets b) (circuitOf (g .common) m);
+        lost = λ n j v p e. on-lost (withUnfinished g m None) m (Receive mac octets b) (circuitOf (g .common) m) n j v p e .1;
+      }
+
+  hands : (m : ℕ) (p : Piece) (q : Chosen) → Hands g (handOn g m p q .next)
+  unfolding handOn hand
+  hands m p Unknown = same-hands _
+  hands m (Begin mac) (Known s) = same-hands _
+  hands m (Chunk octets) (Known s) = chunk-hands m (join (unfinishedOn g m) octets)
+  hands m (End b) (Known s) = end-hands m b (unfinishedOn g m)
+
 -- ---- every call
 
 pub circuits-same : (g : Gateway) (c : Call) → step g c .next .common .circuits ≡ g .common .circuits
-unfolding step
+unfolding step at
 circuits-same g (At m l) = on-circuits g m l (circuitOf (g .common) m)
 circuits-same g (Over w) = judge-carries g w .circuits
-
-circuitOf-same : (c d : Common) → d .circuits ≡ c .circuits → (n : ℕ) → circuitOf d n ≡ circuitOf c n
-unfolding circuitOf
-circuitOf-same c d e zero = refl
-circuitOf-same c d e (suc i) = cc
+circuits-same g (Hand m p) = hands g m p (circuitOf (g .common) m) .circuits
 
 abbrev pub LostIn : Call → ℕ → State → Type 0
 LostIn (At m l) n v = (m ≡ n) × LostBy l v
 LostIn (Over w) n v = LostOver w v
+LostIn (Hand m p) n v = ⊥
 
 step-lost : (g : Gateway) (c : Call) (n : ℕ) (j : Key) (v : State) → recordAt g n j ≡ Present v → recordAt (step g c .next) n j ≡ Absent → LostIn c n v
-unfolding step
+unfolding step at
 step-lost g (At m l) n j v p e = on-lost g m l (circuitOf (g .common) m) n j v p e
 step-lost g (Over w) n j v p e = judge-carries g w .lost n j v p e
+step-lost g (Hand m i) n j v p e = hands g m i (circuitOf (g .common) m) .lost n j v p e
 
 -- of the record that is asked for, by the same key before and after
 stands-lost : (g : Gateway) (c : Call) (n : ℕ) (k : Key) (v : State) (q : Chosen) → standsOn g n k q ≡ Present v

@@ -33,7 +33,7 @@ use Rattle.model.specs.Numbers.{isOrdered}
 use Rattle.model.specs.Answers.{Answer, Refused as RefusedAnswer, Received, Ticked, Told, FrameAnswer, isShown}
 use Rattle.model.specs.Gateway.{Gateway, roomOf}
 use Rattle.model.specs.Receive.{rankOf}
-use Rattle.model.specs.Step.{Receive, Release, Clear, CsnpComplete, LookUp, LinkMetric, NextHello, Tick, DatabaseComplete, Waiting, Call, At, Over, step}
+use Rattle.model.specs.Step.{Receive, Release, Clear, CsnpComplete, LookUp, LinkMetric, NextHello, Tick, DatabaseComplete, Waiting, Call, At, Over, Hand, step}
 use Rattle.reasons.specs.Duty.{dutyIn}
 use Rattle.reasons.specs.Holds.{ordersCsnps, leaves, Went, NotAsAsked, Unshown, Gone, Unordered, FitsLine, Silent, WhyHolds, NotSoExactly}
 use Rattle.reasons.specs.Why.{Why, NotSo, lineNo, standing, unknown, turnedAway, notAdvertised, goneBy, vanished, byLine, fitsRead, fitsOn, unordered, noCsnps, whyOf}
@@ -61,6 +61,7 @@ unknown-holds g (At m (LookUp j)) n k a e z = (z, λ y r s. false≢true r)
 unknown-holds g (At m LinkMetric) n k a e z = (z, λ y r s. false≢true r)
 unknown-holds g (At m (NextHello level)) n k a e z = (z, λ y r s. false≢true r)
 unknown-holds g (Over w) n k a e z = (z, λ y r s. false≢true r)
+unknown-holds g (Hand m p) n k a e z = (z, λ y r s. false≢true r)
 
 unshown-holds : (g : Gateway) (c : Call) (n : ℕ) (k : Key) (a : Adjacency) → leaves g c n k ≡ a
     → Unshown g c n k (notAdvertised n c (step g c .answer) a)
@@ -88,6 +89,7 @@ gone-holds g (Over (Tick clock)) n k s w =
     record { state = s; went = w; clock = clock; tick = refl; reached = went-lost g (Over (Tick clock)) n k s w }
 gone-holds g (Over (DatabaseComplete level)) n k s w = λ v u. went-lost g _ n k v u
 gone-holds g (Over Waiting) n k s w = λ v u. went-lost g _ n k v u
+gone-holds g (Hand m p) n k s w = λ v u. went-lost g _ n k v u
 
 vanished-holds : (g : Gateway) (c : Call) (n : ℕ) (k : Key) (before after : Adjacency) → standing g n k ≡ before → leaves g c n k ≡ after
     → Gone g c n k (vanished c before after)
@@ -178,6 +180,7 @@ no-csnps-holds g (At m (LookUp j)) n k = inr refl
 no-csnps-holds g (At m LinkMetric) n k = inr refl
 no-csnps-holds g (At m (NextHello level)) n k = inr refl
 no-csnps-holds g (Over w) n k = inr refl
+no-csnps-holds g (Hand m p) n k = inr refl
 
 -- ---- the claims
 
@@ -217,6 +220,7 @@ csnps-not-so g (At m (LookUp j)) n k h = refl
 csnps-not-so g (At m LinkMetric) n k h = refl
 csnps-not-so g (At m (NextHello level)) n k h = refl
 csnps-not-so g (Over w) n k h = refl
+csnps-not-so g (Hand m p) n k h = refl
 
 pub not-so-exactly : NotSoExactly
 unfolding whyOf

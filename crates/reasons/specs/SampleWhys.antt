@@ -7,7 +7,7 @@ use lib.ListN.{set}
 use Rattle.settings.specs.declared.mode.Mode.the-variants.{Running}
 use Rattle.adjacency.specs.declared.record.Key.{Key}
 use Rattle.model.specs.Gateway.{Gateway, setup}
-use Rattle.model.specs.Step.{Call, At, Over, Receive, Release, Clear, CsnpComplete, LookUp, LinkMetric, NextHello, Tick, Waiting}
+use Rattle.model.specs.Step.{Call, At, Over, Hand, Receive, Release, Clear, CsnpComplete, LookUp, LinkMetric, NextHello, Tick, Waiting}
 use Rattle.model.specs.Trace.{after}
 use Rattle.model.specs.SampleFrames.{settings, hello, From}
 use Rattle.model.specs.SampleCalls.{OnSample, bad, receive, receiveOn, good}
@@ -98,6 +98,7 @@ frameBy f m (At n (LookUp k)) = At n (LookUp k)
 frameBy f m (At n LinkMetric) = At n LinkMetric
 frameBy f m (At n (NextHello level)) = At n (NextHello level)
 frameBy f m (Over w) = Over w
+frameBy f m (Hand n p) = Hand n p
 
 abbrev pub heardWith : ℕ → ℕ → Call
 heardWith x priority = frameBy (λ l. set l 19 priority) (λ m. m) (heard x 0)

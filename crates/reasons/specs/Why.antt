@@ -22,7 +22,7 @@ use Rattle.model.specs.Numbers.{refusalNo}
 use Rattle.model.specs.Answers.{Answer, Refused as RefusedAnswer, Received, Ticked, Told}
 use Rattle.model.specs.Gateway.{Gateway, roomOf, recordAt}
 use Rattle.model.specs.Receive.{hereOf, rankOf}
-use Rattle.model.specs.Step.{Receive, Release, Clear, CsnpComplete, LookUp, LinkMetric, NextHello, Tick, DatabaseComplete, Waiting, Call, At, Over, Outcome, asksLevel, step}
+use Rattle.model.specs.Step.{Receive, Release, Clear, CsnpComplete, LookUp, LinkMetric, NextHello, Tick, DatabaseComplete, Waiting, Call, At, Over, Hand, Outcome, asksLevel, step}
 use Rattle.reasons.specs.Duty.{dutyIn}
 use Rattle.reasons.specs.declared.why.Call.{Call as CallGiven}
 use Rattle.reasons.specs.declared.why.Call.the-variants.{Receive as ReceiveOn, Tick as TickTo, Release as ReleaseOn, Clear as ClearOn, CsnpComplete as CsnpOn, DatabaseComplete as DatabaseOf, LookUp as LookUpOn, LinkMetric as MetricOn, NextHello as NextOn, Waiting as WaitingT1s}
@@ -67,7 +67,8 @@ standing g n k = standsOn g n k (circuitOf (g .common) n)
 
 -- ---- a call
 
--- what is said of a receive by its circuit, source MAC and frame, and what of every other call
+-- What is said of a receive by its circuit, source MAC and frame, and what of every other call. The questions are about calls of document 01: begins,
+-- chunks and ends are none.
 abbrev pub ofReceive : {A : Type 0} → Call → (ℕ → ℕ → List ℕ → A) → A → A
 ofReceive (At m (Receive mac frame b)) f other = f m mac frame
 ofReceive (At m Release) f other = other
@@ -77,6 +78,7 @@ ofReceive (At m (LookUp k)) f other = other
 ofReceive (At m LinkMetric) f other = other
 ofReceive (At m (NextHello level)) f other = other
 ofReceive (Over w) f other = other
+ofReceive (Hand m p) f other = other
 
 -- ---- "why is this neighbour not advertised"
 
@@ -110,6 +112,7 @@ goneBy (At m (NextHello level)) = NotSo
 goneBy (Over (Tick clock)) = Expired
 goneBy (Over (DatabaseComplete level)) = NotSo
 goneBy (Over Waiting) = NotSo
+goneBy (Hand m p) = NotSo
 
 -- of the record before the call and after it: it stood, and stands no more
 unfoldable pub vanished : Call → Adjacency → Adjacency → Why
