@@ -45,13 +45,13 @@ use Rattle.model.specs.Answers.{Answer, Refused, Ticked, Told, Fact, Done, Noti
 use Rattle.model.specs.Gateway.{Gateway, Room, withSlots, withRooms, withCommon, noRoom, renew, roomOf}
 use Rattle.model.specs.Receive.{Acted, refuse}
 use Rattle.model.specs.Step.{Call, Judged, Refused as RefusedCall, Tell, Release, Clear, CsnpComplete, LookUp, LinkMetric, NextHello, Tick, DatabaseComplete, Waiting, Over, told, act, asksLevel, csnpOf, csnpComplete, lookUp, linkMetricOf, flagsAt, nextHello, noticeOf, settledBy, lift, noneOf, quiet, tickOf, databaseOf, judge, carry, sweptRoom, lapsed, step}
-use Rattle.gateway.specs.Words.{gatewayWords, roomPlace, gatewayOf, Meets}
+use Rattle.gateway.specs.Words.{ownWords, roomPlace, gatewayOf, Meets}
 use Rattle.basics.specs.Lists.{part}
 use Rattle.gateway.proofs.WordLaws.{along, asks, common-at, common-put, room-put, room-at, room-of, renew-at, same-room}
 
 -- ---- a call on a circuit that changes the common part, or the circuit's own
 
-module _ (ws : List ℕ) (n : ℕ) (len : length ws ≡ gatewayWords) where
+module _ (ws : List ℕ) (n : ℕ) (len : length ws ≡ ownWords) where
   abbrev g : Gateway
   g = gatewayOf ws
 
@@ -65,7 +65,7 @@ module _ (ws : List ℕ) (n : ℕ) (len : length ws ≡ gatewayWords) where
         reply = q;
         next =
             common-put ws u len lu ∙ ap (withCommon g) c
-            ∙ ap (λ (l : List Room). record { common = f (g .common) (roomOf g n) .common; rooms = l }) (sym (same-room (g .rooms) n) ∙ ap (renew (g .rooms) n) r);
+            ∙ ap (λ (l : List Room). withRooms (withCommon g (f (g .common) (roomOf g n) .common)) l) (sym (same-room (g .rooms) n) ∙ ap (renew (g .rooms) n) r);
         kept = λ y z. absurd (let w : _≡_ {A = ℕ} 0 1 = cc in omega arith);
       }
 
@@ -226,7 +226,7 @@ module _ (ws : List ℕ) where
           })
 
   -- the rooms first, and then the control words put back
-  pub swept-all : (clock : ℕ) (ws1 u : List ℕ) (lost : List Bool) (hellos : Hellos) (o : TimerOutcome) → length ws1 ≡ gatewayWords → length u ≡ controlWords
+  pub swept-all : (clock : ℕ) (ws1 u : List ℕ) (lost : List Bool) (hellos : Hellos) (o : TimerOutcome) → length ws1 ≡ ownWords → length u ≡ controlWords
       → lost ≡ map (lapsed clock) (gw .rooms) → gatewayOf ws1 ≡ withRooms gw (map (sweptRoom clock) (gw .rooms))
       → CommonTicks clock (part 0 controlWords ws1) u o hellos → SweepsAll clock ws (putMid 0 controlWords ws1 u) (Ticked lost hellos (timersAnswer o))
   swept-all clock ws1 u lost hellos o l1 lu m r h =
@@ -263,7 +263,7 @@ module _ (ws : List ℕ) where
           along (sym (judged (RefusedCall NotRestarting) (rw q)))
           (record { answer = refl; reply = refl; next = refl; kept = λ x y. refl })
 
-      pub database-taken : isRunning (cs .timers .mode) ≡ false → (n : Levels) → n ≡ onlyLevel level → (u : List ℕ) → length ws ≡ gatewayWords → length u ≡ controlWords
+      pub database-taken : isRunning (cs .timers .mode) ≡ false → (n : Levels) → n ≡ onlyLevel level → (u : List ℕ) → length ws ≡ ownWords → length u ≡ controlWords
           → (o : TimerOutcome) → CommonSettles (noticeT2s n) (part 0 controlWords ws) u o → Meets (Told (Noticed (timersAnswer o))) (step gw call) ws (putMid 0 controlWords ws u) []
       unfolding carry
       database-taken m n ne u len lu o h =
@@ -286,7 +286,7 @@ module _ (ws : List ℕ) where
   waits k low e f = record { answer = λ i. Told (Waits (e i) (someWaits (f i)) (lowestNo (f i))); reply = refl; next = refl; kept = λ x y. refl }
 
 pub lapsed-at : (ws : List ℕ) (clock i : ℕ) → i < circuits → (any : Bool) (t : List ℕ) → Sweeps (expiredBy clock) (tableOf (part (roomPlace i) (roomPlace i + roomWords - roomPlace i) ws)) (tableOf t) any
-    → length ws ≡ gatewayWords → length t ≡ roomPlace i + roomWords - roomPlace i
+    → length ws ≡ ownWords → length t ≡ roomPlace i + roomWords - roomPlace i
     → (any ≡ lapsed clock (getD (gatewayOf ws .rooms) i noRoom))
     × (gatewayOf (putMid (roomPlace i) (roomPlace i + roomWords - roomPlace i) ws t) ≡ withRooms (gatewayOf ws) (set (gatewayOf ws .rooms) i (sweptRoom clock (getD (gatewayOf ws .rooms) i noRoom))))
 lapsed-at ws clock i lt any t s len lt64 =

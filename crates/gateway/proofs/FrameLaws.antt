@@ -47,7 +47,7 @@ use Rattle.model.specs.Answers.{Refused, Received, frameAnswer, changeOf}
 use Rattle.model.specs.Gateway.{Gateway, Room, withRooms, withCommon, renew, roomOf}
 use Rattle.model.specs.Receive.{refuse, hereOf, rankOf, hasRisen, saidOf, t1Of, ordersOf, accepted, reacted, decidedIn, checked, readIn, receive}
 use Rattle.model.specs.Step.{Receive, act, lift}
-use Rattle.gateway.specs.Words.{gatewayWords, roomPlace, gatewayOf, circuitHeld, Meets}
+use Rattle.gateway.specs.Words.{ownWords, roomPlace, gatewayOf, circuitHeld, Meets}
 use Rattle.basics.specs.Lists.{part}
 use Rattle.gateway.proofs.WordLaws.{along, refuses, common-at, common-put, common-stays, room-put, room-same, room-of, renew-at}
 
@@ -91,7 +91,7 @@ module _ (ws : List ℕ) (n : ℕ) (s : Circuit) (mac : ℕ) (h : Hello) (b : Li
 
 -- ---- refusals 8 and 9, and the frame's effect
 
-module _ (ws : List ℕ) (n : ℕ) (s : Circuit) (mac : ℕ) (h : Hello) (b : List ℕ) (len : length ws ≡ gatewayWords) (lo : 0 < n) (hi : n ≤ circuits) where
+module _ (ws : List ℕ) (n : ℕ) (s : Circuit) (mac : ℕ) (h : Hello) (b : List ℕ) (len : length ws ≡ ownWords) (lo : 0 < n) (hi : n ≤ circuits) where
   abbrev a : ℕ
   a = roomPlace (n - 1)
 
@@ -170,7 +170,7 @@ module _ (ws : List ℕ) (n : ℕ) (s : Circuit) (mac : ℕ) (h : Hello) (b : Li
 
 -- ---- a room put back leaves the circuit's settings, and what the frame says
 
-module _ (ws : List ℕ) (n : ℕ) (s : Circuit) (h : Hello) (t : List ℕ) (len : length ws ≡ gatewayWords) (lo : 0 < n) (hi : n ≤ circuits)
+module _ (ws : List ℕ) (n : ℕ) (s : Circuit) (h : Hello) (t : List ℕ) (len : length ws ≡ ownWords) (lo : 0 < n) (hi : n ≤ circuits)
     (lt : length t ≡ roomPlace (n - 1) + roomWords - roomPlace (n - 1)) (held : s ≡ circuitHeld ws n) where
   abbrev back : List ℕ
   back = putMid (roomPlace (n - 1)) (roomPlace (n - 1) + roomWords - roomPlace (n - 1)) ws t
@@ -187,7 +187,7 @@ module _ (ws : List ℕ) (n : ℕ) (s : Circuit) (h : Hello) (t : List ℕ) (len
 
 -- ---- the orders of an accepted frame
 
-module _ (ws : List ℕ) (n : ℕ) (s : Circuit) (h : Hello) (reply : Acknowledgement) (line : Line) (change : Change) (len : length ws ≡ gatewayWords) (lo : 0 < n) (hi : n ≤ circuits) where
+module _ (ws : List ℕ) (n : ℕ) (s : Circuit) (h : Hello) (reply : Acknowledgement) (line : Line) (change : Change) (len : length ws ≡ ownWords) (lo : 0 < n) (hi : n ≤ circuits) where
   abbrev at : ℕ
   at = roomPlace (n - 1)
 

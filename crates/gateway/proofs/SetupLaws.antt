@@ -28,15 +28,15 @@ use Rattle.control.specs.declared.setup.Basis.{Basis}
 use Rattle.control.proofs.SetupLaws.{Stored, stored-step, stored-all}
 use Rattle.model.specs.declared.answers.SetUp.{SetUp}
 use Rattle.model.specs.declared.answers.SetUp.the-variants.{Refused, Done}
-use Rattle.model.specs.Gateway.{Gateway, Room, withCommon, newRoom, newGateway, setup}
-use Rattle.gateway.specs.Words.{gatewayWords, roomPlace, gatewayOf}
+use Rattle.model.specs.Gateway.{Gateway, Room, withCommon, newRoom, noFrames, newGateway, setup}
+use Rattle.gateway.specs.Words.{ownWords, roomPlace, gatewayOf}
 use Rattle.gateway.specs.Setup.{Begun, PutsCircuit, HoldsCircuits, countedBasis, Begins, SetsUp}
 use Rattle.gateway.proofs.CallLaws.{copy-step, gather-end}
 use Rattle.gateway.proofs.WordLaws.{length-common, length-rooms, common-put, common-stays, room-put}
 
 -- ---- a circuit
 
-pub puts : (ws u t : List ℕ) (i : ℕ) (s : Circuit) → length ws ≡ gatewayWords → length u ≡ controlWords → i < circuits
+pub puts : (ws u t : List ℕ) (i : ℕ) (s : Circuit) → length ws ≡ ownWords → length u ≡ controlWords → i < circuits
     → length t ≡ roomPlace i + roomWords - roomPlace i → circuitAt u i ≡ s → ((j : ℕ) → j ≢ i → circuitAt u j ≡ circuitAt (part 0 controlWords ws) j)
     → tableOf t ≡ emptyRoom (s .kind) → PutsCircuit i s ws (putMid (roomPlace i) (roomPlace i + roomWords - roomPlace i) (putMid 0 controlWords ws u) t)
 puts ws u t i s len lu lt l own others e =
@@ -102,7 +102,7 @@ counted-many b h = rw (lt-ltb circuits (b .count) h) refl
 pub counted-same : (b : Basis) → b .count ≤ circuits → b ≡ countedBasis b
 counted-same b h = rw (le-ltb circuits (b .count) h) refl
 
-pub begins : (ws u : List ℕ) (b : Basis) (hellos : Hellos) → length ws ≡ gatewayWords → length u ≡ controlWords
+pub begins : (ws u : List ℕ) (b : Basis) (hellos : Hellos) → length ws ≡ ownWords → length u ≡ controlWords
     → SetsControl (settingsOn b (circuitsFrom (part 0 controlWords ws) 0 circuits)) u hellos → Begins b ws (putMid 0 controlWords ws u) hellos
 begins ws u b hellos len lu h =
     record { next = common-put ws u len lu ∙ ap (withCommon (gatewayOf ws)) (h .common); ordered = h .hellos }
@@ -117,13 +117,13 @@ module _ (ws : List ℕ) (s : Settings) where
 
   pub set-up-done : (ws1 ws′ : List ℕ) (hellos : HelloOrders) → settingsOk s ≡ true → HoldsCircuits (s .circuits) ws1
       → Begins (basisOf s) ws1 ws′ (hellosOf hellos) → SetsUp (setup s) ws ws′ (Done hellos)
-  unfolding setup newGateway
+  unfolding setup newGateway gatewayOf
   set-up-done ws1 ws′ hellos e held b =
       let on : settingsOn (basisOf s) (circuitsFrom (part 0 controlWords ws1) 0 circuits) ≡ s = ap (settingsOn (basisOf s)) (held .stored) in
       rw e
       (record {
         answer = ap Begun (b .ordered ∙ ap (λ (x : Settings). startHellos (startOf x)) on);
-        next = b .next ∙ (λ i. record { common = setupCommon (on i); rooms = held .rooms i });
+        next = b .next ∙ (λ i. record { common = setupCommon (on i); rooms = held .rooms i; unfinished = noFrames });
         kept = λ x y. absurd (let z : _≡_ {A = ℕ} 0 1 = cc in omega arith);
       })
 

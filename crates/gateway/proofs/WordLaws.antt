@@ -26,8 +26,8 @@ use Rattle.model.specs.Numbers.{refusalNo}
 use Rattle.model.specs.Answers.{Answer, Refused}
 use Rattle.model.specs.Gateway.{Gateway, Room, withRooms, withCommon, noRoom, numbered, renew, roomOf}
 use Rattle.model.specs.Receive.{Acted, refuse}
-use Rattle.model.specs.Step.{Outcome, Local, At, lent, lift, on, step, refused, act}
-use Rattle.gateway.specs.Words.{gatewayWords, roomPlace, roomAt, gatewayOf, Meets}
+use Rattle.model.specs.Step.{Outcome, Local, At, lent, lift, on, at, step, refused, act}
+use Rattle.gateway.specs.Words.{ownWords, roomPlace, roomAt, gatewayOf, Meets}
 use Rattle.basics.specs.Lists.{part}
 
 -- ---- a part put back leaves every part that it does not meet
@@ -59,8 +59,8 @@ side j i ne =
 
 -- ---- the control words put back, and a room's
 
-module _ (ws t : List ℕ) (len : length ws ≡ gatewayWords) where
-  pub length-common : length t ≡ controlWords → length (putMid 0 controlWords ws t) ≡ gatewayWords
+module _ (ws t : List ℕ) (len : length ws ≡ ownWords) where
+  pub length-common : length t ≡ controlWords → length (putMid 0 controlWords ws t) ≡ ownWords
   length-common l = length-back 0 controlWords ws t (omega arith) (omega arith) l ∙ len
 
   pub common-put : length t ≡ controlWords → gatewayOf (putMid 0 controlWords ws t) ≡ withCommon (gatewayOf ws) (commonOf t)
@@ -75,7 +75,7 @@ module _ (ws t : List ℕ) (len : length ws ≡ gatewayWords) where
     abbrev a : ℕ
     a = roomPlace i
 
-    pub length-room : length (putMid a (a + roomWords - a) ws t) ≡ gatewayWords
+    pub length-room : length (putMid a (a + roomWords - a) ws t) ≡ ownWords
     length-room = length-back a (a + roomWords) ws t (omega arith) (omega arith) long ∙ len
 
     pub room-same : part a (a + roomWords - a) (putMid a (a + roomWords - a) ws t) ≡ t
@@ -161,16 +161,16 @@ module _ (ws : List ℕ) (n : ℕ) where
       record {
         answer = p;
         reply = q;
-        next = ap (withRooms g) (sym (same-room (g .rooms) n) ∙ ap (renew (g .rooms) n) r) ∙ ap (λ (x : Common). record { common = x; rooms = renew (g .rooms) n (f (g .common) (roomOf g n) .room) }) c;
+        next = ap (withRooms g) (sym (same-room (g .rooms) n) ∙ ap (renew (g .rooms) n) r) ∙ ap (λ (x : Common). withRooms (withCommon g x) (renew (g .rooms) n (f (g .common) (roomOf g n) .room))) c;
         kept = λ y e. refl;
       }
 
 -- refusal 1, and the circuit of the number
 module _ (g : Gateway) (n : ℕ) (l : Local) where
   pub no-circuit : circuitOf (g .common) n ≡ Unknown → refused g (lent l) NoCircuit ≡ step g (At n l)
-  unfolding step on
+  unfolding step at on
   no-circuit e = rw e refl
 
   pub a-circuit : (s : Circuit) → circuitOf (g .common) n ≡ Known s → lift g n (act n s l) ≡ step g (At n l)
-  unfolding step on
+  unfolding step at on
   a-circuit s e = rw e refl

@@ -2,3 +2,4 @@ pub mod Words
 pub mod Frame
 pub mod Tick
 pub mod Setup
+pub mod Whole

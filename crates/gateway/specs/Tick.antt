@@ -6,7 +6,7 @@ use Rattle.timers.specs.Timers.{ticked, toT3}
 use Rattle.timers.specs.Outcome.{ordered, tickHellos}
 use Rattle.control.specs.Common.{Common, withClock, withTimers}
 use Rattle.model.specs.Answers.{Answer, Ticked, timersAnswer}
-use Rattle.model.specs.Gateway.{Gateway}
+use Rattle.model.specs.Gateway.{Gateway, withRooms, withCommon}
 use Rattle.model.specs.Step.{lapsed, sweptRoom}
 use Rattle.gateway.specs.Words.{gatewayOf}
 
@@ -21,4 +21,4 @@ tickedAnswer clock g =
 
 pub record SweepsAll (clock : ℕ) (ws ws′ : List ℕ) (a : Answer) : Type 0 where
   pub answer : a ≡ tickedAnswer clock (gatewayOf ws)
-  pub next : gatewayOf ws′ ≡ record { common = tickedCommon clock (gatewayOf ws .common); rooms = map (sweptRoom clock) (gatewayOf ws .rooms) }
+  pub next : gatewayOf ws′ ≡ withRooms (withCommon (gatewayOf ws) (tickedCommon clock (gatewayOf ws .common))) (map (sweptRoom clock) (gatewayOf ws .rooms))

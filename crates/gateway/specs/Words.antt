@@ -1,4 +1,5 @@
--- The gateway in lent words (house): the control words, then a room for each circuit; and what a call is to do.
+-- The gateway in its own words (house): the control words, then a room for each circuit; and what a call of document 01 does to them. Whole has the
+-- words and octets of unfinished frames, and the promise of every call.
 use Prim.Native.Nat.{ℕ, _+_, _-_, _*_}
 use mathlib.Core.Path.{_≡_}
 use mathlib.Core.List.{List}
@@ -10,11 +11,11 @@ use Rattle.slots.specs.Slots.{tableOf, roomWords}
 use Rattle.control.specs.Words.{circuitAt, commonOf, controlWords}
 use Rattle.settings.specs.declared.circuit.Circuit.{Circuit}
 use Rattle.model.specs.Answers.{Answer, Refused}
-use Rattle.model.specs.Gateway.{Gateway, Room}
+use Rattle.model.specs.Gateway.{Gateway, Room, noFrames}
 use Rattle.model.specs.Step.{Outcome}
 
-abbrev pub gatewayWords : ℕ
-gatewayWords = controlWords + roomWords * circuits
+abbrev pub ownWords : ℕ
+ownWords = controlWords + roomWords * circuits
 
 -- where the room of circuit i (from 0) stands
 abbrev pub roomPlace : ℕ → ℕ
@@ -23,9 +24,9 @@ roomPlace i = controlWords + roomWords * i
 unfoldable pub roomAt : List ℕ → ℕ → Room
 roomAt ws i = record { slots = tableOf (part (roomPlace i) roomWords ws) }
 
--- any words mean some gateway
+-- any words mean some gateway; no frame is begun in it
 unfoldable pub gatewayOf : List ℕ → Gateway
-gatewayOf ws = record { common = commonOf (part 0 controlWords ws); rooms = tabulate (roomAt ws) circuits }
+gatewayOf ws = record { common = commonOf (part 0 controlWords ws); rooms = tabulate (roomAt ws) circuits; unfinished = noFrames }
 
 -- the settings of circuit n (from 1), as the words have them
 abbrev pub circuitHeld : List ℕ → ℕ → Circuit
@@ -35,8 +36,8 @@ circuitHeld ws n = circuitAt (part 0 controlWords ws) (n - 1)
 abbrev pub keyGiven : ℕ → List ℕ → List ℕ → Key
 keyGiven level system mac = record { level = level; system = big 6 system 0; mac = big 6 mac 0 }
 
--- What a call on the words ws is to do, a being its answer: answer, reply buffer and gateway at exit are the outcome's, and a refusal leaves
--- every word as it was.
+-- What a call of document 01 on its own words ws is to do, a being its answer: answer, reply buffer and gateway at exit are the outcome's, and a
+-- refusal leaves every word as it was.
 pub record Meets (a : Answer) (o : Outcome) (ws ws′ b′ : List ℕ) : Type 0 where
   pub answer : a ≡ o .answer
   pub reply : b′ ≡ o .reply

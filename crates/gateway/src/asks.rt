@@ -32,7 +32,7 @@ ghost use Rattle.model.specs.Answers.{Told, recordAnswer, lookedOf, metricOf, f
 ghost use Rattle.model.specs.Answers.{Looked as LookedFact};
 ghost use Rattle.model.specs.Step.{asksLevel, lookUp, nextHello, lift, step, At, Over, LookUp, LinkMetric, NextHello};
 ghost use Rattle.model.specs.Step.{Waiting as Waits};
-ghost use Rattle.gateway.specs.Words.{gatewayWords, gatewayOf, Meets};
+ghost use Rattle.gateway.specs.Words.{ownWords, gatewayOf, Meets};
 
 // Whether a key's level may be asked for on a circuit: it counts on a LAN alone.
 pub fn asks_level(kind: CircuitKind, levels: Levels, level: u8) -> bool
@@ -58,7 +58,7 @@ fn looked_at(stood: Adjacency) -> Looked
 }
 
 fn look_on(gateway: &[u64], n: u8, s: Circuit, key: Key) -> Looked
-    requires { ⌜ (length (now gateway) ≡ gatewayWords) × (0 < n) × (n ≤ circuits) ⌝ }
+    requires { ⌜ (length (now gateway) ≡ ownWords) × (0 < n) × (n ≤ circuits) ⌝ }
     ensures { λ r. ⌜ Meets (lookedOf r) (lift (gatewayOf (now (gateway .entry))) n (lookUp s key)) (now (gateway .entry)) (now (gateway .entry)) [] ⌝ }
 {
     let kind = s.kind;
@@ -75,7 +75,7 @@ fn look_on(gateway: &[u64], n: u8, s: Circuit, key: Key) -> Looked
 
 // The record with a key on a circuit.
 pub(crate) fn look_in(gateway: &[u64], n: u8, key: Key) -> Looked
-    requires { ⌜ length (now gateway) ≡ gatewayWords ⌝ }
+    requires { ⌜ length (now gateway) ≡ ownWords ⌝ }
     ensures { λ r. ⌜ Meets (lookedOf r) (step (gatewayOf (now (gateway .entry))) (At n (LookUp key))) (now (gateway .entry)) (now (gateway .entry)) [] ⌝ }
 {
     let Chosen::Known(s) = circuit_of(&gateway[0..CONTROL_WORDS], n) else {
@@ -85,7 +85,7 @@ pub(crate) fn look_in(gateway: &[u64], n: u8, key: Key) -> Looked
 }
 
 pub(crate) fn metric_in(gateway: &[u64], n: u8) -> Metric
-    requires { ⌜ length (now gateway) ≡ gatewayWords ⌝ }
+    requires { ⌜ length (now gateway) ≡ ownWords ⌝ }
     ensures { λ r. ⌜ Meets (metricOf r) (step (gatewayOf (now (gateway .entry))) (At n LinkMetric)) (now (gateway .entry)) (now (gateway .entry)) [] ⌝ }
 {
     let Chosen::Known(s) = circuit_of(&gateway[0..CONTROL_WORDS], n) else {
@@ -98,7 +98,7 @@ pub(crate) fn metric_in(gateway: &[u64], n: u8) -> Metric
 }
 
 fn flags_on(gateway: &[u64], n: u8, s: Circuit, level: u8) -> NextFlags
-    requires { ⌜ (length (now gateway) ≡ gatewayWords) × (0 < n) × (n ≤ circuits) ⌝ }
+    requires { ⌜ (length (now gateway) ≡ ownWords) × (0 < n) × (n ≤ circuits) ⌝ }
     ensures { λ r. ⌜ Meets (flagsOf r) (lift (gatewayOf (now (gateway .entry))) n (nextHello n s level)) (now (gateway .entry)) (now (gateway .entry)) [] ⌝ }
 {
     let kind = s.kind;
@@ -113,7 +113,7 @@ fn flags_on(gateway: &[u64], n: u8, s: Circuit, level: u8) -> NextFlags
 
 // The flags of the next hello on a circuit, at a level.
 pub(crate) fn flags_in(gateway: &[u64], n: u8, level: u8) -> NextFlags
-    requires { ⌜ length (now gateway) ≡ gatewayWords ⌝ }
+    requires { ⌜ length (now gateway) ≡ ownWords ⌝ }
     ensures { λ r. ⌜ Meets (flagsOf r) (step (gatewayOf (now (gateway .entry))) (At n (NextHello level))) (now (gateway .entry)) (now (gateway .entry)) [] ⌝ }
 {
     let Chosen::Known(s) = circuit_of(&gateway[0..CONTROL_WORDS], n) else {
@@ -123,7 +123,7 @@ pub(crate) fn flags_in(gateway: &[u64], n: u8, level: u8) -> NextFlags
 }
 
 pub(crate) fn waiting_in(gateway: &[u64]) -> Waiting
-    requires { ⌜ length (now gateway) ≡ gatewayWords ⌝ }
+    requires { ⌜ length (now gateway) ≡ ownWords ⌝ }
     ensures { λ r. ⌜ Meets (waitingOf r) (step (gatewayOf (now (gateway .entry))) (Over Waits)) (now (gateway .entry)) (now (gateway .entry)) [] ⌝ }
 {
     let count = count_waiting(&gateway[0..CONTROL_WORDS]);

@@ -45,7 +45,7 @@ ghost use Rattle.control.specs.Words.{controlWords, commonOf};
 ghost use Rattle.model.specs.Answers.{receivedOf, isShown, changeOf};
 ghost use Rattle.model.specs.Receive.{hereOf, decidedIn, checked};
 ghost use Rattle.model.specs.Step.{lift, step, At, Receive};
-ghost use Rattle.gateway.specs.Words.{gatewayWords, gatewayOf, circuitHeld, Meets};
+ghost use Rattle.gateway.specs.Words.{ownWords, gatewayOf, circuitHeld, Meets};
 ghost use Rattle.gateway.specs.Frame.{Settled, GivesOrders};
 
 // What the state step and the marks know of the gateway.
@@ -76,7 +76,7 @@ fn order_in(
     line: Line,
     change: Change,
 ) -> Orders
-    requires { ⌜ (length (now gateway) ≡ gatewayWords) × (0 < n) × (n ≤ circuits) × Settled n frame said change (now gateway) ⌝ }
+    requires { ⌜ (length (now gateway) ≡ ownWords) × (0 < n) × (n ≤ circuits) × Settled n frame said change (now gateway) ⌝ }
     ensures { λ r. ⌜ GivesOrders n (circuitHeld (now (gateway .entry)) n) frame reply line change (now (gateway .entry)) (now (gateway .exit)) r ⌝ }
 {
     let i = n as usize - 1;
@@ -148,7 +148,7 @@ fn decide_in(
     frame: Hello,
     reply: &mut [u8],
 ) -> Received
-    requires { ⌜ (length (now gateway) ≡ gatewayWords) × (0 < n) × (n ≤ circuits) × (11 ≤ length (now reply)) × (s ≡ circuitHeld (now gateway) n) × (kindOf (frame .link) ≡ s .kind) ⌝ }
+    requires { ⌜ (length (now gateway) ≡ ownWords) × (0 < n) × (n ≤ circuits) × (11 ≤ length (now reply)) × (s ≡ circuitHeld (now gateway) n) × (kindOf (frame .link) ≡ s .kind) ⌝ }
     ensures { λ r. ⌜ Meets (receivedOf r) (lift (gatewayOf (now (gateway .entry))) n (decidedIn n s mac (now (reply .entry)) frame)) (now (gateway .entry)) (now (gateway .exit)) (now (reply .exit)) ⌝ }
 {
     let kind = s.kind;
@@ -182,7 +182,7 @@ fn check_in(
     frame: Hello,
     reply: &mut [u8],
 ) -> Received
-    requires { ⌜ (length (now gateway) ≡ gatewayWords) × (0 < n) × (n ≤ circuits) × (11 ≤ length (now reply)) × (length (now source) ≡ 6) × (s ≡ circuitHeld (now gateway) n) × (kindOf (frame .link) ≡ s .kind) ⌝ }
+    requires { ⌜ (length (now gateway) ≡ ownWords) × (0 < n) × (n ≤ circuits) × (11 ≤ length (now reply)) × (length (now source) ≡ 6) × (s ≡ circuitHeld (now gateway) n) × (kindOf (frame .link) ≡ s .kind) ⌝ }
     ensures { λ r. ⌜ Meets (receivedOf r) (lift (gatewayOf (now (gateway .entry))) n (checked n s (big 6 (now (source .entry)) 0) (now (reply .entry)) frame)) (now (gateway .entry)) (now (gateway .exit)) (now (reply .exit)) ⌝ }
 {
     let levels = s.levels;
@@ -203,7 +203,7 @@ fn read_in(
     frame: &[u8],
     reply: &mut [u8],
 ) -> Received
-    requires { ⌜ (length (now gateway) ≡ gatewayWords) × (0 < n) × (n ≤ circuits) × (length (now source) ≡ 6) × (s ≡ circuitHeld (now gateway) n) ⌝ }
+    requires { ⌜ (length (now gateway) ≡ ownWords) × (0 < n) × (n ≤ circuits) × (length (now source) ≡ 6) × (s ≡ circuitHeld (now gateway) n) ⌝ }
     ensures { λ r. ⌜ Meets (receivedOf r) (lift (gatewayOf (now (gateway .entry))) n (Rattle.model.specs.Receive.receive n s (big 6 (now (source .entry)) 0) (now (frame .entry)) (now (reply .entry)))) (now (gateway .entry)) (now (gateway .exit)) (now (reply .exit)) ⌝ }
 {
     let kind = s.kind;
@@ -224,7 +224,7 @@ pub(crate) fn receive_in(
     frame: &[u8],
     reply: &mut [u8],
 ) -> Received
-    requires { ⌜ (length (now gateway) ≡ gatewayWords) × (length (now source) ≡ 6) ⌝ }
+    requires { ⌜ (length (now gateway) ≡ ownWords) × (length (now source) ≡ 6) ⌝ }
     ensures { λ r. ⌜ Meets (receivedOf r) (step (gatewayOf (now (gateway .entry))) (At n (Receive (big 6 (now (source .entry)) 0) (now (frame .entry)) (now (reply .entry))))) (now (gateway .entry)) (now (gateway .exit)) (now (reply .exit)) ⌝ }
 {
     let Chosen::Known(s) = circuit_of(&gateway[0..CONTROL_WORDS], n) else {

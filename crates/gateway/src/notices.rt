@@ -20,11 +20,11 @@ ghost use lib.ListN.{length};
 ghost use Rattle.basics.specs.Mask.{circuits};
 ghost use Rattle.model.specs.Answers.{noticedOf};
 ghost use Rattle.model.specs.Step.{csnpComplete, lift, step, At, CsnpComplete, Over, DatabaseComplete};
-ghost use Rattle.gateway.specs.Words.{gatewayWords, gatewayOf, Meets};
+ghost use Rattle.gateway.specs.Words.{ownWords, gatewayOf, Meets};
 
 // A level that is not enabled there (1), then 11.
 fn csnp_on(gateway: &mut [u64], n: u8, s: Circuit, level: u8) -> Noticed
-    requires { ⌜ (length (now gateway) ≡ gatewayWords) × (0 < n) × (n ≤ circuits) ⌝ }
+    requires { ⌜ (length (now gateway) ≡ ownWords) × (0 < n) × (n ≤ circuits) ⌝ }
     ensures { λ r. ⌜ Meets (noticedOf r) (lift (gatewayOf (now (gateway .entry))) n (csnpComplete n s level)) (now (gateway .entry)) (now (gateway .exit)) [] ⌝ }
 {
     let kind = s.kind;
@@ -43,7 +43,7 @@ fn csnp_on(gateway: &mut [u64], n: u8, s: Circuit, level: u8) -> Noticed
 
 // The CSNP set of a level is complete on a circuit.
 pub(crate) fn csnp_in(gateway: &mut [u64], n: u8, level: u8) -> Noticed
-    requires { ⌜ length (now gateway) ≡ gatewayWords ⌝ }
+    requires { ⌜ length (now gateway) ≡ ownWords ⌝ }
     ensures { λ r. ⌜ Meets (noticedOf r) (step (gatewayOf (now (gateway .entry))) (At n (CsnpComplete level))) (now (gateway .entry)) (now (gateway .exit)) [] ⌝ }
 {
     let Chosen::Known(s) = circuit_of(&gateway[0..CONTROL_WORDS], n) else {
@@ -54,7 +54,7 @@ pub(crate) fn csnp_in(gateway: &mut [u64], n: u8, level: u8) -> Noticed
 
 // The database of a level is complete. A level that is enabled on no circuit (1), then 11.
 pub(crate) fn database_in(gateway: &mut [u64], level: u8) -> Noticed
-    requires { ⌜ length (now gateway) ≡ gatewayWords ⌝ }
+    requires { ⌜ length (now gateway) ≡ ownWords ⌝ }
     ensures { λ r. ⌜ Meets (noticedOf r) (step (gatewayOf (now (gateway .entry))) (Over (DatabaseComplete level))) (now (gateway .entry)) (now (gateway .exit)) [] ⌝ }
 {
     if !has_level(levels_of(&gateway[0..CONTROL_WORDS]), level) {

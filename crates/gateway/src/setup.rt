@@ -24,7 +24,7 @@ ghost use Rattle.basics.specs.Mask.{circuits};
 ghost use Rattle.basics.specs.Octets.{big};
 ghost use Rattle.timers.specs.Hellos.{hellosOf};
 ghost use Rattle.model.specs.Gateway.{setup};
-ghost use Rattle.gateway.specs.Words.{gatewayWords};
+ghost use Rattle.gateway.specs.Words.{ownWords};
 ghost use Rattle.gateway.specs.Setup.{circuitGiven, settingsGiven, PutsCircuit, HoldsCircuits, Begins, SetsUp, countedBasis};
 
 // A System ID or a MAC.
@@ -87,7 +87,7 @@ pub(crate) fn settings_given(s: GatewaySettings) -> Settings
 
 // Circuit i (from 0) of a gateway that is being set up: its settings are stored, and no record stands there.
 fn put_in(gateway: &mut [u64], i: usize, s: Circuit)
-    requires { ⌜ (length (now gateway) ≡ gatewayWords) × (i < circuits) ⌝ }
+    requires { ⌜ (length (now gateway) ≡ ownWords) × (i < circuits) ⌝ }
     ensures { λ _. ⌜ PutsCircuit i s (now (gateway .entry)) (now (gateway .exit)) ⌝ }
 {
     let kind = s.kind;
@@ -97,7 +97,7 @@ fn put_in(gateway: &mut [u64], i: usize, s: Circuit)
 }
 
 fn put_circuits(gateway: &mut [u64], all: [Circuit; CIRCUITS])
-    requires { ⌜ length (now gateway) ≡ gatewayWords ⌝ }
+    requires { ⌜ length (now gateway) ≡ ownWords ⌝ }
     ensures { λ _. ⌜ HoldsCircuits all (now (gateway .exit)) ⌝ }
 {
     let mut i = 0;
@@ -110,7 +110,7 @@ fn put_circuits(gateway: &mut [u64], all: [Circuit; CIRCUITS])
 
 // The rest of a new gateway, once its circuits are put.
 fn begin_in(gateway: &mut [u64], s: Basis) -> HelloOrders
-    requires { ⌜ (length (now gateway) ≡ gatewayWords) × (s .count ≤ circuits) ⌝ }
+    requires { ⌜ (length (now gateway) ≡ ownWords) × (s .count ≤ circuits) ⌝ }
     ensures { λ r. ⌜ Begins s (now (gateway .entry)) (now (gateway .exit)) (hellosOf r) ⌝ }
 {
     begin(&mut gateway[0..CONTROL_WORDS], s)
@@ -118,7 +118,7 @@ fn begin_in(gateway: &mut [u64], s: Basis) -> HelloOrders
 
 // Refusal 12, or a new gateway, whatever the words were.
 pub(crate) fn set_up_in(gateway: &mut [u64], s: Settings) -> SetUp
-    requires { ⌜ length (now gateway) ≡ gatewayWords ⌝ }
+    requires { ⌜ length (now gateway) ≡ ownWords ⌝ }
     ensures { λ r. ⌜ SetsUp (setup s) (now (gateway .entry)) (now (gateway .exit)) r ⌝ }
 {
     let all = s.circuits;

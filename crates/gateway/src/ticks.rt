@@ -25,12 +25,12 @@ ghost use Rattle.basics.specs.Mask.{circuits};
 ghost use Rattle.model.specs.Answers.{tickedOf, releasedOf, lostBits};
 ghost use Rattle.model.specs.Gateway.{withRooms, noRoom};
 ghost use Rattle.model.specs.Step.{sweptRoom, lapsed, step, At, Over, Tick, Release, Clear};
-ghost use Rattle.gateway.specs.Words.{gatewayWords, gatewayOf, Meets};
+ghost use Rattle.gateway.specs.Words.{ownWords, gatewayOf, Meets};
 ghost use Rattle.gateway.specs.Tick.{SweepsAll};
 
 // Circuit i (from 0): whether a record went.
 fn sweep_room(gateway: &mut [u64], i: usize, clock: u32) -> bool
-    requires { ⌜ (length (now gateway) ≡ gatewayWords) × (i < circuits) ⌝ }
+    requires { ⌜ (length (now gateway) ≡ ownWords) × (i < circuits) ⌝ }
     ensures { λ r. ⌜ (r ≡ lapsed clock (getD (gatewayOf (now (gateway .entry)) .rooms) i noRoom)) × (gatewayOf (now (gateway .exit)) ≡ withRooms (gatewayOf (now (gateway .entry))) (set (gatewayOf (now (gateway .entry)) .rooms) i (sweptRoom clock (getD (gatewayOf (now (gateway .entry)) .rooms) i noRoom)))) ⌝ }
 {
     let a = CONTROL_WORDS + ROOM_WORDS * i;
@@ -39,7 +39,7 @@ fn sweep_room(gateway: &mut [u64], i: usize, clock: u32) -> bool
 
 // Every circuit: the mask of those that lost a record.
 fn sweep_rooms(gateway: &mut [u64], clock: u32) -> u8
-    requires { ⌜ length (now gateway) ≡ gatewayWords ⌝ }
+    requires { ⌜ length (now gateway) ≡ ownWords ⌝ }
     ensures { λ r. ⌜ (lostBits r ≡ map (lapsed clock) (gatewayOf (now (gateway .entry)) .rooms)) × (gatewayOf (now (gateway .exit)) ≡ withRooms (gatewayOf (now (gateway .entry))) (map (sweptRoom clock) (gatewayOf (now (gateway .entry)) .rooms))) ⌝ }
 {
     let mut lost = 0u8;
@@ -54,7 +54,7 @@ fn sweep_rooms(gateway: &mut [u64], clock: u32) -> u8
 
 // The rooms, and then the clock and the timers.
 fn sweep_all(gateway: &mut [u64], clock: u32) -> Ticked
-    requires { ⌜ length (now gateway) ≡ gatewayWords ⌝ }
+    requires { ⌜ length (now gateway) ≡ ownWords ⌝ }
     ensures { λ r. ⌜ SweepsAll clock (now (gateway .entry)) (now (gateway .exit)) (tickedOf r) ⌝ }
 {
     let lost = sweep_rooms(gateway, clock);
@@ -70,7 +70,7 @@ fn sweep_all(gateway: &mut [u64], clock: u32) -> Ticked
 
 // Refusal 10, or the tick. Memory that was never set up has no circuit: there a tick does nothing.
 pub(crate) fn tick_in(gateway: &mut [u64], clock: u32) -> Ticked
-    requires { ⌜ length (now gateway) ≡ gatewayWords ⌝ }
+    requires { ⌜ length (now gateway) ≡ ownWords ⌝ }
     ensures { λ r. ⌜ Meets (tickedOf r) (step (gatewayOf (now (gateway .entry))) (Over (Tick clock))) (now (gateway .entry)) (now (gateway .exit)) [] ⌝ }
 {
     if count_of(&gateway[0..CONTROL_WORDS]) == 0 {
@@ -91,7 +91,7 @@ pub(crate) fn tick_in(gateway: &mut [u64], clock: u32) -> Ticked
 
 // Refusal 1, or the circuit's Planned records go.
 pub(crate) fn release_in(gateway: &mut [u64], n: u8) -> Released
-    requires { ⌜ length (now gateway) ≡ gatewayWords ⌝ }
+    requires { ⌜ length (now gateway) ≡ ownWords ⌝ }
     ensures { λ r. ⌜ Meets (releasedOf r) (step (gatewayOf (now (gateway .entry))) (At n Release)) (now (gateway .entry)) (now (gateway .exit)) [] ⌝ }
 {
     let Chosen::Known(_) = circuit_of(&gateway[0..CONTROL_WORDS], n) else {
@@ -104,7 +104,7 @@ pub(crate) fn release_in(gateway: &mut [u64], n: u8) -> Released
 
 // Refusal 1, or all records of the circuit go.
 pub(crate) fn clear_in(gateway: &mut [u64], n: u8) -> Released
-    requires { ⌜ length (now gateway) ≡ gatewayWords ⌝ }
+    requires { ⌜ length (now gateway) ≡ ownWords ⌝ }
     ensures { λ r. ⌜ Meets (releasedOf r) (step (gatewayOf (now (gateway .entry))) (At n Clear)) (now (gateway .entry)) (now (gateway .exit)) [] ⌝ }
 {
     let Chosen::Known(s) = circuit_of(&gateway[0..CONTROL_WORDS], n) else {

@@ -15,7 +15,7 @@ use Rattle.settings.specs.declared.circuit.Circuit.{Circuit}
 use Rattle.chunks.specs.Chunks.{Unfinished, None, Frame, mostOctets, Joined, Refused as RefusedChunk, As, join, joined}
 use Rattle.chunks.proofs.ChunkLaws.{join-fits}
 use Rattle.control.specs.Common.{circuitOf}
-use Rattle.model.specs.Gateway.{Gateway, renew, unfinishedOn, withUnfinished}
+use Rattle.model.specs.Gateway.{Gateway, renew, unfinishedOn, withFrames, withUnfinished}
 use Rattle.model.specs.Step.{Local, Receive, Global, Piece, Begin, Chunk, End, Call, At, Over, Hand, Outcome, lift, on, at, Judged, Refused as RefusedCall, Sweep, Tell, judge, carry, handed, chunked, ended, hand, handOn, step}
 use Rattle.model.specs.Trace.{trace, leftBy, after}
 use Rattle.model.proofs.Near.{circuitOf-same}
@@ -46,7 +46,7 @@ module _ (n : ℕ) (u : Unfinished) where
     -- the frames of two circuits
     two-frames : (v : Unfinished) → withUnfinished (withUnfinished g n u) m v ≡ withUnfinished (withUnfinished g m v) n u
     two-frames v =
-        ap (λ (l : List Unfinished). record { common = g .common; rooms = g .rooms; unfinished = l })
+        ap (withFrames g)
         (renew-swap (g .unfinished) n m u v (λ e. apart (sym e)))
 
     chunk-hung : (j : Joined) → chunked (withUnfinished g n u) m j ≡ hung n u (chunked g m j)
@@ -86,7 +86,7 @@ frames-aside g n u c e =
 
 -- a frame renewed twice
 again : (g : Gateway) (n : ℕ) (u v : Unfinished) → withUnfinished (withUnfinished g n u) n v ≡ withUnfinished g n v
-again g n u v = ap (λ (l : List Unfinished). record { common = g .common; rooms = g .rooms; unfinished = l }) (renew-again (g .unfinished) n u v)
+again g n u v = ap (withFrames g) (renew-again (g .unfinished) n u v)
 
 module _ (n mac : ℕ) (s : Circuit) where
   -- a circuit that is there, with a place for its frame

@@ -13,7 +13,7 @@ use Rattle.settings.specs.declared.circuit.Chosen.the-variants.{Known, Unknown}
 use Rattle.chunks.specs.Chunks.{Unfinished, None, Frame, begun, Joined, Refused as RefusedChunk, As, join}
 use Rattle.control.specs.Common.{Common, circuitOf}
 use Rattle.model.specs.Answers.{Answer}
-use Rattle.model.specs.Gateway.{Gateway, renew, unfinishedOn, withUnfinished}
+use Rattle.model.specs.Gateway.{Gateway, renew, unfinishedOn, withFrames, withUnfinished}
 use Rattle.model.specs.Step.{Receive, Piece, Begin, Chunk, End, Call, At, Over, Hand, at, judge, chunked, ended, hand, handOn, step}
 use Rattle.model.specs.Claim.{Neighbour, isSent, isIts, isThere, still}
 use Rattle.model.proofs.Lists.{renew-both, length-renew, renew-numbered}
@@ -42,7 +42,7 @@ module _ (b : Neighbour) (s₁ s₂ : Bool) (g₁ g₂ : Gateway) (n : Near b s�
   -- .. and in the first run alone, on its circuit
   own-frame : (z : Bool) → (z ≡ true → s₁ ≡ true) → (u : Unfinished) → Near b z s₂ (withUnfinished g₁ (b .circuit) u) g₂
   own-frame z w u =
-      subst (λ (l : List Unfinished). Near b z s₂ (withUnfinished g₁ (b .circuit) u) (record { common = g₂ .common; rooms = g₂ .rooms; unfinished = l }))
+      subst (λ (l : List Unfinished). Near b z s₂ (withUnfinished g₁ (b .circuit) u) (withFrames g₂ l))
       (renew-numbered (g₂ .unfinished) (b .circuit) None)
       (frame-near z s₂ w (λ h. h) (b .circuit) u (unfinishedOn g₂ (b .circuit)) (λ h. absurd (h refl)))
 

@@ -27,7 +27,7 @@ use Rattle.room.specs.Accept.{decided}
 use Rattle.timers.specs.Hellos.{Hellos}
 use Rattle.model.specs.Answers.{Refused, Told, Fact, TimersAnswer}
 use Rattle.chunks.specs.Chunks.{Unfinished, None, Frame, Joined, Refused as RefusedChunk, As, join}
-use Rattle.model.specs.Gateway.{Gateway, Room, withRooms, withCommon, renew, noRoom, roomOf, unfinishedOn, withUnfinished}
+use Rattle.model.specs.Gateway.{Gateway, Room, withRooms, withCommon, renew, noRoom, roomOf, unfinishedOn, withFrames, withUnfinished}
 use Rattle.model.specs.Receive.{Acted, refuse, hereOf, accepted, reacted, decidedIn, checked, readIn, isShort, receive}
 use Rattle.model.specs.Step.{Outcome, Local, Receive, Release, Clear, CsnpComplete, LookUp, LinkMetric, NextHello, Global, Tick, DatabaseComplete, Waiting, Piece, Begin, Chunk, End, At, Over, Hand, told, asksLevel, csnpComplete, lookUp, linkMetricOf, nextHello, act, lent, lift, on, at, chunked, ended, hand, handOn, lentTo, Judged, Refused as RefusedCall, Sweep, Tell, noneOf, quiet, isBack, tickOf, databaseOf, judge, carry, step}
 use Rattle.model.specs.Refusals.{leftOn, leftRefused, RefusalsKeep}
@@ -138,7 +138,7 @@ module _ (g : Gateway) where
 -- no frame is begun, and none is left
 no-frame : (g : Gateway) (n : ℕ) → unfinishedOn g n ≡ None → g ≡ withUnfinished g n None
 no-frame g n e =
-    sym (ap (λ (l : List Unfinished). record { common = g .common; rooms = g .rooms; unfinished = l })
+    sym (ap (withFrames g)
     (ap (renew (g .unfinished) n) (sym e) ∙ renew-numbered (g .unfinished) n None))
 
 chunk-stays : (g : Gateway) (n : ℕ) (j : Joined) → Stays g [] (chunked g n j)

@@ -60,8 +60,11 @@ roomOf g n = numbered (g .rooms) n noRoom
 abbrev pub unfinishedOn : Gateway → ℕ → Unfinished
 unfinishedOn g n = numbered (g .unfinished) n None
 
+abbrev pub withFrames : Gateway → List Unfinished → Gateway
+withFrames g us = record { common = g .common; rooms = g .rooms; unfinished = us }
+
 abbrev pub withUnfinished : Gateway → ℕ → Unfinished → Gateway
-withUnfinished g n u = record { common = g .common; rooms = g .rooms; unfinished = renew (g .unfinished) n u }
+withUnfinished g n u = withFrames g (renew (g .unfinished) n u)
 
 -- the record of a key on a circuit
 unfoldable pub recordAt : Gateway → ℕ → Key → Adjacency

@@ -2,13 +2,14 @@
 -- of an end (document 02, W-205). Of every gateway and every call.
 use Prim.Native.Nat.{ℕ}
 use mathlib.Core.Path.{_≡_}
+use mathlib.Core.Bool.{Bool, true, false}
 use mathlib.Core.List.{List, []}
 use Rattle.settings.specs.declared.circuit.Chosen.{Chosen}
 use Rattle.settings.specs.declared.circuit.Chosen.the-variants.{Known, Unknown}
-use Rattle.chunks.specs.Chunks.{None}
+use Rattle.chunks.specs.Chunks.{Unfinished, None, Frame}
 use Rattle.control.specs.Common.{circuitOf}
 use Rattle.model.specs.Answers.{Refused}
-use Rattle.model.specs.Gateway.{Gateway, withUnfinished}
+use Rattle.model.specs.Gateway.{Gateway, unfinishedOn, withUnfinished}
 use Rattle.model.specs.Step.{Piece, Begin, Chunk, End, Call, At, Over, Hand, lent, lentTo, step}
 
 -- the reply buffer that a call lends
@@ -28,6 +29,19 @@ unfoldable pub leftRefused : Gateway → Call → Gateway
 leftRefused g (At n l) = g
 leftRefused g (Over w) = g
 leftRefused g (Hand n p) = leftOn g n p (circuitOf (g .common) n)
+
+-- an end that goes on to receive: what is refused after 1 and 13
+unfoldable pub dropsOn : Piece → Chosen → Unfinished → Bool
+dropsOn p Unknown u = false
+dropsOn (Begin mac) (Known s) u = false
+dropsOn (Chunk octets) (Known s) u = false
+dropsOn (End b) (Known s) None = false
+dropsOn (End b) (Known s) (Frame mac octets) = true
+
+unfoldable pub drops : Gateway → Call → Bool
+drops g (At n l) = false
+drops g (Over w) = false
+drops g (Hand n p) = dropsOn p (circuitOf (g .common) n) (unfinishedOn g n)
 
 abbrev pub RefusalsKeep : Type 0
 RefusalsKeep = (g : Gateway) (c : Call) (x : ℕ) → step g c .answer ≡ Refused x → (step g c .next ≡ leftRefused g c) × (step g c .reply ≡ lentBy c)

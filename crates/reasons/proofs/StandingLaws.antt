@@ -33,7 +33,7 @@ use Rattle.settings.specs.declared.circuit.Circuit.{Circuit}
 use Rattle.control.specs.Common.{Common, circuitOf}
 use Rattle.model.specs.Answers.{Answer, TimersAnswer}
 use Rattle.chunks.specs.Chunks.{Unfinished, None, Frame, Joined, Refused as RefusedChunk, As, join}
-use Rattle.model.specs.Gateway.{Room, Gateway, numbered, noRoom, roomOf, recordAt, unfinishedOn, withUnfinished}
+use Rattle.model.specs.Gateway.{Room, Gateway, numbered, noRoom, roomOf, recordAt, unfinishedOn, withFrames, withUnfinished}
 use Rattle.model.specs.Receive.{Acted, refuse, accepted, receive}
 use Rattle.model.specs.Step.{Local, Receive, Release, Clear, CsnpComplete, LookUp, LinkMetric, NextHello, Global, Tick, DatabaseComplete, Waiting, Piece, Begin, Chunk, End, Call, At, Over, Hand, asksLevel, csnpComplete, lookUp, linkMetricOf, nextHello, act, lift, on, at, Judged, Refused as RefusedCall, Sweep, Tell, noneOf, isBack, tickOf, databaseOf, judge, sweptRoom, carry, chunked, ended, hand, handOn, step}
 use Rattle.model.proofs.Lists.{renew-other, numbered-map}
@@ -213,7 +213,7 @@ record Hands (g d : Gateway) : Type 0 where
 
 module _ (g : Gateway) where
   -- the rooms are as they were
-  same-hands : (u : List Unfinished) → Hands g (record { common = g .common; rooms = g .rooms; unfinished = u })
+  same-hands : (u : List Unfinished) → Hands g (withFrames g u)
   unfolding recordAt
   same-hands u = record { circuits = refl; lost = λ n j v p e. let z : _≡_ {A = ℕ} 0 1 = cc in omega arith }
 

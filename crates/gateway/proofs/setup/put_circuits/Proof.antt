@@ -1,6 +1,6 @@
 -- The invariant: the circuits before i are put.
 use Rattle.basics.specs.Mask.{circuits}
-use Rattle.gateway.specs.Words.{gatewayWords}
+use Rattle.gateway.specs.Words.{ownWords}
 use Rattle.gateway.proofs.SetupLaws.{PutUpTo, put-none, put-next, put-all}
 use lib.ListN.{length}
 use Prim.Native.Nat.{_-_, _≤_}
@@ -11,7 +11,7 @@ use Rattle.gateway.proofs.setup.put_circuits.Statement.{statement}
 use Rattle.gateway.proofs.setup.put_circuits.Tie as tie
 
 abbrev Inv-loop : tie.InvT-loop
-Inv-loop gateway₀ all i₀ gateway i = (i ≤ circuits) × (length gateway ≡ gatewayWords) × PutUpTo all gateway i
+Inv-loop gateway₀ all i₀ gateway i = (i ≤ circuits) × (length gateway ≡ ownWords) × PutUpTo all gateway i
 
 abbrev μ-loop : tie.MeasureT-loop
 μ-loop gateway₀ all i₀ gateway i = circuits - i

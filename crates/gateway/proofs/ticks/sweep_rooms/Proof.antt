@@ -2,7 +2,7 @@
 use Rattle.model.specs.Answers.{lostBits}
 use Rattle.gateway.proofs.CallLaws.{gather-step, gather-end, length-bits}
 use Rattle.gateway.proofs.WordLaws.{length-rooms}
-use Rattle.gateway.specs.Words.{gatewayWords, gatewayOf}
+use Rattle.gateway.specs.Words.{ownWords, gatewayOf}
 use Rattle.model.specs.Step.{sweptRoom, lapsed}
 use Rattle.model.specs.Gateway.{withRooms, noRoom}
 use Rattle.basics.specs.Mask.{circuits}
@@ -16,7 +16,7 @@ use Rattle.gateway.proofs.ticks.sweep_rooms.Tie as tie
 
 abbrev Inv-loop : tie.InvT-loop
 Inv-loop gateway₀ clock lost₀ i₀ gateway lost i =
-    (i ≤ circuits) × (length gateway ≡ gatewayWords)
+    (i ≤ circuits) × (length gateway ≡ ownWords)
     × (take i (lostBits lost) ++ map (lapsed clock) (drop i (gatewayOf gateway .rooms)) ≡ map (lapsed clock) (gatewayOf gateway₀ .rooms))
     × (withRooms (gatewayOf gateway) (take i (gatewayOf gateway .rooms) ++ map (sweptRoom clock) (drop i (gatewayOf gateway .rooms))) ≡ withRooms (gatewayOf gateway₀) (map (sweptRoom clock) (gatewayOf gateway₀ .rooms)))
 
