@@ -5,7 +5,7 @@
 ghost use mathlib.Core.Path.{_≡_};
 ghost use Prim.Native.Nat.{_+_, _<_};
 ghost use lib.ListN.{length};
-ghost use Rattle.basics.specs.Octets.{big, little, hasBits, Octet};
+ghost use Rattle.basics.specs.Octets.{big, little, octetsOf, hasBits, Octet};
 
 // An octet as a length or an index.
 pub fn wide(x: u8) -> usize
@@ -71,4 +71,23 @@ pub fn six(s: &[u8], at: usize) -> u64
     ensures { λ r. ⌜ r ≡ big 6 (now (s .entry)) at ⌝ }
 {
     (four(s, at) as u64) * 65536 + two(s, at + 4) as u64
+}
+
+// The six octets of such a number; what does not fit is lost.
+pub fn six_octets(x: u64) -> [u8; 6]
+    ensures { λ r. ⌜ r ≡ octetsOf 6 x ⌝ }
+{
+    let b = x / 256;
+    let c = b / 256;
+    let d = c / 256;
+    let e = d / 256;
+    let f = e / 256;
+    [
+        (f % 256) as u8,
+        (e % 256) as u8,
+        (d % 256) as u8,
+        (c % 256) as u8,
+        (b % 256) as u8,
+        (x % 256) as u8,
+    ]
 }

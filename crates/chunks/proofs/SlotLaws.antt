@@ -11,7 +11,7 @@ use borrow.Author.Tests.{eq-eqb, ne-eqb, lt-ltb, le-ltb}
 use Rattle.basics.specs.Octets.{octet, big}
 use Rattle.basics.proofs.OctetsLaws.{big-lt}
 use Rattle.basics.specs.declared.refusal.Refusal.the-variants.{NotBegun, TooLong}
-use Rattle.chunks.specs.declared.slot.Added.the-variants.{Refused, Done}
+use Rattle.chunks.specs.declared.slot.Handed.the-variants.{Refused, Done}
 use Rattle.chunks.specs.declared.slot.Pending.{Pending}
 use Rattle.chunks.specs.declared.slot.Pending.the-variants.{Idle, Begun}
 use Rattle.chunks.specs.Chunks.{mostOctets, join, after}

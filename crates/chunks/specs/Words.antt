@@ -6,8 +6,8 @@ use mathlib.Core.List.{List}
 use lib.ListN.{getD, take}
 use lib.Dec.{eqb}
 use Rattle.basics.specs.declared.refusal.Refusal.{Refusal}
-use Rattle.chunks.specs.declared.slot.Added.{Added}
-use Rattle.chunks.specs.declared.slot.Added.the-variants.{Refused as RefusedChunk, Done}
+use Rattle.chunks.specs.declared.slot.Handed.{Handed}
+use Rattle.chunks.specs.declared.slot.Handed.the-variants.{Refused as RefusedChunk, Done}
 use Rattle.chunks.specs.declared.slot.Pending.{Pending}
 use Rattle.chunks.specs.declared.slot.Pending.the-variants.{Idle, Begun}
 use Rattle.chunks.specs.Chunks.{Unfinished, None, Frame, mostOctets, Joined, Refused, As, join, after}
@@ -35,12 +35,12 @@ pub record Loads (us : List ℕ) (r : Pending) : Type 0 where
   pub range : InRange r
 
 -- which case of the definition an answer is
-abbrev pub answered : Joined → Added
+abbrev pub answered : Joined → Handed
 answered (Refused x) = RefusedChunk x
 answered (As u) = Done
 
 -- a refused chunk leaves every word and every octet as it was
-pub record Adds (chunk us fs : List ℕ) (r : Added) (us′ fs′ : List ℕ) : Type 0 where
+pub record Adds (chunk us fs : List ℕ) (r : Handed) (us′ fs′ : List ℕ) : Type 0 where
   pub answer : r ≡ answered (join (meant fs (pendingOf us)) chunk)
   pub next : meant fs′ (pendingOf us′) ≡ after (meant fs (pendingOf us)) (join (meant fs (pendingOf us)) chunk)
   pub kept : (x : Refusal) → r ≡ RefusedChunk x → (us′ ≡ us) × (fs′ ≡ fs)

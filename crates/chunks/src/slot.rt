@@ -21,8 +21,8 @@ pub enum Pending {
     Begun(u64, usize),
 }
 
-// What became of a chunk.
-pub enum Added {
+// Of a begin or a chunk.
+pub enum Handed {
     Refused(Refusal),
     Done,
 }
@@ -70,17 +70,17 @@ fn copy_in(frame: &mut [u8], at: usize, octets: &[u8])
 }
 
 // Refusals 13 and 14, or the chunk is joined.
-pub fn add(slot: &mut [u64], frame: &mut [u8], octets: &[u8]) -> Added
+pub fn add(slot: &mut [u64], frame: &mut [u8], octets: &[u8]) -> Handed
     requires { ⌜ (length (now slot) ≡ slotWords) × (length (now frame) ≡ mostOctets) ⌝ }
     ensures { λ r. ⌜ Adds (now (octets .entry)) (now (slot .entry)) (now (frame .entry)) r (now (slot .exit)) (now (frame .exit)) ⌝ }
 {
     let Pending::Begun(_, n) = load(slot) else {
-        return Added::Refused(Refusal::NotBegun);
+        return Handed::Refused(Refusal::NotBegun);
     };
     if MOST_OCTETS - n < octets.len() {
-        return Added::Refused(Refusal::TooLong);
+        return Handed::Refused(Refusal::TooLong);
     }
     copy_in(frame, n, octets);
     slot[0] = (n + octets.len() + 1) as u64;
-    Added::Done
+    Handed::Done
 }

@@ -2,3 +2,5 @@ pub mod WordLaws
 pub mod FrameLaws
 pub mod CallLaws
 pub mod SetupLaws
+pub mod WholeLaws
+pub mod PieceLaws

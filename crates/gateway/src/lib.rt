@@ -3,6 +3,7 @@
 // definition's step (crate model). Callers: isis_gr, programs.
 pub mod calls; // calls.rt: the ten calls
 pub mod config; // config.rt: the settings that setup takes
+pub mod whole; // whole.rt: the calls of document 01 on the memory whole; its sizes
 mod frame; // frame.rt: receive
 mod ticks; // ticks.rt: tick and release
 mod notices; // notices.rt: CSNP set complete, database complete

@@ -15,7 +15,8 @@ use Rattle.settings.specs.declared.setup.Settings.{Settings}
 use Rattle.chunks.specs.Chunks.{Unfinished, None, Frame, mostOctets, Joined, Refused as RefusedChunk, As, join}
 use Rattle.control.specs.Common.{circuitOf}
 use Rattle.model.specs.Gateway.{Gateway, numbered, unfinishedOn, withUnfinished, newGateway}
-use Rattle.model.specs.Step.{Local, Receive, Global, Piece, Begin, Chunk, End, Call, At, Over, Hand, lift, on, at, Judged, Refused as RefusedCall, Sweep, Tell, judge, carry, chunked, ended, hand, handOn, step}
+use Rattle.model.specs.Step.{Receive, Piece, Begin, Chunk, End, Call, At, Over, Hand, chunked, ended, hand, handOn, step}
+use Rattle.model.proofs.FrameLaws.{frames-kept}
 use Rattle.model.proofs.Lists.{length-renew}
 use Rattle.invariants.specs.Invariants.{Octets, Fits, FrameFits, FramesFit}
 use Rattle.invariants.proofs.NumberedLaws.{renew-all}
@@ -68,20 +69,8 @@ module _ (g : Gateway) (h : FramesFit g) where
   chunk-frames n (RefusedChunk x) f = h
   chunk-frames n (As u) f = frame-fits n u f
 
--- the other calls leave them
-on-frames : (g : Gateway) (n : ℕ) (l : Local) (x : Chosen) → on g n l x .next .unfinished ≡ g .unfinished
-unfolding on lift
-on-frames g n l Unknown = refl
-on-frames g n l (Known s) = refl
-
-carry-frames : (g : Gateway) (j : Judged) → carry g j .next .unfinished ≡ g .unfinished
-unfolding carry
-carry-frames g (RefusedCall x) = refl
-carry-frames g (Sweep clock d hellos o) = refl
-carry-frames g (Tell d a) = refl
-
 hand-length : (g : Gateway) (n : ℕ) (p : Piece) (x : Chosen) → length (handOn g n p x .next .unfinished) ≡ length (g .unfinished)
-unfolding handOn hand chunked ended at
+unfolding handOn hand chunked ended
 hand-length g n p Unknown = refl
 hand-length g n (Begin mac) (Known s) = length-renew (g .unfinished) n (Frame mac [])
 hand-length g n (Chunk octets) (Known s) = by (join (unfinishedOn g n) octets)
@@ -94,20 +83,20 @@ hand-length g n (End b) (Known s) = by (unfinishedOn g n)
     by : (u : Unfinished) → length (ended g n b u .next .unfinished) ≡ length (g .unfinished)
     by None = refl
     by (Frame mac octets) =
-        ap length (on-frames (withUnfinished g n None) n (Receive mac octets b) (circuitOf (g .common) n)) ∙ length-renew (g .unfinished) n None
+        ap length (frames-kept (withUnfinished g n None) (At n (Receive mac octets b)) refl) ∙ length-renew (g .unfinished) n None
 
 -- as many as there were
 pub step-length : (g : Gateway) (c : Call) → length (step g c .next .unfinished) ≡ length (g .unfinished)
-unfolding step at
-step-length g (At n l) = ap length (on-frames g n l (circuitOf (g .common) n))
-step-length g (Over w) = ap length (carry-frames g (judge (g .common) w))
+unfolding step
+step-length g (At n l) = ap length (frames-kept g (At n l) refl)
+step-length g (Over w) = ap length (frames-kept g (Over w) refl)
 step-length g (Hand n p) = hand-length g n p (circuitOf (g .common) n)
 
 left-frames : (g d : Gateway) → d .unfinished ≡ g .unfinished → FramesFit g → FramesFit d
 left-frames g d e h = record { one = rw e (h .one); fit = λ n. rw e (h .fit n) }
 
 hand-frames : (g : Gateway) (n : ℕ) (p : Piece) (x : Chosen) → FramesFit g → Fits (Hand n p) → FramesFit (handOn g n p x .next)
-unfolding handOn hand ended at
+unfolding handOn hand ended
 hand-frames g n p Unknown h f = h
 hand-frames g n (Begin mac) (Known s) h f = frame-fits g h n (Frame mac []) (omega arith, λ i. omega arith)
 hand-frames g n (Chunk octets) (Known s) h f =
@@ -117,11 +106,11 @@ hand-frames g n (End b) (Known s) h f = by (unfinishedOn g n)
     by : (u : Unfinished) → FramesFit (ended g n b u .next)
     by None = h
     by (Frame mac octets) =
-        left-frames (withUnfinished g n None) _ (on-frames (withUnfinished g n None) n (Receive mac octets b) (circuitOf (g .common) n))
+        left-frames (withUnfinished g n None) _ (frames-kept (withUnfinished g n None) (At n (Receive mac octets b)) refl)
         (frame-fits g h n None (omega arith))
 
 pub step-frames : (g : Gateway) (c : Call) → FramesFit g → Fits c → FramesFit (step g c .next)
-unfolding step at
-step-frames g (At n l) h f = left-frames g _ (on-frames g n l (circuitOf (g .common) n)) h
-step-frames g (Over w) h f = left-frames g _ (carry-frames g (judge (g .common) w)) h
+unfolding step
+step-frames g (At n l) h f = left-frames g _ (frames-kept g (At n l) refl) h
+step-frames g (Over w) h f = left-frames g _ (frames-kept g (Over w) refl) h
 step-frames g (Hand n p) h f = hand-frames g n p (circuitOf (g .common) n) h f

@@ -3,6 +3,7 @@ pub mod Lists
 pub mod RefusalLaws
 pub mod TimerEventLaws
 pub mod ButFor
+pub mod FrameLaws
 pub mod Near
 pub mod NearSteps
 pub mod Isolation

@@ -1,4 +1,4 @@
--- What calls answer, in numbers (document 01, "What the gateway holds" and "Refusals by number"; document 02, W-201 and W-202), and for each answer of
+-- What calls answer, in numbers (document 01, "What the gateway holds" and "Refusals by number"; document 02, W-201, W-202 and W-205), and for each answer of
 -- the code, case by case, which one it is.
 use Prim.Native.Nat.{ℕ}
 use mathlib.Core.Bool.{Bool, true, false}
@@ -16,6 +16,8 @@ use Rattle.adjacency.specs.declared.record.Phase.{Phase}
 use Rattle.adjacency.specs.declared.record.Phase.the-variants.{Gone}
 use Rattle.adjacency.specs.declared.record.State.{State}
 use Rattle.adjacency.specs.declared.record.State.the-variants.{Init, Up}
+use Rattle.chunks.specs.declared.slot.Handed.{Handed}
+use Rattle.chunks.specs.declared.slot.Handed.the-variants.{Refused as RefusedPiece, Done as DonePiece}
 use Rattle.timers.specs.Hellos.{Hellos, hellosOf}
 use Rattle.timers.specs.declared.outcome.Overload.the-variants.{Quiet}
 use Rattle.timers.specs.declared.outcome.TimerOutcome.{TimerOutcome}
@@ -213,6 +215,11 @@ tickedOf (DoneTick lost hellos o) = Ticked (lostBits lost) (hellosOf hellos) (ti
 abbrev pub releasedOf : Released → Answer
 releasedOf (RefusedRelease x) = Refused (refusalNo x)
 releasedOf DoneRelease = Told Done
+
+-- of a begin or a chunk
+abbrev pub handedOf : Handed → Answer
+handedOf (RefusedPiece x) = Refused (refusalNo x)
+handedOf DonePiece = Told Done
 
 abbrev pub noticedOf : NoticedCode → Answer
 noticedOf (RefusedNotice x) = Refused (refusalNo x)

@@ -1,0 +1,144 @@
+-- A circuit's unfinished frame in the lent memories: its two words and its octets put back change it alone. Then what setup, begin, chunk and end do.
+use Prim.Native.Nat.{ℕ, zero, suc, _+_, _-_, _*_, _^_, _<_, _≤_}
+use native.Mathlib.Omega.{arith}
+use mathlib.Core.Path.{_≡_, refl, ap, sym, _∙_}
+use mathlib.Core.Logic.{inl, inr, _⊎_, _≢_}
+use mathlib.Core.Bool.{Bool, true, false}
+use mathlib.Core.List.{List, []}
+use lib.ListN.{length, getD, set, take, drop}
+use lib.Dec.{ltb, eqb}
+use borrow.Author.Tests.{ltb-true, ltb-false, eqb-true, eqb-false}
+use borrow.Rule.Slice.PartMut.{putMid, put-same, mid-len}
+use Rattle.basics.specs.Mask.{circuits}
+use Rattle.basics.specs.Lists.{part, tabulate}
+use Rattle.basics.proofs.BoolLaws.{by-test}
+use Rattle.basics.proofs.ListLaws.{tabulate-set, tabulate-same, getD-tabulate, length-tabulate}
+use Rattle.basics.proofs.PartLaws.{length-back, part-same}
+use Rattle.chunks.specs.Chunks.{Unfinished, None, mostOctets}
+use Rattle.chunks.specs.Words.{slotWords, pendingOf, meant}
+use Rattle.chunks.specs.declared.slot.Pending.{Pending}
+use Rattle.chunks.specs.declared.slot.Pending.the-variants.{Idle, Begun}
+use Rattle.basics.specs.declared.refusal.Refusal.{Refusal}
+use Rattle.settings.specs.declared.setup.Settings.{Settings}
+use Rattle.timers.specs.declared.hellos.HelloOrders.{HelloOrders}
+use Rattle.model.specs.declared.answers.SetUp.{SetUp}
+use Rattle.model.specs.declared.answers.SetUp.the-variants.{Refused as RefusedAnswer, Done}
+use Rattle.model.specs.Numbers.{refusalNo}
+use Rattle.model.specs.Gateway.{Gateway, withFrames, noFrames, Setup, Refused as RefusedSetup, Started, setup}
+use Rattle.gateway.specs.Words.{ownWords, gatewayOf}
+use Rattle.gateway.specs.Setup.{Refused, reportOf, reportIn, startedIn, SetsUp}
+use Rattle.gateway.specs.Whole.{gatewayWords, frameOctets, slotPlace, octetsPlace, unfinishedAt, wholeOf, SetsUpWhole}
+use Rattle.gateway.proofs.WordLaws.{part-other}
+use Rattle.gateway.proofs.WholeLaws.{own-part, gateway-back}
+
+-- ---- the words of circuit i (from 0), as the code lends them
+
+module _ (ws t : List ℕ) (len : length ws ≡ gatewayWords) (i : ℕ) (lt : i < circuits) (long : length t ≡ slotPlace i + slotWords - slotPlace i) where
+  abbrev a : ℕ
+  a = slotPlace i
+
+  abbrev back : List ℕ
+  back = putMid a (a + slotWords - a) ws t
+
+  pub length-slot : length back ≡ gatewayWords
+  length-slot = length-back a (a + slotWords) ws t (omega arith) (omega arith) long ∙ len
+
+  pub slot-own : part 0 ownWords back ≡ part 0 ownWords ws
+  slot-own = part-other a (a + slotWords) ws t (omega arith) (omega arith) long 0 ownWords (omega arith) (inl (omega arith))
+
+  pub slot-gateway : gatewayOf back ≡ gatewayOf ws
+  slot-gateway = sym (own-part back) ∙ ap gatewayOf slot-own ∙ own-part ws
+
+  slot-same : part a slotWords back ≡ t
+  slot-same =
+      let w : a + slotWords - a ≡ slotWords = omega arith in
+      ap (λ (k : ℕ). take k (drop a back)) (sym w) ∙ part-same a (a + slotWords) ws t (omega arith) (omega arith) long
+
+  slot-side : (j : ℕ) → j ≢ i → (slotPlace j + slotWords ≤ a) ⊎ (a + slotWords ≤ slotPlace j)
+  slot-side j ne =
+      by-test (ltb j i) (λ q. inl (omega (arith, ltb-true j i q)))
+      (λ q. inr (let g : i ≤ j = ltb-false j i q in let n : j ≢ i = ne in omega arith))
+
+  pub slot-other : (j : ℕ) → j < circuits → j ≢ i → part (slotPlace j) slotWords back ≡ part (slotPlace j) slotWords ws
+  slot-other j lj ne = part-other a (a + slotWords) ws t (omega arith) (omega arith) long (slotPlace j) slotWords (omega arith) (slot-side j ne)
+
+  -- .. with the octets of its frame put back too
+  module _ (fs fs′ : List ℕ) (others : (j : ℕ) → j < circuits → j ≢ i → part (octetsPlace j) mostOctets fs′ ≡ part (octetsPlace j) mostOctets fs) where
+    pub slot-put : wholeOf back fs′
+        ≡ withFrames (gatewayOf ws) (set (wholeOf ws fs .unfinished) i (meant (part (octetsPlace i) mostOctets fs′) (pendingOf t)))
+    unfolding wholeOf unfinishedAt
+    slot-put =
+        let u = tabulate-set (unfinishedAt back fs′) (unfinishedAt ws fs) circuits i (meant (part (octetsPlace i) mostOctets fs′) (pendingOf t)) lt
+        (ap (λ (p : List ℕ). meant (part (octetsPlace i) mostOctets fs′) (pendingOf p)) slot-same)
+        (λ j lj ne. cc (slot-other j lj ne, others j lj ne)) in
+        cc (slot-gateway, u)
+
+-- ---- setup: no frame is begun
+
+-- so on the circuits before i; the gateway's own words are as they were
+pub record Dropped (ws ws′ : List ℕ) (i : ℕ) : Type 0 where
+  pub own : gatewayOf ws′ ≡ gatewayOf ws
+  pub none : (fs : List ℕ) (j : ℕ) → j < i → unfinishedAt ws′ fs j ≡ None
+
+pub dropped-none : (ws : List ℕ) → Dropped ws ws 0
+dropped-none ws = record { own = refl; none = λ fs j h. absurd (omega arith) }
+
+pub dropped-next : (ws₀ ws t : List ℕ) (len : length ws ≡ gatewayWords) (i : ℕ) (lt : i < circuits) (long : length t ≡ slotPlace i + slotWords - slotPlace i)
+    → pendingOf t ≡ Idle → Dropped ws₀ ws i → Dropped ws₀ (putMid (slotPlace i) (slotPlace i + slotWords - slotPlace i) ws t) (i + 1)
+unfolding unfinishedAt
+dropped-next ws₀ ws t len i lt long idle d =
+    record {
+      own = slot-gateway ws t len i lt long ∙ d .own;
+      none = λ fs j h.
+          by-test (eqb j i)
+          (λ q. let e = eqb-true j i q in
+          rw e (ap (λ (p : List ℕ). meant (part (octetsPlace i) mostOctets fs) (pendingOf p)) (slot-same ws t len i lt long) ∙ ap (meant (part (octetsPlace i) mostOctets fs)) idle))
+          (λ q. let ne : j ≢ i = eqb-false j i q in
+          ap (λ (p : List ℕ). meant (part (octetsPlace j) mostOctets fs) (pendingOf p)) (slot-other ws t len i lt long j (omega arith) ne) ∙ d .none fs j (omega arith));
+    }
+
+pub dropped-all : (ws ws′ : List ℕ) (i : ℕ) → circuits ≤ i → Dropped ws ws′ i → (fs : List ℕ) → wholeOf ws′ fs ≡ withFrames (wholeOf ws fs) noFrames
+unfolding wholeOf
+dropped-all ws ws′ i le d fs =
+    let u : tabulate (unfinishedAt ws′ fs) circuits ≡ noFrames = tabulate-same (unfinishedAt ws′ fs) (λ j. None) circuits (λ j lj. d .none fs j (omega arith)) in
+    cc (d .own, u)
+
+-- ---- setup on the memory whole
+
+module _ (ws t : List ℕ) (len : length ws ≡ gatewayWords) (lt : length t ≡ length (part 0 ownWords ws)) (o : Setup) where
+  -- refused: what stood before stands
+  stood : (x : ℕ) (fs : List ℕ) (p : Setup) → Refused x ≡ reportIn p → wholeOf ws fs ≡ startedIn (wholeOf ws fs) p
+  stood x fs (RefusedSetup n) e = refl
+  stood x fs (Started g hellos) e = absurd (let z : _≡_ {A = ℕ} 0 1 = cc in omega arith)
+
+  pub whole-refused : {r : SetUp} {x : Refusal} → SetsUp o (part 0 ownWords ws) t r → r ≡ RefusedAnswer x
+      → SetsUpWhole o ws (putMid 0 ownWords ws t) (RefusedAnswer x)
+  whole-refused {r} {x} m e fs =
+      let same : putMid 0 ownWords ws t ≡ ws = ap (putMid 0 ownWords ws) (m .kept (refusalNo x) (ap reportOf e)) ∙ put-same 0 ownWords ws in
+      let told = ap reportOf (sym e) ∙ m .answer in
+      record {
+        answer = told;
+        next = ap (λ (w : List ℕ). wholeOf w fs) same ∙ stood (refusalNo x) fs o told;
+        kept = λ y q. same;
+      }
+
+  -- done: no frame is begun in the new gateway
+  new : (hellos : HelloOrders) (g : Gateway) (p : Setup) → reportOf (Done hellos) ≡ reportIn p → gatewayOf t ≡ startedIn (gatewayOf (part 0 ownWords ws)) p
+      → gatewayOf t ≡ startedIn g p
+  new hellos g (RefusedSetup n) e q = absurd (let z : _≡_ {A = ℕ} 0 1 = cc in omega arith)
+  new hellos g (Started d h) e q = q
+
+  pub whole-started : {r : SetUp} {hellos : HelloOrders} (ws′ : List ℕ) → SetsUp o (part 0 ownWords ws) t r → r ≡ Done hellos
+      → ((fs : List ℕ) → wholeOf ws′ fs ≡ withFrames (wholeOf (putMid 0 ownWords ws t) fs) noFrames) → SetsUpWhole o ws ws′ (Done hellos)
+  unfolding wholeOf gatewayOf
+  whole-started {r} {hellos} ws′ m e d fs =
+      let told = ap reportOf (sym e) ∙ m .answer in
+      record {
+        answer = told;
+        next = d fs ∙ ap (λ (g : Gateway). withFrames g noFrames) (gateway-back ws t len lt) ∙ new hellos (wholeOf ws fs) o told (m .next);
+        kept = λ y q. absurd (let z : _≡_ {A = ℕ} 0 1 = cc in omega arith);
+      }
+
+-- with equal settings
+pub same-whole : {s s′ : Settings} {ws ws′ : List ℕ} {r : SetUp} → s ≡ s′ → SetsUpWhole (setup s) ws ws′ r → SetsUpWhole (setup s′) ws ws′ r
+same-whole e m = rw e at m
