@@ -4,3 +4,4 @@ pub mod CallLaws
 pub mod SetupLaws
 pub mod WholeLaws
 pub mod PieceLaws
+pub mod HandLaws

@@ -120,10 +120,15 @@ room-of ws (suc i) p q =
     let z : suc i - 1 ≡ i = omega arith in
     ap (λ (k : ℕ). tableOf (part (roomPlace k) (roomPlace k + roomWords - roomPlace k) ws)) z ∙ room-at ws i (omega arith)
 
-pub renew-at : (l : List Room) (n : ℕ) (r : Room) → 0 < n → renew l n r ≡ set l (n - 1) r
+pub renew-at : {A : Type 0} (l : List A) (n : ℕ) (r : A) → 0 < n → renew l n r ≡ set l (n - 1) r
 unfolding renew
 renew-at l zero r p = absurd (omega arith)
 renew-at l (suc i) r p = let z : suc i - 1 ≡ i = omega arith in ap (λ (k : ℕ). set l k r) (sym z)
+
+pub numbered-at : {A : Type 0} (l : List A) (n : ℕ) (d : A) → 0 < n → numbered l n d ≡ getD l (n - 1) d
+unfolding numbered
+numbered-at l zero d p = absurd (omega arith)
+numbered-at l (suc i) d p = let z : suc i - 1 ≡ i = omega arith in ap (λ (k : ℕ). getD l k d) (sym z)
 
 pub same-room : (l : List Room) (n : ℕ) → renew l n (numbered l n noRoom) ≡ l
 unfolding renew numbered

@@ -3,3 +3,4 @@ pub mod Frame
 pub mod Tick
 pub mod Setup
 pub mod Whole
+pub mod Pieces

@@ -4,6 +4,7 @@
 pub mod calls; // calls.rt: the ten calls
 pub mod config; // config.rt: the settings that setup takes
 pub mod whole; // whole.rt: the calls of document 01 on the memory whole; its sizes
+pub mod pieces; // pieces.rt: begin, chunk and end; the octets of unfinished frames
 mod frame; // frame.rt: receive
 mod ticks; // ticks.rt: tick and release
 mod notices; // notices.rt: CSNP set complete, database complete
