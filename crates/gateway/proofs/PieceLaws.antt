@@ -1,4 +1,4 @@
--- A circuit's unfinished frame in the lent memories: its two words and its octets put back change it alone. Then what setup, begin, chunk and end do.
+-- A circuit's unfinished frame in the lent memories: its two words and its octets put back change it alone. Then what setup does to the memory whole.
 use Prim.Native.Nat.{ℕ, zero, suc, _+_, _-_, _*_, _^_, _<_, _≤_}
 use native.Mathlib.Omega.{arith}
 use mathlib.Core.Path.{_≡_, refl, ap, sym, _∙_}
@@ -24,12 +24,19 @@ use Rattle.timers.specs.declared.hellos.HelloOrders.{HelloOrders}
 use Rattle.model.specs.declared.answers.SetUp.{SetUp}
 use Rattle.model.specs.declared.answers.SetUp.the-variants.{Refused as RefusedAnswer, Done}
 use Rattle.model.specs.Numbers.{refusalNo}
-use Rattle.model.specs.Gateway.{Gateway, withFrames, noFrames, Setup, Refused as RefusedSetup, Started, setup}
+use Rattle.settings.specs.declared.circuit.Circuit.{Circuit}
+use Rattle.timers.specs.Hellos.{Hellos}
+use Rattle.timers.specs.Events.{startHellos}
+use Rattle.control.specs.Common.{startOf, setupCommon}
+use Rattle.control.specs.Setup.{settingsOn}
+use Rattle.control.specs.Words.{controlWords, circuitAt, circuitsFrom}
+use Rattle.control.specs.declared.setup.Basis.{Basis}
+use Rattle.model.specs.Gateway.{Gateway, withFrames, withCommon, newRoom, noFrames, Setup, Refused as RefusedSetup, Started, setup}
 use Rattle.gateway.specs.Words.{ownWords, gatewayOf}
-use Rattle.gateway.specs.Setup.{Refused, reportOf, reportIn, startedIn, SetsUp}
-use Rattle.gateway.specs.Whole.{gatewayWords, frameOctets, slotPlace, octetsPlace, unfinishedAt, wholeOf, SetsUpWhole}
+use Rattle.gateway.specs.Setup.{Refused, reportOf, reportIn, startedIn, PutsCircuit, Begins, SetsUp}
+use Rattle.gateway.specs.Whole.{gatewayWords, frameOctets, slotPlace, octetsPlace, unfinishedAt, wholeOf, Starts, SetsUpWhole}
 use Rattle.gateway.proofs.WordLaws.{part-other}
-use Rattle.gateway.proofs.WholeLaws.{own-part, gateway-back}
+use Rattle.gateway.proofs.WholeLaws.{own-part, own-control, own-back, gateway-back}
 
 -- ---- the words of circuit i (from 0), as the code lends them
 
@@ -103,42 +110,97 @@ dropped-all ws ws′ i le d fs =
     let u : tabulate (unfinishedAt ws′ fs) circuits ≡ noFrames = tabulate-same (unfinishedAt ws′ fs) (λ j. None) circuits (λ j lj. d .none fs j (omega arith)) in
     cc (d .own, u)
 
--- ---- setup on the memory whole
+-- the own words are those of the memory before
+own-left : (ws ws′ : List ℕ) → ((fs : List ℕ) → wholeOf ws′ fs ≡ withFrames (wholeOf ws fs) noFrames) → gatewayOf ws′ ≡ gatewayOf ws
+unfolding wholeOf gatewayOf
+own-left ws ws′ d = ap (λ (g : Gateway). withFrames g noFrames) (d [])
 
-module _ (ws t : List ℕ) (len : length ws ≡ gatewayWords) (lt : length t ≡ length (part 0 ownWords ws)) (o : Setup) where
-  -- refused: what stood before stands
-  stood : (x : ℕ) (fs : List ℕ) (p : Setup) → Refused x ≡ reportIn p → wholeOf ws fs ≡ startedIn (wholeOf ws fs) p
-  stood x fs (RefusedSetup n) e = refl
-  stood x fs (Started g hellos) e = absurd (let z : _≡_ {A = ℕ} 0 1 = cc in omega arith)
+-- ---- setup, of the own words and of the memory whole
 
-  pub whole-refused : {r : SetUp} {x : Refusal} → SetsUp o (part 0 ownWords ws) t r → r ≡ RefusedAnswer x
-      → SetsUpWhole o ws (putMid 0 ownWords ws t) (RefusedAnswer x)
-  whole-refused {r} {x} m e fs =
-      let same : putMid 0 ownWords ws t ≡ ws = ap (putMid 0 ownWords ws) (m .kept (refusalNo x) (ap reportOf e)) ∙ put-same 0 ownWords ws in
-      let told = ap reportOf (sym e) ∙ m .answer in
-      record {
-        answer = told;
-        next = ap (λ (w : List ℕ). wholeOf w fs) same ∙ stood (refusalNo x) fs o told;
-        kept = λ y q. same;
-      }
+-- refused: what stood before stands
+stood : (ws fs : List ℕ) (x : ℕ) (o : Setup) → Refused x ≡ reportIn o → wholeOf ws fs ≡ startedIn (wholeOf ws fs) o
+stood ws fs x (RefusedSetup n) e = refl
+stood ws fs x (Started g hellos) e = absurd (let z : _≡_ {A = ℕ} 0 1 = cc in omega arith)
 
-  -- done: no frame is begun in the new gateway
-  new : (hellos : HelloOrders) (g : Gateway) (p : Setup) → reportOf (Done hellos) ≡ reportIn p → gatewayOf t ≡ startedIn (gatewayOf (part 0 ownWords ws)) p
-      → gatewayOf t ≡ startedIn g p
-  new hellos g (RefusedSetup n) e q = absurd (let z : _≡_ {A = ℕ} 0 1 = cc in omega arith)
-  new hellos g (Started d h) e q = q
+pub own-refused : {o : Setup} {ws ws′ : List ℕ} {x : Refusal} → SetsUp o ws ws′ (RefusedAnswer x) → SetsUpWhole o ws ws′ (RefusedAnswer x)
+own-refused {o} {ws} {ws′} {x} m fs =
+    record {
+      answer = m .answer;
+      next = ap (λ (w : List ℕ). wholeOf w fs) (m .kept (refusalNo x) refl) ∙ stood ws fs (refusalNo x) o (m .answer);
+      kept = m .kept;
+    }
 
-  pub whole-started : {r : SetUp} {hellos : HelloOrders} (ws′ : List ℕ) → SetsUp o (part 0 ownWords ws) t r → r ≡ Done hellos
-      → ((fs : List ℕ) → wholeOf ws′ fs ≡ withFrames (wholeOf (putMid 0 ownWords ws t) fs) noFrames) → SetsUpWhole o ws ws′ (Done hellos)
-  unfolding wholeOf gatewayOf
-  whole-started {r} {hellos} ws′ m e d fs =
-      let told = ap reportOf (sym e) ∙ m .answer in
-      record {
-        answer = told;
-        next = d fs ∙ ap (λ (g : Gateway). withFrames g noFrames) (gateway-back ws t len lt) ∙ new hellos (wholeOf ws fs) o told (m .next);
-        kept = λ y q. absurd (let z : _≡_ {A = ℕ} 0 1 = cc in omega arith);
-      }
+-- done: a new gateway, whatever stood before
+new : (g before before′ : Gateway) (hellos : HelloOrders) (o : Setup) → reportOf (Done hellos) ≡ reportIn o → g ≡ startedIn before o → g ≡ startedIn before′ o
+new g before before′ hellos (RefusedSetup n) e q = absurd (let z : _≡_ {A = ℕ} 0 1 = cc in omega arith)
+new g before before′ hellos (Started d h) e q = q
+
+pub own-started : {o : Setup} {ws ws′ : List ℕ} {hellos : HelloOrders} → SetsUp o ws ws′ (Done hellos) → ((fs : List ℕ) → wholeOf ws′ fs .unfinished ≡ noFrames)
+    → SetsUpWhole o ws ws′ (Done hellos)
+unfolding wholeOf gatewayOf
+own-started {o} {ws} {ws′} {hellos} m d fs =
+    record {
+      answer = m .answer;
+      next = ap (withFrames (gatewayOf ws′)) (d fs) ∙ new (gatewayOf ws′) (gatewayOf ws) (wholeOf ws fs) hellos o (m .answer) (m .next);
+      kept = m .kept;
+    }
 
 -- with equal settings
 pub same-whole : {s s′ : Settings} {ws ws′ : List ℕ} {r : SetUp} → s ≡ s′ → SetsUpWhole (setup s) ws ws′ r → SetsUpWhole (setup s′) ws ws′ r
 same-whole e m = rw e at m
+
+-- ---- the own words lent and put back
+
+module _ (ws t : List ℕ) (len : length ws ≡ gatewayWords) (lt : length t ≡ length (part 0 ownWords ws)) where
+  setup-back : {o : Setup} {r : SetUp} → SetsUp o (part 0 ownWords ws) t r → SetsUp o ws (putMid 0 ownWords ws t) r
+  setup-back {o} m =
+      record {
+        answer = m .answer;
+        next = gateway-back ws t len lt ∙ m .next ∙ ap (λ (g : Gateway). startedIn g o) (own-part ws);
+        kept = λ x e. ap (putMid 0 ownWords ws) (m .kept x e) ∙ put-same 0 ownWords ws;
+      }
+
+  pub whole-refused : {o : Setup} {r : SetUp} {x : Refusal} → SetsUp o (part 0 ownWords ws) t r → r ≡ RefusedAnswer x
+      → SetsUpWhole o ws (putMid 0 ownWords ws t) (RefusedAnswer x)
+  whole-refused m e = own-refused (rw e at (setup-back m))
+
+  pub whole-started : {o : Setup} {r : SetUp} {hellos : HelloOrders} (ws′ : List ℕ) → SetsUp o (part 0 ownWords ws) t r → r ≡ Done hellos
+      → ((fs : List ℕ) → wholeOf ws′ fs ≡ withFrames (wholeOf (putMid 0 ownWords ws t) fs) noFrames) → SetsUpWhole o ws ws′ (Done hellos)
+  whole-started {o} {r} {hellos} ws′ m e d =
+      let b : SetsUp o ws (putMid 0 ownWords ws t) (Done hellos) = rw e at (setup-back m) in
+      own-started
+      (record {
+        answer = b .answer;
+        next = own-left (putMid 0 ownWords ws t) ws′ d ∙ b .next;
+        kept = λ x q. absurd (let z : _≡_ {A = ℕ} 0 1 = cc in omega arith);
+      })
+      (λ fs. ap (λ (g : Gateway). g .unfinished) (d fs))
+
+  -- its parts
+  control-back : part 0 controlWords (putMid 0 ownWords ws t) ≡ part 0 controlWords t
+  control-back = sym (own-control (putMid 0 ownWords ws t)) ∙ ap (part 0 controlWords) (own-back ws t len lt)
+
+  pub puts-whole : {i : ℕ} {s : Circuit} → PutsCircuit i s (part 0 ownWords ws) t → PutsCircuit i s ws (putMid 0 ownWords ws t)
+  puts-whole {i} {s} m =
+      record {
+        own = λ h. ap (λ (x : List ℕ). circuitAt x i) control-back ∙ m .own h;
+        others = λ j ne. ap (λ (x : List ℕ). circuitAt x j) control-back ∙ m .others j ne ∙ ap (λ (x : List ℕ). circuitAt x j) (own-control ws);
+        rooms = ap (λ (g : Gateway). g .rooms) (gateway-back ws t len lt) ∙ m .rooms ∙ ap (λ (g : Gateway). set (g .rooms) i (newRoom s)) (own-part ws);
+        kept = λ h. ap (putMid 0 ownWords ws) (m .kept h) ∙ put-same 0 ownWords ws;
+      }
+
+  pub starts-whole : {b : Basis} {hellos : Hellos} (ws′ : List ℕ) → Begins b (part 0 ownWords ws) t hellos
+      → ((fs : List ℕ) → wholeOf ws′ fs ≡ withFrames (wholeOf (putMid 0 ownWords ws t) fs) noFrames) → Starts b ws ws′ hellos
+  starts-whole {b} ws′ m d =
+      record {
+        begins = record {
+          next =
+              own-left (putMid 0 ownWords ws t) ws′ d ∙ gateway-back ws t len lt ∙ m .next
+              ∙ (λ i. withCommon (own-part ws i) (setupCommon (settingsOn b (circuitsFrom (own-control ws i) 0 circuits))));
+          ordered = m .ordered ∙ ap (λ (x : List ℕ). startHellos (startOf (settingsOn b (circuitsFrom x 0 circuits)))) (own-control ws);
+        };
+        frames = λ fs. ap (λ (g : Gateway). g .unfinished) (d fs);
+      }
+
+pub starts-as : {b b′ : Basis} {ws ws′ : List ℕ} {h : Hellos} → b ≡ b′ → Starts b ws ws′ h → Starts b′ ws ws′ h
+starts-as e h = rw (← e) h

@@ -10,11 +10,13 @@ use Rattle.chunks.specs.Chunks.{Unfinished, mostOctets}
 use Rattle.chunks.specs.Words.{slotWords, pendingOf, meant}
 use Rattle.model.specs.declared.answers.SetUp.{SetUp}
 use Rattle.model.specs.Answers.{Answer, Refused}
-use Rattle.model.specs.Gateway.{Gateway, withFrames, Setup}
+use Rattle.control.specs.declared.setup.Basis.{Basis}
+use Rattle.timers.specs.Hellos.{Hellos}
+use Rattle.model.specs.Gateway.{Gateway, withFrames, noFrames, Setup}
 use Rattle.model.specs.Step.{Call, step}
 use Rattle.model.specs.Refusals.{drops}
 use Rattle.gateway.specs.Words.{ownWords, gatewayOf}
-use Rattle.gateway.specs.Setup.{Refused as RefusedReport, reportOf, reportIn, startedIn}
+use Rattle.gateway.specs.Setup.{Refused as RefusedReport, reportOf, reportIn, startedIn, Begins}
 
 abbrev pub gatewayWords : ℕ
 gatewayWords = ownWords + slotWords * circuits
@@ -51,6 +53,11 @@ pub record DoesWith (c : Call) (a : Answer) (ws fs ws′ fs′ b′ : List ℕ) 
 -- a call that takes no octets: the same, whatever they are
 abbrev pub Does : Call → Answer → List ℕ → List ℕ → List ℕ → Type 0
 Does c a ws ws′ b′ = (fs : List ℕ) → DoesWith c a ws fs ws′ fs b′
+
+-- Setup in parts, once the circuits are put: the rest begins, and no frame is begun.
+pub record Starts (b : Basis) (ws ws′ : List ℕ) (hellos : Hellos) : Type 0 where
+  pub begins : Begins b ws ws′ hellos
+  pub frames : (fs : List ℕ) → wholeOf ws′ fs .unfinished ≡ noFrames
 
 -- setup, o being its outcome: a new gateway, with no frame begun, or every word as it was
 pub record SetsUpWith (o : Setup) (ws fs ws′ : List ℕ) (r : SetUp) : Type 0 where

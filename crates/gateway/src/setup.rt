@@ -1,7 +1,9 @@
 // Setup (document 01, "What the gateway holds"): every setting is checked before a word is written.
-use crate::calls::GATEWAY_WORDS;
 use crate::config::CircuitSettings;
 use crate::config::GatewaySettings;
+use crate::whole::GATEWAY_WORDS;
+use crate::whole::OWN_WORDS;
+use crate::whole::drop_frames;
 use basics::mask::CIRCUITS;
 use basics::octets::six;
 use basics::refusal::Refusal;
@@ -26,6 +28,7 @@ ghost use Rattle.timers.specs.Hellos.{hellosOf};
 ghost use Rattle.model.specs.Gateway.{setup};
 ghost use Rattle.gateway.specs.Words.{ownWords};
 ghost use Rattle.gateway.specs.Setup.{circuitGiven, settingsGiven, PutsCircuit, HoldsCircuits, Begins, SetsUp, countedBasis};
+ghost use Rattle.gateway.specs.Whole.{gatewayWords, Starts};
 
 // A System ID or a MAC.
 fn number(octets: [u8; 6]) -> u64
@@ -139,6 +142,13 @@ pub(crate) fn set_up_in(gateway: &mut [u64], s: Settings) -> SetUp
     SetUp::Refused(Refusal::BadSetting)
 }
 
+fn put_at(gateway: &mut [u64], i: usize, s: Circuit)
+    requires { ⌜ (length (now gateway) ≡ gatewayWords) × (i < circuits) ⌝ }
+    ensures { λ _. ⌜ PutsCircuit i s (now (gateway .entry)) (now (gateway .exit)) ⌝ }
+{
+    put_in(&mut gateway[0..OWN_WORDS], i, s)
+}
+
 // Setup in parts, for a caller that does not hold eight circuits at a time: circuit i (from 0) is put; nothing where there is no such circuit.
 pub fn put_circuit(gateway: &mut [u64; GATEWAY_WORDS], i: usize, s: Circuit)
     ensures { λ _. ⌜ PutsCircuit i s (now (gateway .entry)) (now (gateway .exit)) ⌝ }
@@ -146,7 +156,7 @@ pub fn put_circuit(gateway: &mut [u64; GATEWAY_WORDS], i: usize, s: Circuit)
     if CIRCUITS <= i {
         return;
     }
-    put_in(gateway, i, s);
+    put_at(gateway, i, s);
 }
 
 // A count above 8 counts for none, as it does in the words.
@@ -167,9 +177,18 @@ fn counted(s: Basis) -> Basis
     s
 }
 
-// .. and then the rest; the answer is the hellos that are ordered.
-pub fn start(gateway: &mut [u64; GATEWAY_WORDS], s: Basis) -> HelloOrders
-    ensures { λ r. ⌜ Begins (countedBasis s) (now (gateway .entry)) (now (gateway .exit)) (hellosOf r) ⌝ }
+fn start_at(gateway: &mut [u64], s: Basis) -> HelloOrders
+    requires { ⌜ (length (now gateway) ≡ gatewayWords) × (s .count ≤ circuits) ⌝ }
+    ensures { λ r. ⌜ Starts s (now (gateway .entry)) (now (gateway .exit)) (hellosOf r) ⌝ }
 {
-    begin_in(gateway, counted(s))
+    let hellos = begin_in(&mut gateway[0..OWN_WORDS], s);
+    drop_frames(gateway);
+    hellos
+}
+
+// .. and then the rest, and no frame is begun; the answer is the hellos that are ordered.
+pub fn start(gateway: &mut [u64; GATEWAY_WORDS], s: Basis) -> HelloOrders
+    ensures { λ r. ⌜ Starts (countedBasis s) (now (gateway .entry)) (now (gateway .exit)) (hellosOf r) ⌝ }
+{
+    start_at(gateway, counted(s))
 }

@@ -29,13 +29,13 @@ same-length : tie.Need-same-length
 same-length c = search needs
 
 returns : tie.Need-returns
-returns c = let x = c .before .before .before .before .before .set-up-in in whole-refused _ _ (c .before .before .before .before .before .before .before .before .pre) (x .kept .0) _ (x .ensures) (c .before .r .given .1)
+returns c = let x = c .before .before .before .before .before .set-up-in in whole-refused _ _ (c .before .before .before .before .before .before .before .before .pre) (x .kept .0) (x .ensures) (c .before .r .given .1)
 
 same-length-2 : tie.Need-same-length-2
 same-length-2 c = search needs
 
 returns-2 : tie.Need-returns-2
-returns-2 c = let x = c .before .before .before .before .before .before .before .before .before .set-up-in in whole-started _ _ (c .before .before .before .before .before .before .before .before .before .before .before .before .pre) (x .kept .0) _ _ (x .ensures) (c .before .before .before .before .before .r2 .given .1) (c .before .before .drop-frames .ensures)
+returns-2 c = let x = c .before .before .before .before .before .before .before .before .before .set-up-in in whole-started _ _ (c .before .before .before .before .before .before .before .before .before .before .before .before .pre) (x .kept .0) _ (x .ensures) (c .before .before .before .before .before .r2 .given .1) (c .before .before .drop-frames .ensures)
 
 pub set-up-at-spec : {M : Type 1} → statement M
 set-up-at-spec =
