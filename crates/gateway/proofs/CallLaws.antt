@@ -299,9 +299,6 @@ pub length-bits : (m : ℕ) → length (lostBits m) ≡ circuits
 unfolding bitsOf
 length-bits m = refl
 
-pub same-call : {a : Answer} (g : Gateway) {c c′ : Call} {ws ws′ b′ : List ℕ} → c ≡ c′ → Meets a (step g c) ws ws′ b′ → Meets a (step g c′) ws ws′ b′
-same-call g e m = rw (← e) m
-
 -- ---- a list gathered beside another, and beside one that is changed in place
 
 module _ {A B : Type 0} (d : A) (p : A → B) (m : List B) (t : List A) (i : ℕ) where

@@ -257,15 +257,15 @@ pub six-back : (mac : ℕ) → mac < 2 ^ 48 → (o : List ℕ) → o ≡ octetsO
 six-back mac h o e = ap (λ (l : List ℕ). big 6 l 0) (e ∙ sym (append-nil (octetsOf 6 mac))) ∙ big-octetsOf 6 mac (omega arith) [] []
 
 pub ends-does : {n : ℕ} {ws ws1 ws′ : List ℕ} {mac m start end : ℕ} {a : Answer} {b′ : List ℕ} (fs b : List ℕ) → TakesFrame n ws ws1 mac start end → m ≡ mac
-    → Does (At n (Receive m (part start (end - start) fs) b)) a ws1 ws′ b′ → DoesWith (Hand n (End b)) a ws fs ws′ fs b′
+    → DoesWith (At n (Receive m (part start (end - start) fs) b)) a ws1 fs ws′ fs b′ → DoesWith (Hand n (End b)) a ws fs ws′ fs b′
 ends-does {n} {ws} {ws1} {ws′} {mac} {m} {start} {end} {a} {b′} fs b t e d =
-    let x : Does (At n (Receive mac (part start (end - start) fs) b)) a ws1 ws′ b′ = rw e at d in
+    let x : DoesWith (At n (Receive mac (part start (end - start) fs) b)) a ws1 fs ws′ fs b′ = rw e at d in
     let s = t .ends fs b in
     record {
-      answer = x fs .answer ∙ sym (ap (λ (o : Outcome). o .answer) s);
-      reply = x fs .reply ∙ sym (ap (λ (o : Outcome). o .reply) s);
-      next = x fs .next ∙ sym (ap (λ (o : Outcome). o .next) s);
+      answer = x .answer ∙ sym (ap (λ (o : Outcome). o .answer) s);
+      reply = x .reply ∙ sym (ap (λ (o : Outcome). o .reply) s);
+      next = x .next ∙ sym (ap (λ (o : Outcome). o .next) s);
       octets = λ y z. refl;
-      own = λ y z. x fs .own y z ∙ t .own;
+      own = λ y z. x .own y z ∙ t .own;
       kept = λ y z h. absurd (true≢false (sym (t .dropped fs b) ∙ h));
     }

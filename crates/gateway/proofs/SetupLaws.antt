@@ -126,6 +126,3 @@ module _ (ws : List ℕ) (s : Settings) where
         next = b .next ∙ (λ i. record { common = setupCommon (on i); rooms = held .rooms i; unfinished = noFrames });
         kept = λ x y. absurd (let z : _≡_ {A = ℕ} 0 1 = cc in omega arith);
       })
-
-pub same-settings : {s s′ : Settings} {ws ws′ : List ℕ} {r : SetUp} → s ≡ s′ → SetsUp (setup s) ws ws′ r → SetsUp (setup s′) ws ws′ r
-same-settings e m = rw (← e) m

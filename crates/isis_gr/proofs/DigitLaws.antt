@@ -12,7 +12,7 @@ use Rattle.basics.specs.Bits.{bitOf}
 use Rattle.basics.specs.Mask.{circuits, t1Places}
 use Rattle.basics.specs.declared.levels.Levels.{Levels}
 use Rattle.basics.specs.declared.refusal.Refusal.{Refusal}
-use Rattle.basics.specs.declared.refusal.Refusal.the-variants.{NoCircuit, ReplyRoom, NotHello, BadLength, TlvPastEnd, BadTlv, WrongSource, WrongNeighbor, NoRoom, ClockBack, NotRestarting, BadSetting}
+use Rattle.basics.specs.declared.refusal.Refusal.the-variants.{NoCircuit, ReplyRoom, NotHello, BadLength, TlvPastEnd, BadTlv, WrongSource, WrongNeighbor, NoRoom, ClockBack, NotRestarting, BadSetting, NotBegun, TooLong}
 use Rattle.restart_tlv.specs.declared.writer.Ack.the-variants.{Restart as RA, Planned as PA}
 use Rattle.adjacency.specs.declared.duty.Csnps.{Csnps}
 use Rattle.adjacency.specs.declared.duty.Csnps.the-variants.{Nothing, Ordered}
@@ -54,6 +54,8 @@ refusal-below NoRoom = omega arith
 refusal-below ClockBack = omega arith
 refusal-below NotRestarting = omega arith
 refusal-below BadSetting = omega arith
+refusal-below NotBegun = omega arith
+refusal-below TooLong = omega arith
 
 levels-le : (l : Levels) → levelsNo l ≤ 3
 levels-le l = omega (arith, bit-le (l .one), bit-le (l .two))

@@ -1,7 +1,7 @@
 -- The laws of the exported calls: what the gateway's call meets, told by a number; and how many T1s run at most.
-use Prim.Native.Nat.{ℕ, _≤_}
+use Prim.Native.Nat.{ℕ, _-_, _≤_}
 use native.Mathlib.Omega.{arith}
-use mathlib.Core.Path.{_≡_, refl, ap, _∙_}
+use mathlib.Core.Path.{_≡_, refl, ap, subst, _∙_}
 use mathlib.Core.Bool.{Bool}
 use mathlib.Core.List.{List, [], _∷_}
 use lib.ListN.{length, set}
@@ -15,24 +15,51 @@ use Rattle.control.specs.Words.{commonOf}
 use Rattle.adjacency.specs.declared.record.Adjacency.the-variants.{Present}
 use Rattle.adjacency.specs.declared.record.State.{State}
 use Rattle.adjacency.specs.declared.record.State.the-variants.{Init, Up}
-use Rattle.model.specs.Answers.{Answer, Told, Looked, Waits, stateAnswer, recordAnswer}
-use Rattle.model.specs.Step.{Outcome, step, judge, carry, Over}
+use Rattle.basics.specs.Lists.{part}
+use Rattle.basics.specs.declared.refusal.Refusal.{Refusal}
+use Rattle.model.specs.Numbers.{refusalNo}
+use Rattle.model.specs.Answers.{Answer, Refused, Told, Looked, Waits, stateAnswer, recordAnswer}
+use Rattle.model.specs.Step.{Call, At, Over, Hand, Receive, End, step, judge, carry}
 use Rattle.model.specs.Step.{Waiting as WaitingCall}
-use Rattle.gateway.specs.Words.{gatewayOf, Meets}
+use Rattle.gateway.specs.declared.pieces.Taken.{Taken}
+use Rattle.gateway.specs.declared.pieces.Taken.the-variants.{Refused as RefusedTaken}
+use Rattle.gateway.specs.Words.{gatewayOf}
+use Rattle.gateway.specs.Whole.{wholeOf, DoesWith, Does}
+use Rattle.gateway.specs.Pieces.{TakesFrame, Takes}
+use Rattle.gateway.proofs.HandLaws.{ends-refused, ends-does}
 use Rattle.isis_gr.specs.Words.{answerNo, changedNo, recordWords, foundWords}
 use Rattle.isis_gr.specs.declared.answers.ReceivedWords.{ReceivedWords}
-use Rattle.isis_gr.specs.Encodes.{Encodes, EncodesFrame, EncodesFound}
+use Rattle.isis_gr.specs.Encodes.{EncodesWith, EncodesFrameWith, Encodes, EncodesFrame, EncodesFound}
 
-pub encodes : {w : ℕ} {a : Answer} {o : Outcome} {ws ws′ b′ : List ℕ} → Meets a o ws ws′ b′ → w ≡ answerNo a → Encodes w o ws ws′ b′
-encodes m e = record { number = e ∙ ap answerNo (m .answer); reply = m .reply; next = m .next; kept = λ x q. m .kept x (m .answer ∙ q) }
+-- of an answer, the step's
+pub with-octets : {w : ℕ} {a : Answer} {c : Call} {ws fs ws′ fs′ b′ : List ℕ} → DoesWith c a ws fs ws′ fs′ b′ → w ≡ answerNo a → EncodesWith w c ws fs ws′ fs′ b′
+with-octets {c = c} {ws} {fs} {ws′} {fs′} {b′} m e =
+    record { number = e ∙ ap answerNo (m .answer); does = subst (λ (x : Answer). DoesWith c x ws fs ws′ fs′ b′) (m .answer) m }
 
-pub encodes-frame : {w : ReceivedWords} {a : Answer} {o : Outcome} {ws ws′ b′ : List ℕ} → Meets a o ws ws′ b′ → w .answer ≡ answerNo a → w .change ≡ changedNo a
-    → EncodesFrame w o ws ws′ b′
-encodes-frame m e f = record { encodes = encodes m e; change = f ∙ ap changedNo (m .answer) }
+pub encodes : {w : ℕ} {a : Answer} {c : Call} {ws ws′ b′ : List ℕ} → Does c a ws ws′ b′ → w ≡ answerNo a → Encodes w c ws ws′ b′
+encodes m e fs = with-octets (m fs) e
 
-pub encodes-found : {w : ℕ} {a : Answer} {o : Outcome} {ws d d′ : List ℕ} → Meets a o ws ws [] → w ≡ answerNo a → d′ ≡ foundWords a d
-    → EncodesFound w o ws d d′
-encodes-found {d = d} m e f = record { encodes = encodes m e; found = f ∙ ap (λ (x : Answer). foundWords x d) (m .answer) }
+frame-with : {w : ReceivedWords} {a : Answer} {c : Call} {ws fs ws′ fs′ b′ : List ℕ} → DoesWith c a ws fs ws′ fs′ b′ → w .answer ≡ answerNo a
+    → w .change ≡ changedNo a → EncodesFrameWith w c ws fs ws′ fs′ b′
+frame-with m e f = record { encodes = with-octets m e; change = f ∙ ap changedNo (m .answer) }
+
+pub encodes-frame : {w : ReceivedWords} {a : Answer} {c : Call} {ws ws′ b′ : List ℕ} → Does c a ws ws′ b′ → w .answer ≡ answerNo a → w .change ≡ changedNo a
+    → EncodesFrame w c ws ws′ b′
+encodes-frame m e f fs = frame-with (m fs) e f
+
+pub encodes-found : {w : ℕ} {a : Answer} {c : Call} {ws d d′ : List ℕ} → Does c a ws ws [] → w ≡ answerNo a → d′ ≡ foundWords a d
+    → EncodesFound w c ws d d′
+encodes-found {d = d} m e f fs = record { encodes = with-octets (m fs) e; found = f ∙ ap (λ (x : Answer). foundWords x d) (m fs .answer) }
+
+-- ---- an end, by the exported receive
+
+pub ends-refusing : {n : ℕ} {ws ws′ : List ℕ} {r : Taken} {x : Refusal} {w : ReceivedWords} (fs b : List ℕ) → Takes n ws ws′ r → r ≡ RefusedTaken x
+    → w .answer ≡ answerNo (Refused (refusalNo x)) → w .change ≡ changedNo (Refused (refusalNo x)) → EncodesFrameWith w (Hand n (End b)) ws fs ws′ fs b
+ends-refusing fs b t e number change = frame-with (ends-refused fs b t e) number change
+
+pub ends-receiving : {n : ℕ} {ws ws1 ws′ : List ℕ} {mac m start end : ℕ} {b′ : List ℕ} {w : ReceivedWords} (fs b : List ℕ) → TakesFrame n ws ws1 mac start end → m ≡ mac
+    → EncodesFrame w (At n (Receive m (part start (end - start) fs) b)) ws1 ws′ b′ → EncodesFrameWith w (Hand n (End b)) ws fs ws′ fs b′
+ends-receiving fs b t e d = frame-with (ends-does fs b t e (d fs .encodes .does)) (d fs .encodes .number) (d fs .change)
 
 -- a record that was found is written, whatever its state
 pub found-words : (s : State) (shown : Bool) (ws : List ℕ) → foundWords (Told (Looked (stateAnswer s shown))) ws ≡ recordWords (recordAnswer (Present s))
@@ -55,8 +82,8 @@ t1s-length : (ws : List ℕ) → length (gatewayOf ws .common .timers .t1s) ≡ 
 unfolding gatewayOf commonOf timersOf
 t1s-length ws = length-joined (t1Bits _) _ ∙ length-bits _
 
-pub waiting-le : {count lowest : ℕ} {some : Bool} {ws : List ℕ} → Meets (Told (Waits count some lowest)) (step (gatewayOf ws) (Over WaitingCall)) ws ws [] → count ≤ t1Places
-unfolding step judge carry
+pub waiting-le : {count lowest : ℕ} {some : Bool} {ws : List ℕ} → Does (Over WaitingCall) (Told (Waits count some lowest)) ws ws [] → count ≤ t1Places
+unfolding step judge carry wholeOf
 waiting-le {count} {ws = ws} m =
-    let e : count ≡ countRuns (gatewayOf ws .common .timers .t1s) = cc (m .answer) in
+    let e : count ≡ countRuns (gatewayOf ws .common .timers .t1s) = cc (m [] .answer) in
     omega (arith, countRuns-le (gatewayOf ws .common .timers .t1s), t1s-length ws)

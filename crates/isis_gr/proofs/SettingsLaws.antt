@@ -3,7 +3,7 @@ use Prim.Native.Nat.{ℕ, _+_, _<_, _≤_}
 use native.Mathlib.Omega.{arith}
 use mathlib.Core.Path.{_≡_, refl, ap, sym, _∙_}
 use mathlib.Core.Bool.{Bool, true, false, _&&_}
-use mathlib.Core.List.{List}
+use mathlib.Core.List.{List, []}
 use lib.ListN.{length, getD, take, drop, length-map, List·getD-map}
 use lib.Seq.{take-all}
 use borrow.Author.Tests.{eq-eqb, ne-eqb}
@@ -21,7 +21,8 @@ use Rattle.control.specs.declared.setup.Basis.{Basis}
 use Rattle.model.specs.Numbers.{refusalNo}
 use Rattle.model.specs.Gateway.{setup}
 use Rattle.model.specs.declared.answers.SetUp.{SetUp}
-use Rattle.gateway.specs.Setup.{Refused as RefusedReport, PutsCircuit, SetsUp, reportOf}
+use Rattle.gateway.specs.Setup.{Refused as RefusedReport, PutsCircuit, reportOf}
+use Rattle.gateway.specs.Whole.{SetsUpWhole}
 use Rattle.isis_gr.specs.Words.{reportNo, modeKnown}
 use Rattle.isis_gr.specs.Settings.{layout, circuitPlace, circuitPlaces, circuitFrom, circuitKnown, settingsFrom, settingsKnown, setupFrom, EncodesSetup}
 
@@ -90,16 +91,16 @@ module _ (s : List ℕ) (b : Basis) (e : b ≡ basisOf (settingsFrom s)) where
 
 module _ (s : List ℕ) {w : ℕ} {ws : List ℕ} where
   pub encodes-known : {g : Settings} {ws′ : List ℕ} {r : SetUp} (version : ℕ) → version ≡ layout → settingsKnown s ≡ true → g ≡ settingsFrom s
-      → SetsUp (setup g) ws ws′ r → w ≡ reportNo (reportOf r) → EncodesSetup w (setupFrom version s) ws ws′
+      → SetsUpWhole (setup g) ws ws′ r → w ≡ reportNo (reportOf r) → EncodesSetup w (setupFrom version s) ws ws′
   unfolding setupFrom
   encodes-known version v e f m q =
-      rw (eq-eqb version layout v, e, ← f) (record { number = q ∙ ap reportNo (m .answer); next = m .next; kept = λ x y. m .kept x (m .answer ∙ y) })
+      rw (eq-eqb version layout v, e, ← f) (record { number = q ∙ ap reportNo (m [] .answer); next = λ fs. m fs .next; kept = λ x y. m [] .kept x (m [] .answer ∙ y) })
 
   pub encodes-unknown : (version : ℕ) → version ≡ layout → settingsKnown s ≡ false → w ≡ reportNo (RefusedReport (refusalNo BadSetting))
       → EncodesSetup w (setupFrom version s) ws ws
   unfolding setupFrom
-  encodes-unknown version v e q = rw (eq-eqb version layout v, e) (record { number = q; next = refl; kept = λ x y. refl })
+  encodes-unknown version v e q = rw (eq-eqb version layout v, e) (record { number = q; next = λ fs. refl; kept = λ x y. refl })
 
   pub encodes-other : (version : ℕ) → (version ≡ layout → ⊥) → w ≡ reportNo (RefusedReport (refusalNo BadSetting)) → EncodesSetup w (setupFrom version s) ws ws
   unfolding setupFrom
-  encodes-other version v q = rw (ne-eqb version layout v) (record { number = q; next = refl; kept = λ x y. refl })
+  encodes-other version v q = rw (ne-eqb version layout v) (record { number = q; next = λ fs. refl; kept = λ x y. refl })

@@ -21,7 +21,7 @@ use Rattle.settings.specs.declared.circuit.Circuit.{Circuit}
 use Rattle.settings.specs.declared.setup.Settings.{Settings}
 use Rattle.model.specs.Numbers.{refusalNo}
 use Rattle.model.specs.Gateway.{Setup, Refused as RefusedSetup, setup}
-use Rattle.gateway.specs.Words.{gatewayOf}
+use Rattle.gateway.specs.Whole.{wholeOf}
 use Rattle.gateway.specs.Setup.{Refused as RefusedReport, reportIn, startedIn}
 use Rattle.isis_gr.specs.Words.{reportNo, modeOf, modeKnown, kindOf, kindKnown, levelsOf, levelsKnown}
 
@@ -70,7 +70,7 @@ settingsKnown s = modeKnown (octet s 15) && every (circuitKnown s) (take (octet 
 -- The version of the octets' and the words' layout, which rises whenever one of them does: a caller's object hands its own on, since the header
 -- packs the octets and takes the words apart in the caller.
 abbrev pub layout : ℕ
-layout = 8
+layout = 9
 
 -- document 01, "Refusals by number", 12: another version, and a number that is not known, is a setting out of range
 unfoldable pub setupFrom : ℕ → List ℕ → Setup
@@ -78,8 +78,8 @@ setupFrom version s =
     cond (eqb version layout) (cond (settingsKnown s) (setup (settingsFrom s)) (RefusedSetup (refusalNo BadSetting)))
     (RefusedSetup (refusalNo BadSetting))
 
--- The number w of a setup on the words ws with the outcome o: a refusal leaves every word as it was.
+-- The number w of a setup on the words ws with the outcome o, whatever octets there are: a refusal leaves every word as it was.
 pub record EncodesSetup (w : ℕ) (o : Setup) (ws ws′ : List ℕ) : Type 0 where
   pub number : w ≡ reportNo (reportIn o)
-  pub next : gatewayOf ws′ ≡ startedIn (gatewayOf ws) o
+  pub next : (fs : List ℕ) → wholeOf ws′ fs ≡ startedIn (wholeOf ws fs) o
   pub kept : (x : ℕ) → reportIn o ≡ RefusedReport x → ws′ ≡ ws

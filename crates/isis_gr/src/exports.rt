@@ -1,7 +1,9 @@
 // The calls of crate gateway, each with its answer as one word (specs/Words.antt). The lowest octet is the code: 0 where the call was
-// done, else the refusal's number, which then is the whole word. A refusal leaves every lent word and octet as it was.
+// done, else the refusal's number, which then is the whole word. A refusal leaves every lent word and octet as it was, but that an end which receive
+// refuses drops its frame.
 use crate::answers::ReceivedWords;
 use crate::answers::flags_word;
+use crate::answers::handed_word;
 use crate::answers::looked_word;
 use crate::answers::metric_word;
 use crate::answers::noticed_word;
@@ -15,9 +17,11 @@ use crate::config::LAYOUT;
 use crate::config::SETTINGS_OCTETS;
 use crate::config::are_settings_known;
 use crate::faults::fault_of;
+use crate::pieces::end_with;
 use crate::setup::set_up_from;
 use basics::refusal::Refusal;
-use gateway::calls::GATEWAY_WORDS;
+use gateway::calls::add_chunk;
+use gateway::calls::begin_frame;
 use gateway::calls::clear;
 use gateway::calls::csnp_complete;
 use gateway::calls::database_complete;
@@ -28,13 +32,16 @@ use gateway::calls::receive;
 use gateway::calls::release;
 use gateway::calls::tick;
 use gateway::calls::waiting_t1s;
+use gateway::pieces::FRAME_OCTETS;
+use gateway::whole::GATEWAY_WORDS;
 use model::answers::SetUp;
 ghost use mathlib.Core.Path.{_≡_};
 ghost use mathlib.Core.List.{[]};
 ghost use Rattle.basics.specs.Octets.{big};
-ghost use Rattle.model.specs.Step.{step, At, Over, Receive, Tick, Release, Clear, CsnpComplete, DatabaseComplete, LookUp, LinkMetric, NextHello, Waiting};
-ghost use Rattle.gateway.specs.Words.{gatewayWords, gatewayOf, keyGiven};
-ghost use Rattle.isis_gr.specs.Encodes.{Encodes, EncodesFrame, EncodesFound};
+ghost use Rattle.model.specs.Step.{Hand, Begin, Chunk, End, At, Over, Receive, Tick, Release, Clear, CsnpComplete, DatabaseComplete, LookUp, LinkMetric, NextHello, Waiting};
+ghost use Rattle.gateway.specs.Words.{keyGiven};
+ghost use Rattle.gateway.specs.Whole.{gatewayWords, frameOctets};
+ghost use Rattle.isis_gr.specs.Encodes.{EncodesWith, EncodesFrameWith, Encodes, EncodesFrame, EncodesFound};
 ghost use Rattle.isis_gr.specs.Settings.{setupFrom, EncodesSetup};
 ghost use Rattle.isis_gr.specs.Faults.{faultOf};
 
@@ -44,6 +51,14 @@ pub extern "C" fn isis_gr_raw_gateway_words() -> u32
     ensures { λ r. ⌜ r ≡ gatewayWords ⌝ }
 {
     GATEWAY_WORDS as u32
+}
+
+// How many octets of unfinished frames a caller lends that hands frames over in chunks.
+#[no_mangle]
+pub extern "C" fn isis_gr_raw_frame_octets() -> u32
+    ensures { λ r. ⌜ r ≡ frameOctets ⌝ }
+{
+    FRAME_OCTETS as u32
 }
 
 // The settings' octets stand as specs/Settings.antt says; another version of the layout, or a number that is not known there, is refused (12).
@@ -81,15 +96,53 @@ pub extern "C" fn isis_gr_raw_receive(
     frame: &[u8],
     reply: &mut [u8],
 ) -> ReceivedWords
-    ensures { λ r. ⌜ EncodesFrame r (step (gatewayOf (now (gateway .entry))) (At circuit (Receive (big 6 (now (source .entry)) 0) (now (frame .entry)) (now (reply .entry))))) (now (gateway .entry)) (now (gateway .exit)) (now (reply .exit)) ⌝ }
+    ensures { λ r. ⌜ EncodesFrame r (At circuit (Receive (big 6 (now (source .entry)) 0) (now (frame .entry)) (now (reply .entry)))) (now (gateway .entry)) (now (gateway .exit)) (now (reply .exit)) ⌝ }
 {
     received_words(receive(gateway, circuit, source, frame, reply))
+}
+
+// A frame in chunks is begun on a circuit, from a source MAC.
+#[no_mangle]
+pub extern "C" fn isis_gr_raw_begin_frame(
+    gateway: &mut [u64; GATEWAY_WORDS],
+    circuit: u8,
+    source: &[u8; 6],
+) -> u32
+    ensures { λ r. ⌜ Encodes r (Hand circuit (Begin (big 6 (now (source .entry)) 0))) (now (gateway .entry)) (now (gateway .exit)) [] ⌝ }
+{
+    handed_word(begin_frame(gateway, circuit, source))
+}
+
+// A chunk of it.
+#[no_mangle]
+pub extern "C" fn isis_gr_raw_add_chunk(
+    gateway: &mut [u64; GATEWAY_WORDS],
+    frames: &mut [u8; FRAME_OCTETS],
+    circuit: u8,
+    octets: &[u8],
+) -> u32
+    ensures { λ r. ⌜ EncodesWith r (Hand circuit (Chunk (now (octets .entry)))) (now (gateway .entry)) (now (frames .entry)) (now (gateway .exit)) (now (frames .exit)) [] ⌝ }
+{
+    handed_word(add_chunk(gateway, frames, circuit, octets))
+}
+
+// Its end.
+#[no_mangle]
+pub extern "C" fn isis_gr_raw_end_frame(
+    gateway: &mut [u64; GATEWAY_WORDS],
+    frames: &[u8; FRAME_OCTETS],
+    circuit: u8,
+    reply: &mut [u8],
+) -> ReceivedWords
+    ensures { λ r. ⌜ EncodesFrameWith r (Hand circuit (End (now (reply .entry)))) (now (gateway .entry)) (now (frames .entry)) (now (gateway .exit)) (now (frames .entry)) (now (reply .exit)) ⌝ }
+{
+    end_with(gateway, frames, circuit, reply)
 }
 
 // The clock.
 #[no_mangle]
 pub extern "C" fn isis_gr_raw_tick(gateway: &mut [u64; GATEWAY_WORDS], clock: u32) -> u64
-    ensures { λ r. ⌜ Encodes r (step (gatewayOf (now (gateway .entry))) (Over (Tick clock))) (now (gateway .entry)) (now (gateway .exit)) [] ⌝ }
+    ensures { λ r. ⌜ Encodes r (Over (Tick clock)) (now (gateway .entry)) (now (gateway .exit)) [] ⌝ }
 {
     ticked_word(tick(gateway, clock))
 }
@@ -97,7 +150,7 @@ pub extern "C" fn isis_gr_raw_tick(gateway: &mut [u64; GATEWAY_WORDS], clock: u3
 // A circuit's Planned records go.
 #[no_mangle]
 pub extern "C" fn isis_gr_raw_release(gateway: &mut [u64; GATEWAY_WORDS], circuit: u8) -> u32
-    ensures { λ r. ⌜ Encodes r (step (gatewayOf (now (gateway .entry))) (At circuit Release)) (now (gateway .entry)) (now (gateway .exit)) [] ⌝ }
+    ensures { λ r. ⌜ Encodes r (At circuit Release) (now (gateway .entry)) (now (gateway .exit)) [] ⌝ }
 {
     released_word(release(gateway, circuit))
 }
@@ -105,7 +158,7 @@ pub extern "C" fn isis_gr_raw_release(gateway: &mut [u64; GATEWAY_WORDS], circui
 // All records of a circuit go.
 #[no_mangle]
 pub extern "C" fn isis_gr_raw_clear(gateway: &mut [u64; GATEWAY_WORDS], circuit: u8) -> u32
-    ensures { λ r. ⌜ Encodes r (step (gatewayOf (now (gateway .entry))) (At circuit Clear)) (now (gateway .entry)) (now (gateway .exit)) [] ⌝ }
+    ensures { λ r. ⌜ Encodes r (At circuit Clear) (now (gateway .entry)) (now (gateway .exit)) [] ⌝ }
 {
     released_word(clear(gateway, circuit))
 }
@@ -117,7 +170,7 @@ pub extern "C" fn isis_gr_raw_csnp_complete(
     circuit: u8,
     level: u8,
 ) -> u64
-    ensures { λ r. ⌜ Encodes r (step (gatewayOf (now (gateway .entry))) (At circuit (CsnpComplete level))) (now (gateway .entry)) (now (gateway .exit)) [] ⌝ }
+    ensures { λ r. ⌜ Encodes r (At circuit (CsnpComplete level)) (now (gateway .entry)) (now (gateway .exit)) [] ⌝ }
 {
     noticed_word(csnp_complete(gateway, circuit, level))
 }
@@ -128,7 +181,7 @@ pub extern "C" fn isis_gr_raw_database_complete(
     gateway: &mut [u64; GATEWAY_WORDS],
     level: u8,
 ) -> u64
-    ensures { λ r. ⌜ Encodes r (step (gatewayOf (now (gateway .entry))) (Over (DatabaseComplete level))) (now (gateway .entry)) (now (gateway .exit)) [] ⌝ }
+    ensures { λ r. ⌜ Encodes r (Over (DatabaseComplete level)) (now (gateway .entry)) (now (gateway .exit)) [] ⌝ }
 {
     noticed_word(database_complete(gateway, level))
 }
@@ -143,7 +196,7 @@ pub extern "C" fn isis_gr_raw_look_up(
     mac: &[u8; 6],
     found: &mut [u64; 2],
 ) -> u32
-    ensures { λ r. ⌜ EncodesFound r (step (gatewayOf (now (gateway .entry))) (At circuit (LookUp (keyGiven level (now (system .entry)) (now (mac .entry)))))) (now (gateway .entry)) (now (found .entry)) (now (found .exit)) ⌝ }
+    ensures { λ r. ⌜ EncodesFound r (At circuit (LookUp (keyGiven level (now (system .entry)) (now (mac .entry))))) (now (gateway .entry)) (now (found .entry)) (now (found .exit)) ⌝ }
 {
     let a = look_up(gateway, circuit, level, system, mac);
     write_found(found, a);
@@ -153,7 +206,7 @@ pub extern "C" fn isis_gr_raw_look_up(
 // The metric of a circuit's link.
 #[no_mangle]
 pub extern "C" fn isis_gr_raw_link_metric(gateway: &[u64; GATEWAY_WORDS], circuit: u8) -> u64
-    ensures { λ r. ⌜ Encodes r (step (gatewayOf (now (gateway .entry))) (At circuit LinkMetric)) (now (gateway .entry)) (now (gateway .entry)) [] ⌝ }
+    ensures { λ r. ⌜ Encodes r (At circuit LinkMetric) (now (gateway .entry)) (now (gateway .entry)) [] ⌝ }
 {
     metric_word(link_metric(gateway, circuit))
 }
@@ -165,7 +218,7 @@ pub extern "C" fn isis_gr_raw_next_hello_flags(
     circuit: u8,
     level: u8,
 ) -> u32
-    ensures { λ r. ⌜ Encodes r (step (gatewayOf (now (gateway .entry))) (At circuit (NextHello level))) (now (gateway .entry)) (now (gateway .entry)) [] ⌝ }
+    ensures { λ r. ⌜ Encodes r (At circuit (NextHello level)) (now (gateway .entry)) (now (gateway .entry)) [] ⌝ }
 {
     flags_word(next_hello_flags(gateway, circuit, level))
 }
@@ -173,7 +226,7 @@ pub extern "C" fn isis_gr_raw_next_hello_flags(
 // How many T1s run, and the lowest circuit with one.
 #[no_mangle]
 pub extern "C" fn isis_gr_raw_waiting_t1s(gateway: &[u64; GATEWAY_WORDS]) -> u32
-    ensures { λ r. ⌜ Encodes r (step (gatewayOf (now (gateway .entry))) (Over Waiting)) (now (gateway .entry)) (now (gateway .entry)) [] ⌝ }
+    ensures { λ r. ⌜ Encodes r (Over Waiting) (now (gateway .entry)) (now (gateway .entry)) [] ⌝ }
 {
     waiting_word(waiting_t1s(gateway))
 }

@@ -2,6 +2,7 @@
 // a precondition; each promises the number of the definition's answer (specs/Words.antt), and the memory and the reply buffer of
 // crate gateway's call. Callers: C, by a header that packs and unpacks.
 pub mod exports; // exports.rt: the calls
+mod pieces; // pieces.rt: the end of a frame in chunks
 mod numbers; // numbers.rt: the parts of an answer as numbers
 mod answers; // answers.rt: each answer as one word
 mod config; // config.rt: the settings of setup from octets

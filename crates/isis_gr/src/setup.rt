@@ -5,9 +5,9 @@ use crate::config::basis_in;
 use crate::config::circuit_at;
 use basics::mask::CIRCUITS;
 use basics::refusal::Refusal;
-use gateway::calls::GATEWAY_WORDS;
 use gateway::setup::put_circuit;
 use gateway::setup::start;
+use gateway::whole::GATEWAY_WORDS;
 use model::answers::SetUp;
 use settings::circuit::is_between;
 use settings::circuit::is_circuit_ok;
@@ -19,7 +19,8 @@ ghost use Rattle.basics.specs.Mask.{circuits};
 ghost use Rattle.basics.specs.Lists.{every};
 ghost use Rattle.settings.specs.Settings.{circuitOk, settingsOk};
 ghost use Rattle.model.specs.Gateway.{setup};
-ghost use Rattle.gateway.specs.Setup.{HoldsCircuits, SetsUp};
+ghost use Rattle.gateway.specs.Setup.{HoldsCircuits};
+ghost use Rattle.gateway.specs.Whole.{SetsUpWhole};
 ghost use Rattle.isis_gr.specs.Settings.{settingsOctets, settingsFrom};
 
 fn are_circuits_ok(s: &[u8], count: usize) -> bool
@@ -66,7 +67,7 @@ fn put_circuits(gateway: &mut [u64; GATEWAY_WORDS], s: &[u8])
 // Refusal 12, or a new gateway, whatever the words were.
 pub(crate) fn set_up_from(gateway: &mut [u64; GATEWAY_WORDS], s: &[u8]) -> SetUp
     requires { ⌜ length (now s) ≡ settingsOctets ⌝ }
-    ensures { λ r. ⌜ SetsUp (setup (settingsFrom (now (s .entry)))) (now (gateway .entry)) (now (gateway .exit)) r ⌝ }
+    ensures { λ r. ⌜ SetsUpWhole (setup (settingsFrom (now (s .entry)))) (now (gateway .entry)) (now (gateway .exit)) r ⌝ }
 {
     if are_settings_ok(s) {
         put_circuits(gateway, s);

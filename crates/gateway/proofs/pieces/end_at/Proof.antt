@@ -46,7 +46,7 @@ same-length-3 c = search needs
 
 returns-2 : tie.Need-returns-2
 returns-2 c = let t = takes-as (c .before .before .before .before .before .before .before .before .before .before .before .before .before .before .before .take-at .ensures) (c .before .before .before .before .before .before .before .before .before .before .before .taken2 .given .1) in
-    ends-does _ _ t (six-back _ (t .mac-fits) _ (c .before .before .before .before .before .before .before .before .before .six-octets .ensures)) (c .before .before .before .before .receive-at .ensures)
+    ends-does _ _ t (six-back _ (t .mac-fits) _ (c .before .before .before .before .before .before .before .before .before .six-octets .ensures)) (c .before .before .before .before .receive-at .ensures _)
 
 pub end-at-spec : {M : Type 1} → statement M
 end-at-spec =
