@@ -9,7 +9,7 @@ use Rattle.basics.specs.declared.refusal.Refusal.{Refusal}
 use Rattle.model.specs.Answers.{Answer}
 use Rattle.model.specs.Gateway.{Gateway}
 use Rattle.model.specs.Numbers.{refusalNo}
-use Rattle.model.specs.Step.{Receive, Release, Clear, CsnpComplete, LookUp, LinkMetric, NextHello, Call, At, Over, Outcome}
+use Rattle.model.specs.Step.{Receive, Release, Clear, CsnpComplete, LookUp, LinkMetric, NextHello, Call, At, Over, Hand, Outcome}
 use Rattle.model.specs.declared.answers.Orders.{Orders}
 use Rattle.model.specs.declared.answers.Received.{Received}
 use Rattle.model.specs.declared.answers.Received.the-variants.{Refused as RefusedFrame, Done as DoneFrame}
@@ -31,6 +31,7 @@ not-receive (At m (LookUp k)) f other e = refl
 not-receive (At m LinkMetric) f other e = refl
 not-receive (At m (NextHello level)) f other e = refl
 not-receive (Over w) f other e = refl
+not-receive (Hand m p) f other e = refl
 
 module _ (made : Made) (w : Reason) (e : made ≡ Other w) (mac : ℕ) (frame b : List ℕ) (c : Call) (x : Answer) (t : Tells made mac frame b c x) where
   told : Tells (Other w) mac frame b c x

@@ -6,6 +6,7 @@ use mathlib.Core.List.{List}
 use Rattle.adjacency.specs.declared.record.Key.{Key}
 use Rattle.model.specs.Step.{Outcome, step}
 use Rattle.gateway.specs.Words.{gatewayOf}
+use Rattle.gateway.specs.Whole.{wholeOf}
 use Rattle.reasons.specs.Why.{callOf, reasonOf, whyOf}
 use Rattle.reasons.specs.declared.why.Call.{Call}
 use Rattle.reasons.specs.declared.why.Call.the-variants.{Receive, Tick, Release, Clear, CsnpComplete, DatabaseComplete, LookUp, LinkMetric, NextHello, Waiting}
@@ -25,9 +26,11 @@ replied (LinkMetric n) o b = b
 replied (NextHello n level) o b = b
 replied Waiting o b = b
 
--- The second memory and the reply buffer are as the call leaves them. A look up may have any key.
+-- The second memory and the reply buffer are as the call leaves them, and the unfinished frames (document 02, W-205), of which no question is asked, those
+-- of the words before, whatever their octets fs. A look up may have any key.
 pub record Makes (call : Call) (mac : ℕ) (frame b ws ws′ b′ : List ℕ) : Type 0 where
   pub next : (k : Key) → gatewayOf ws′ ≡ step (gatewayOf ws) (callOf call mac frame b k) .next
+  pub frames : (fs : List ℕ) → wholeOf ws′ fs .unfinished ≡ wholeOf ws fs .unfinished
   pub reply : (k : Key) → b′ ≡ replied call (step (gatewayOf ws) (callOf call mac frame b k)) b
 
 -- .. and the answer is the reason, for circuit n and the key k.

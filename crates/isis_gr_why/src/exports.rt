@@ -7,7 +7,7 @@ use crate::words::are_known;
 use crate::words::call_from;
 use crate::words::question_of;
 use crate::words::reason_words;
-use gateway::calls::GATEWAY_WORDS;
+use gateway::whole::GATEWAY_WORDS;
 ghost use Rattle.basics.specs.Octets.{big};
 ghost use Rattle.gateway.specs.Words.{keyGiven};
 ghost use Rattle.isis_gr_why.specs.Words.{callFrom, areKnown, EncodesWhy};

@@ -1,5 +1,5 @@
 // The call in question, made on a memory by the function of crate gateway that makes it. Those that only ask change nothing.
-use gateway::calls::GATEWAY_WORDS;
+use gateway::whole::GATEWAY_WORDS;
 use gateway::calls::clear;
 use gateway::calls::csnp_complete;
 use gateway::calls::database_complete;

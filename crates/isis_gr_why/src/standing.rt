@@ -14,7 +14,8 @@ ghost use Prim.Native.Nat.{_<_, _≤_};
 ghost use lib.ListN.{length};
 ghost use Rattle.basics.specs.Mask.{circuits};
 ghost use Rattle.settings.specs.declared.circuit.Chosen.the-variants.{Known};
-ghost use Rattle.gateway.specs.Words.{gatewayWords, gatewayOf};
+ghost use Rattle.gateway.specs.Words.{gatewayOf};
+ghost use Rattle.gateway.specs.Whole.{gatewayWords};
 ghost use Rattle.reasons.specs.Why.{standsOn, standing};
 
 fn standing_on(words: &[u64], n: u8, s: Circuit, key: Key) -> Adjacency

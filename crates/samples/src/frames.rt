@@ -2,7 +2,7 @@
 use basics::kind::CircuitKind;
 use basics::levels::Levels;
 use basics::mask::CIRCUITS;
-use gateway::calls::GATEWAY_WORDS;
+use gateway::whole::GATEWAY_WORDS;
 use gateway::calls::set_up;
 use gateway::config::CircuitSettings;
 use gateway::config::GatewaySettings;

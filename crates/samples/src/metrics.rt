@@ -7,7 +7,7 @@ use crate::show::cell;
 use crate::show::metric;
 use crate::show::text;
 use basics::kind::CircuitKind;
-use gateway::calls::GATEWAY_WORDS;
+use gateway::whole::GATEWAY_WORDS;
 use gateway::calls::link_metric;
 use gateway::calls::receive;
 use settings::mode::Mode;

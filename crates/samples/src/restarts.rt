@@ -9,7 +9,7 @@ use crate::show::number_cell;
 use crate::show::received;
 use crate::show::text;
 use basics::kind::CircuitKind;
-use gateway::calls::GATEWAY_WORDS;
+use gateway::whole::GATEWAY_WORDS;
 use gateway::calls::look_up;
 use gateway::calls::receive;
 use gateway::calls::tick;

@@ -7,7 +7,7 @@ use crate::show::cell;
 use crate::show::text;
 use crate::show::verdict;
 use basics::kind::CircuitKind;
-use gateway::calls::GATEWAY_WORDS;
+use gateway::whole::GATEWAY_WORDS;
 use gateway::calls::receive;
 use settings::mode::Mode;
 

@@ -7,7 +7,7 @@ use crate::show::cell;
 use crate::show::number;
 use crate::show::text;
 use basics::kind::CircuitKind;
-use gateway::calls::GATEWAY_WORDS;
+use gateway::whole::GATEWAY_WORDS;
 use gateway::calls::receive;
 use gateway::calls::tick;
 use model::answers::Ticked;

@@ -1,5 +1,5 @@
 -- Each call is made by its own function, or asks.
-use Rattle.isis_gr_why.proofs.MadeLaws.{made-frame, made-other, looked-same, measured-same, flagged-same, waiting-same}
+use Rattle.isis_gr_why.proofs.MadeLaws.{own-next, same-frames, made-frame, made-other, looked-same, measured-same, flagged-same, waiting-same}
 use Rattle.reasons.specs.Why.{goneBy}
 use Rattle.reasons.specs.declared.why.Reason.the-variants.{NotSo, Expired, Released, Cleared}
 use mathlib.Core.Path.{refl}
@@ -63,39 +63,39 @@ returns c = made-frame _ _ _ _ _ _ _ _ _ (c .before .before .before .before .bef
 
 returns-2 : tie.Need-returns-2
 unfolding goneBy
-returns-2 c = made-other _ _ _ _ _ Expired _ _ (c .before .before .before .call2 .given .1) (λ k. c .tick .ensures .next) (λ k. refl) (λ k. refl) (λ k. refl)
+returns-2 c = made-other _ _ _ _ _ Expired _ _ (c .before .before .before .call2 .given .1) (λ k. own-next refl (c .tick .ensures)) (same-frames refl (c .tick .ensures)) (λ k. refl) (λ k. refl) (λ k. refl)
 
 returns-3 : tie.Need-returns-3
 unfolding goneBy
-returns-3 c = made-other _ _ _ _ _ Released _ _ (c .before .before .before .call3 .given .1) (λ k. c .release .ensures .next) (λ k. refl) (λ k. refl) (λ k. refl)
+returns-3 c = made-other _ _ _ _ _ Released _ _ (c .before .before .before .call3 .given .1) (λ k. own-next refl (c .release .ensures)) (same-frames refl (c .release .ensures)) (λ k. refl) (λ k. refl) (λ k. refl)
 
 returns-4 : tie.Need-returns-4
 unfolding goneBy
-returns-4 c = made-other _ _ _ _ _ Cleared _ _ (c .before .before .before .call4 .given .1) (λ k. c .clear .ensures .next) (λ k. refl) (λ k. refl) (λ k. refl)
+returns-4 c = made-other _ _ _ _ _ Cleared _ _ (c .before .before .before .call4 .given .1) (λ k. own-next refl (c .clear .ensures)) (same-frames refl (c .clear .ensures)) (λ k. refl) (λ k. refl) (λ k. refl)
 
 returns-5 : tie.Need-returns-5
 unfolding goneBy
-returns-5 c = made-other _ _ _ _ _ NotSo _ _ (c .before .before .before .call5 .given .1) (λ k. c .csnp-complete .ensures .next) (λ k. refl) (λ k. refl) (λ k. refl)
+returns-5 c = made-other _ _ _ _ _ NotSo _ _ (c .before .before .before .call5 .given .1) (λ k. own-next refl (c .csnp-complete .ensures)) (same-frames refl (c .csnp-complete .ensures)) (λ k. refl) (λ k. refl) (λ k. refl)
 
 returns-6 : tie.Need-returns-6
 unfolding goneBy
-returns-6 c = made-other _ _ _ _ _ NotSo _ _ (c .before .before .before .call6 .given .1) (λ k. c .database-complete .ensures .next) (λ k. refl) (λ k. refl) (λ k. refl)
+returns-6 c = made-other _ _ _ _ _ NotSo _ _ (c .before .before .before .call6 .given .1) (λ k. own-next refl (c .database-complete .ensures)) (same-frames refl (c .database-complete .ensures)) (λ k. refl) (λ k. refl) (λ k. refl)
 
 returns-7 : tie.Need-returns-7
 unfolding goneBy
-returns-7 c = made-other _ _ _ _ _ NotSo _ _ (c .enum-told .given .1) (λ k. looked-same _ _ k) (λ k. refl) (λ k. refl) (λ k. refl)
+returns-7 c = made-other _ _ _ _ _ NotSo _ _ (c .enum-told .given .1) (λ k. looked-same _ _ k) (λ fs. refl) (λ k. refl) (λ k. refl) (λ k. refl)
 
 returns-8 : tie.Need-returns-8
 unfolding goneBy
-returns-8 c = made-other _ _ _ _ _ NotSo _ _ (c .enum-told2 .given .1) (λ k. measured-same _ _) (λ k. refl) (λ k. refl) (λ k. refl)
+returns-8 c = made-other _ _ _ _ _ NotSo _ _ (c .enum-told2 .given .1) (λ k. measured-same _ _) (λ fs. refl) (λ k. refl) (λ k. refl) (λ k. refl)
 
 returns-9 : tie.Need-returns-9
 unfolding goneBy
-returns-9 c = made-other _ _ _ _ _ NotSo _ _ (c .enum-told3 .given .1) (λ k. flagged-same _ _ _) (λ k. refl) (λ k. refl) (λ k. refl)
+returns-9 c = made-other _ _ _ _ _ NotSo _ _ (c .enum-told3 .given .1) (λ k. flagged-same _ _ _) (λ fs. refl) (λ k. refl) (λ k. refl) (λ k. refl)
 
 returns-10 : tie.Need-returns-10
 unfolding goneBy
-returns-10 c = made-other _ _ _ _ _ NotSo _ _ (c .enum-told4 .given .1) (λ k. waiting-same _) (λ k. refl) (λ k. refl) (λ k. refl)
+returns-10 c = made-other _ _ _ _ _ NotSo _ _ (c .enum-told4 .given .1) (λ k. waiting-same _) (λ fs. refl) (λ k. refl) (λ k. refl) (λ k. refl)
 
 pub make-spec : {M : Type 1} → statement M
 make-spec =
