@@ -3,11 +3,9 @@
 // System IDs are six octets. A refusal leaves the memory and the reply buffer as they were, but that an end which receive refuses drops its frame.
 use crate::config::GatewaySettings;
 use crate::pieces::FRAME_OCTETS;
-use crate::pieces::Taken;
 use crate::pieces::begin_at;
 use crate::pieces::chunk_at;
 use crate::pieces::end_at;
-use crate::pieces::take_at;
 use crate::setup::settings_given;
 use crate::whole::GATEWAY_WORDS;
 use crate::whole::clear_at;
@@ -44,7 +42,6 @@ ghost use Rattle.model.specs.Step.{Waiting as Waits};
 ghost use Rattle.gateway.specs.Words.{keyGiven};
 ghost use Rattle.gateway.specs.Setup.{settingsGiven};
 ghost use Rattle.gateway.specs.Whole.{DoesWith, Does, SetsUpWhole};
-ghost use Rattle.gateway.specs.Pieces.{Takes};
 
 // A new gateway, whatever the memory was; the answer says which hellos are ordered.
 pub fn set_up(gateway: &mut [u64; GATEWAY_WORDS], settings: GatewaySettings) -> SetUp
@@ -95,13 +92,6 @@ pub fn end_frame(
     ensures { λ r. ⌜ DoesWith (Hand circuit (End (now (reply .entry)))) (receivedOf r) (now (gateway .entry)) (now (frames .entry)) (now (gateway .exit)) (now (frames .entry)) (now (reply .exit)) ⌝ }
 {
     end_at(gateway, frames, circuit, reply)
-}
-
-// The first half of an end, for a caller that makes the receive itself: where the frame lies, and it is dropped; or refusal 1 or 13.
-pub fn take_frame(gateway: &mut [u64; GATEWAY_WORDS], circuit: u8) -> Taken
-    ensures { λ r. ⌜ Takes circuit (now (gateway .entry)) (now (gateway .exit)) r ⌝ }
-{
-    take_at(gateway, circuit)
 }
 
 // The clock: records whose expiry is reached go, and the timers move.

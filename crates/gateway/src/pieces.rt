@@ -64,8 +64,8 @@ pub(crate) fn chunk_at(gateway: &mut [u64], frames: &mut [u8], n: u8, octets: &[
     )
 }
 
-// The frame is dropped before receive: an end that receive refuses drops it too.
-pub(crate) fn take_at(gateway: &mut [u64], n: u8) -> Taken
+// It is dropped before receive: an end that receive refuses drops it too.
+fn take_at(gateway: &mut [u64], n: u8) -> Taken
     requires { ⌜ length (now gateway) ≡ gatewayWords ⌝ }
     ensures { λ r. ⌜ Takes n (now (gateway .entry)) (now (gateway .exit)) r ⌝ }
 {

@@ -70,7 +70,7 @@ module _ (g : Gateway) (h : FramesFit g) where
   chunk-frames n (As u) f = frame-fits n u f
 
 hand-length : (g : Gateway) (n : ℕ) (p : Piece) (x : Chosen) → length (handOn g n p x .next .unfinished) ≡ length (g .unfinished)
-unfolding handOn hand chunked ended
+unfolding handOn hand chunked ended step
 hand-length g n p Unknown = refl
 hand-length g n (Begin mac) (Known s) = length-renew (g .unfinished) n (Frame mac [])
 hand-length g n (Chunk octets) (Known s) = by (join (unfinishedOn g n) octets)
@@ -96,7 +96,7 @@ left-frames : (g d : Gateway) → d .unfinished ≡ g .unfinished → FramesFit 
 left-frames g d e h = record { one = rw e (h .one); fit = λ n. rw e (h .fit n) }
 
 hand-frames : (g : Gateway) (n : ℕ) (p : Piece) (x : Chosen) → FramesFit g → Fits (Hand n p) → FramesFit (handOn g n p x .next)
-unfolding handOn hand ended
+unfolding handOn hand ended step
 hand-frames g n p Unknown h f = h
 hand-frames g n (Begin mac) (Known s) h f = frame-fits g h n (Frame mac []) (omega arith, λ i. omega arith)
 hand-frames g n (Chunk octets) (Known s) h f =

@@ -1,5 +1,5 @@
 -- The laws of the exported calls: what the gateway's call meets, told by a number; and how many T1s run at most.
-use Prim.Native.Nat.{ℕ, _-_, _≤_}
+use Prim.Native.Nat.{ℕ, _≤_}
 use native.Mathlib.Omega.{arith}
 use mathlib.Core.Path.{_≡_, refl, ap, subst, _∙_}
 use mathlib.Core.Bool.{Bool}
@@ -15,18 +15,11 @@ use Rattle.control.specs.Words.{commonOf}
 use Rattle.adjacency.specs.declared.record.Adjacency.the-variants.{Present}
 use Rattle.adjacency.specs.declared.record.State.{State}
 use Rattle.adjacency.specs.declared.record.State.the-variants.{Init, Up}
-use Rattle.basics.specs.Lists.{part}
-use Rattle.basics.specs.declared.refusal.Refusal.{Refusal}
-use Rattle.model.specs.Numbers.{refusalNo}
-use Rattle.model.specs.Answers.{Answer, Refused, Told, Looked, Waits, stateAnswer, recordAnswer}
-use Rattle.model.specs.Step.{Call, At, Over, Hand, Receive, End, step, judge, carry}
+use Rattle.model.specs.Answers.{Answer, Told, Looked, Waits, stateAnswer, recordAnswer}
+use Rattle.model.specs.Step.{Call, Over, step, judge, carry}
 use Rattle.model.specs.Step.{Waiting as WaitingCall}
-use Rattle.gateway.specs.declared.pieces.Taken.{Taken}
-use Rattle.gateway.specs.declared.pieces.Taken.the-variants.{Refused as RefusedTaken}
 use Rattle.gateway.specs.Words.{gatewayOf}
 use Rattle.gateway.specs.Whole.{wholeOf, DoesWith, Does}
-use Rattle.gateway.specs.Pieces.{TakesFrame, Takes}
-use Rattle.gateway.proofs.HandLaws.{ends-refused, ends-does}
 use Rattle.isis_gr.specs.Words.{answerNo, changedNo, recordWords, foundWords}
 use Rattle.isis_gr.specs.declared.answers.ReceivedWords.{ReceivedWords}
 use Rattle.isis_gr.specs.Encodes.{EncodesWith, EncodesFrameWith, Encodes, EncodesFrame, EncodesFound}
@@ -39,7 +32,7 @@ with-octets {c = c} {ws} {fs} {ws′} {fs′} {b′} m e =
 pub encodes : {w : ℕ} {a : Answer} {c : Call} {ws ws′ b′ : List ℕ} → Does c a ws ws′ b′ → w ≡ answerNo a → Encodes w c ws ws′ b′
 encodes m e fs = with-octets (m fs) e
 
-frame-with : {w : ReceivedWords} {a : Answer} {c : Call} {ws fs ws′ fs′ b′ : List ℕ} → DoesWith c a ws fs ws′ fs′ b′ → w .answer ≡ answerNo a
+pub frame-with : {w : ReceivedWords} {a : Answer} {c : Call} {ws fs ws′ fs′ b′ : List ℕ} → DoesWith c a ws fs ws′ fs′ b′ → w .answer ≡ answerNo a
     → w .change ≡ changedNo a → EncodesFrameWith w c ws fs ws′ fs′ b′
 frame-with m e f = record { encodes = with-octets m e; change = f ∙ ap changedNo (m .answer) }
 
@@ -50,16 +43,6 @@ encodes-frame m e f fs = frame-with (m fs) e f
 pub encodes-found : {w : ℕ} {a : Answer} {c : Call} {ws d d′ : List ℕ} → Does c a ws ws [] → w ≡ answerNo a → d′ ≡ foundWords a d
     → EncodesFound w c ws d d′
 encodes-found {d = d} m e f fs = record { encodes = with-octets (m fs) e; found = f ∙ ap (λ (x : Answer). foundWords x d) (m fs .answer) }
-
--- ---- an end, by the exported receive
-
-pub ends-refusing : {n : ℕ} {ws ws′ : List ℕ} {r : Taken} {x : Refusal} {w : ReceivedWords} (fs b : List ℕ) → Takes n ws ws′ r → r ≡ RefusedTaken x
-    → w .answer ≡ answerNo (Refused (refusalNo x)) → w .change ≡ changedNo (Refused (refusalNo x)) → EncodesFrameWith w (Hand n (End b)) ws fs ws′ fs b
-ends-refusing fs b t e number change = frame-with (ends-refused fs b t e) number change
-
-pub ends-receiving : {n : ℕ} {ws ws1 ws′ : List ℕ} {mac m start end : ℕ} {b′ : List ℕ} {w : ReceivedWords} (fs b : List ℕ) → TakesFrame n ws ws1 mac start end → m ≡ mac
-    → EncodesFrame w (At n (Receive m (part start (end - start) fs) b)) ws1 ws′ b′ → EncodesFrameWith w (Hand n (End b)) ws fs ws′ fs b′
-ends-receiving fs b t e d = frame-with (ends-does fs b t e (d fs .encodes .does)) (d fs .encodes .number) (d fs .change)
 
 -- a record that was found is written, whatever its state
 pub found-words : (s : State) (shown : Bool) (ws : List ℕ) → foundWords (Told (Looked (stateAnswer s shown))) ws ≡ recordWords (recordAnswer (Present s))

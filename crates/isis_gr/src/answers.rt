@@ -19,7 +19,6 @@ use crate::numbers::state_number;
 use adjacency::record::Mark;
 use adjacency::record::State;
 use basics::bits::digit;
-use chunks::slot::Handed;
 use model::answers::Change;
 use model::answers::Looked;
 use model::answers::Metric;
@@ -35,7 +34,7 @@ use model::numbers::number_of;
 ghost use mathlib.Core.Path.{_≡_};
 ghost use Prim.Native.Nat.{_≤_};
 ghost use lib.ListN.{length};
-ghost use Rattle.model.specs.Answers.{changeAnswer, frameAnswer, recordAnswer, receivedOf, tickedOf, releasedOf, handedOf, noticedOf, lookedOf, metricOf, flagsOf, waitingOf};
+ghost use Rattle.model.specs.Answers.{changeAnswer, frameAnswer, recordAnswer, receivedOf, tickedOf, releasedOf, noticedOf, lookedOf, metricOf, flagsOf, waitingOf};
 ghost use Rattle.adjacency.specs.declared.record.Adjacency.the-variants.{Present};
 ghost use Rattle.basics.specs.Mask.{t1Places};
 ghost use Rattle.gateway.specs.Setup.{reportOf};
@@ -96,7 +95,7 @@ fn received_word(a: Received) -> u64
     }
 }
 
-pub(crate) fn received_words(a: Received) -> ReceivedWords
+pub fn received_words(a: Received) -> ReceivedWords
     ensures { λ r. ⌜ (r .answer ≡ answerNo (receivedOf a)) × (r .change ≡ changedNo (receivedOf a)) ⌝ }
 {
     let answer = received_word(a);
@@ -129,16 +128,6 @@ pub(crate) fn released_word(a: Released) -> u32
     match a {
         Released::Refused(x) => number_of(x) as u32,
         Released::Done => 0,
-    }
-}
-
-// Of a begin or a chunk.
-pub(crate) fn handed_word(a: Handed) -> u32
-    ensures { λ r. ⌜ r ≡ answerNo (handedOf a) ⌝ }
-{
-    match a {
-        Handed::Refused(x) => number_of(x) as u32,
-        Handed::Done => 0,
     }
 }
 

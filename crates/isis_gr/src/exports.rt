@@ -1,9 +1,7 @@
 // The calls of crate gateway, each with its answer as one word (specs/Words.antt). The lowest octet is the code: 0 where the call was
-// done, else the refusal's number, which then is the whole word. A refusal leaves every lent word and octet as it was, but that an end which receive
-// refuses drops its frame.
+// done, else the refusal's number, which then is the whole word. A refusal leaves every lent word and octet as it was.
 use crate::answers::ReceivedWords;
 use crate::answers::flags_word;
-use crate::answers::handed_word;
 use crate::answers::looked_word;
 use crate::answers::metric_word;
 use crate::answers::noticed_word;
@@ -17,11 +15,8 @@ use crate::config::LAYOUT;
 use crate::config::SETTINGS_OCTETS;
 use crate::config::are_settings_known;
 use crate::faults::fault_of;
-use crate::pieces::end_with;
 use crate::setup::set_up_from;
 use basics::refusal::Refusal;
-use gateway::calls::add_chunk;
-use gateway::calls::begin_frame;
 use gateway::calls::clear;
 use gateway::calls::csnp_complete;
 use gateway::calls::database_complete;
@@ -32,16 +27,15 @@ use gateway::calls::receive;
 use gateway::calls::release;
 use gateway::calls::tick;
 use gateway::calls::waiting_t1s;
-use gateway::pieces::FRAME_OCTETS;
 use gateway::whole::GATEWAY_WORDS;
 use model::answers::SetUp;
 ghost use mathlib.Core.Path.{_≡_};
 ghost use mathlib.Core.List.{[]};
 ghost use Rattle.basics.specs.Octets.{big};
-ghost use Rattle.model.specs.Step.{Hand, Begin, Chunk, End, At, Over, Receive, Tick, Release, Clear, CsnpComplete, DatabaseComplete, LookUp, LinkMetric, NextHello, Waiting};
+ghost use Rattle.model.specs.Step.{At, Over, Receive, Tick, Release, Clear, CsnpComplete, DatabaseComplete, LookUp, LinkMetric, NextHello, Waiting};
 ghost use Rattle.gateway.specs.Words.{keyGiven};
-ghost use Rattle.gateway.specs.Whole.{gatewayWords, frameOctets};
-ghost use Rattle.isis_gr.specs.Encodes.{EncodesWith, EncodesFrameWith, Encodes, EncodesFrame, EncodesFound};
+ghost use Rattle.gateway.specs.Whole.{gatewayWords};
+ghost use Rattle.isis_gr.specs.Encodes.{Encodes, EncodesFrame, EncodesFound};
 ghost use Rattle.isis_gr.specs.Settings.{setupFrom, EncodesSetup};
 ghost use Rattle.isis_gr.specs.Faults.{faultOf};
 
@@ -51,14 +45,6 @@ pub extern "C" fn isis_gr_raw_gateway_words() -> u32
     ensures { λ r. ⌜ r ≡ gatewayWords ⌝ }
 {
     GATEWAY_WORDS as u32
-}
-
-// How many octets of unfinished frames a caller lends that hands frames over in chunks.
-#[no_mangle]
-pub extern "C" fn isis_gr_raw_frame_octets() -> u32
-    ensures { λ r. ⌜ r ≡ frameOctets ⌝ }
-{
-    FRAME_OCTETS as u32
 }
 
 // The settings' octets stand as specs/Settings.antt says; another version of the layout, or a number that is not known there, is refused (12).
@@ -99,44 +85,6 @@ pub extern "C" fn isis_gr_raw_receive(
     ensures { λ r. ⌜ EncodesFrame r (At circuit (Receive (big 6 (now (source .entry)) 0) (now (frame .entry)) (now (reply .entry)))) (now (gateway .entry)) (now (gateway .exit)) (now (reply .exit)) ⌝ }
 {
     received_words(receive(gateway, circuit, source, frame, reply))
-}
-
-// A frame in chunks is begun on a circuit, from a source MAC.
-#[no_mangle]
-pub extern "C" fn isis_gr_raw_begin_frame(
-    gateway: &mut [u64; GATEWAY_WORDS],
-    circuit: u8,
-    source: &[u8; 6],
-) -> u32
-    ensures { λ r. ⌜ Encodes r (Hand circuit (Begin (big 6 (now (source .entry)) 0))) (now (gateway .entry)) (now (gateway .exit)) [] ⌝ }
-{
-    handed_word(begin_frame(gateway, circuit, source))
-}
-
-// A chunk of it.
-#[no_mangle]
-pub extern "C" fn isis_gr_raw_add_chunk(
-    gateway: &mut [u64; GATEWAY_WORDS],
-    frames: &mut [u8; FRAME_OCTETS],
-    circuit: u8,
-    octets: &[u8],
-) -> u32
-    ensures { λ r. ⌜ EncodesWith r (Hand circuit (Chunk (now (octets .entry)))) (now (gateway .entry)) (now (frames .entry)) (now (gateway .exit)) (now (frames .exit)) [] ⌝ }
-{
-    handed_word(add_chunk(gateway, frames, circuit, octets))
-}
-
-// Its end.
-#[no_mangle]
-pub extern "C" fn isis_gr_raw_end_frame(
-    gateway: &mut [u64; GATEWAY_WORDS],
-    frames: &[u8; FRAME_OCTETS],
-    circuit: u8,
-    reply: &mut [u8],
-) -> ReceivedWords
-    ensures { λ r. ⌜ EncodesFrameWith r (Hand circuit (End (now (reply .entry)))) (now (gateway .entry)) (now (frames .entry)) (now (gateway .exit)) (now (frames .entry)) (now (reply .exit)) ⌝ }
-{
-    end_with(gateway, frames, circuit, reply)
 }
 
 // The clock.

@@ -1,9 +1,10 @@
 -- The claims about the code's runs: a run is the model's trace, by each call's promise; the rest is model's and invariants' theorems.
-use Prim.Native.Nat.{ℕ}
+use Prim.Native.Nat.{ℕ, _≤_, _<_}
 use native.Mathlib.Omega.{arith}
 use mathlib.Core.Path.{_≡_, refl, ap, sym, _∙_, subst₂}
-use mathlib.Core.Bool.{Bool}
-use mathlib.Core.List.{List, [], _∷_}
+use mathlib.Core.List.{List, [], _∷_, _++_}
+use lib.ListN.{length}
+use Rattle.basics.proofs.ListLaws.{length-tabulate}
 use Rattle.settings.specs.declared.setup.Settings.{Settings}
 use Rattle.timers.specs.Hellos.{Hellos}
 use Rattle.model.specs.Answers.{Answer}
@@ -13,17 +14,17 @@ use Rattle.model.specs.Trace.{Turn, trace, leftBy, after}
 use Rattle.model.specs.Claim.{observedFrom, Agreeing}
 use Rattle.model.proofs.RefusalLaws.{refusals-keep}
 use Rattle.model.proofs.Isolation.{isolation}
-use Rattle.gateway.specs.Words.{gatewayOf, Meets}
-use Rattle.gateway.specs.Setup.{Begun, reportOf, reportIn, startedIn, SetsUp}
+use Rattle.gateway.specs.Setup.{Begun, reportOf, reportIn, startedIn}
+use Rattle.gateway.specs.Whole.{wholeOf, SetsUpWith}
 use Rattle.invariants.specs.Invariants.{Invariant}
 use Rattle.invariants.proofs.InvariantsHold.{invariants}
-use Rattle.runs.specs.Runs.{Made, Ran, done, also, Begins, begins, turnsOf, EveryCall, none, more}
+use Rattle.runs.specs.Runs.{Lent, meaning, Made, Keeps, Ran, done, also, Begins, begins, turnsOf, EveryCall, none, more}
 use Rattle.runs.specs.Claims.{Follows, CodeFollows, Kept, CodeKeeps, CodeIsolation, CodeInvariants}
 
 -- ---- a run is the model's trace
 
-extend : {ws ws1 ws2 b : List ℕ} {c : Call} {cs : List Call} {a : Answer} {ms : List Made} → Meets a (step (gatewayOf ws) c) ws ws1 b
-    → Follows ws1 cs ms ws2 → Follows ws (c ∷ cs) (record { words = ws; call = c; answer = a; reply = b; left = ws1 } ∷ ms) ws2
+extend : {m m1 m2 : Lent} {b : List ℕ} {c : Call} {cs : List Call} {a : Answer} {ms : List Made} → Keeps m c a b m1
+    → Follows m1 cs ms m2 → Follows m (c ∷ cs) (record { before = m; call = c; answer = a; reply = b; left = m1 } ∷ ms) m2
 unfolding trace leftBy
 extend {cs = cs} m f =
     record {
@@ -33,53 +34,58 @@ extend {cs = cs} m f =
 
 pub code-follows : CodeFollows
 unfolding trace leftBy
-code-follows ws ws′ cs ms done = record { turns = refl; next = refl }
-code-follows ws ws′ cs ms (also {ws1 = ws1} {cs = cs1} {ms = ms1} m r) = extend m (code-follows ws1 ws′ cs1 ms1 r)
+code-follows m left cs ms done = record { turns = refl; next = refl }
+code-follows m left cs ms (also {m1 = m1} {cs = cs1} {ms = ms1} k r) = extend k (code-follows m1 left cs1 ms1 r)
 
 -- ---- demand 1
 
-kept-of : {ws ws1 b : List ℕ} {c : Call} {a : Answer} → Meets a (step (gatewayOf ws) c) ws ws1 b
-    → Kept (record { words = ws; call = c; answer = a; reply = b; left = ws1 })
-kept-of {ws} {c = c} m =
-    record { kept = λ n e. (m .kept n e, m .reply ∙ refusals-keep (gatewayOf ws) c n (sym (m .answer) ∙ e) .1) }
+kept-of : {m m1 : Lent} {b : List ℕ} {c : Call} {a : Answer} → Keeps m c a b m1
+    → Kept (record { before = m; call = c; answer = a; reply = b; left = m1 })
+kept-of {m} {c = c} k =
+    record {
+      reply = λ n e. k .reply ∙ refusals-keep (meaning m) c n (sym (k .answer) ∙ e) .1;
+      octets = k .octets;
+      own = k .own;
+      words = k .kept;
+    }
 
 pub code-keeps : CodeKeeps
-code-keeps ws ws′ cs ms done = none
-code-keeps ws ws′ cs ms (also {ws1 = ws1} {cs = cs1} {ms = ms1} m r) = more (kept-of m) (code-keeps ws1 ws′ cs1 ms1 r)
+code-keeps m left cs ms done = none
+code-keeps m left cs ms (also {m1 = m1} {cs = cs1} {ms = ms1} k r) = more (kept-of k) (code-keeps m1 left cs1 ms1 r)
 
 -- ---- from a set-up
 
-pub record Stands (s : Settings) (ws : List ℕ) : Type 0 where
+pub record Stands (s : Settings) (m : Lent) : Type 0 where
   pub hellos : Hellos
-  pub is : setup s ≡ Started (gatewayOf ws) hellos
+  pub is : setup s ≡ Started (meaning m) hellos
 
-started : (ws0 ws : List ℕ) (o : Setup) (hellos : Hellos) → reportIn o ≡ Begun hellos → gatewayOf ws ≡ startedIn (gatewayOf ws0) o
-    → o ≡ Started (gatewayOf ws) hellos
-started ws0 ws (Refused n) hellos e q = absurd (let z : _≡_ {A = ℕ} 0 1 = cc in omega arith)
-started ws0 ws (Started g h) hellos e q = let w : h ≡ hellos = cc in cc
+started : (g g0 : Gateway) (o : Setup) (hellos : Hellos) → reportIn o ≡ Begun hellos → g ≡ startedIn g0 o → o ≡ Started g hellos
+started g g0 (Refused n) hellos e q = absurd (let z : _≡_ {A = ℕ} 0 1 = cc in omega arith)
+started g g0 (Started d h) hellos e q = let w : h ≡ hellos = cc in cc
 
-stands : {s : Settings} {ws : List ℕ} → Begins s ws → Stands s ws
-stands {s} (begins {ws0} {ws} {r} {hellos} m e) = record { hellos = hellos; is = started ws0 ws (setup s) hellos (sym (m .answer) ∙ e) (m .next) }
+stands : {s : Settings} {m : Lent} → Begins s m → Stands s m
+stands {s} (begins {ws0} {ws} {fs} {r} {hellos} m e) =
+    record { hellos = hellos; is = started (wholeOf ws fs) (wholeOf ws0 fs) (setup s) hellos (sym (m fs .answer) ∙ e) (m fs .next) }
 
 -- two set-ups with the same settings leave the same gateway
-same-start : {s : Settings} {ws₁ ws₂ : List ℕ} → Stands s ws₁ → Stands s ws₂ → gatewayOf ws₁ ≡ gatewayOf ws₂
+same-start : {s : Settings} {m₁ m₂ : Lent} → Stands s m₁ → Stands s m₂ → meaning m₁ ≡ meaning m₂
 same-start x y = cc (x .is, y .is)
 
 -- ---- demand 3 and the invariants
 
 pub code-isolation : CodeIsolation
-code-isolation s r ws₁ ws₂ ws₁′ ws₂′ b₁ b₂ b xs ys h ms₁ ms₂ r₁ r₂ =
+code-isolation s r m₁ m₂ left₁ left₂ b₁ b₂ b xs ys h ms₁ ms₂ r₁ r₂ =
     let x = stands b₁ in
     let e = same-start x (stands b₂) in
-    let f₁ = code-follows ws₁ ws₁′ xs ms₁ r₁ in
-    let f₂ = code-follows ws₂ ws₂′ ys ms₂ r₂ in
-    let p : trace (gatewayOf ws₁) ys ≡ turnsOf ms₂ = ap (λ (g : Gateway). trace g ys) e ∙ sym (f₂ .turns) in
-    let q : observedFrom b (gatewayOf ws₁) (trace (gatewayOf ws₁) ys) ≡ observedFrom b (gatewayOf ws₂) (turnsOf ms₂) =
-    ap (λ (g : Gateway). observedFrom b g (trace (gatewayOf ws₁) ys)) e ∙ ap (observedFrom b (gatewayOf ws₂)) p in
-    subst₂ (λ u v. Agreeing b u v) (ap (observedFrom b (gatewayOf ws₁)) (sym (f₁ .turns))) q
-    (isolation s (gatewayOf ws₁) (x .hellos) r (x .is) b xs ys h)
+    let f₁ = code-follows m₁ left₁ xs ms₁ r₁ in
+    let f₂ = code-follows m₂ left₂ ys ms₂ r₂ in
+    let p : trace (meaning m₁) ys ≡ turnsOf ms₂ = ap (λ (g : Gateway). trace g ys) e ∙ sym (f₂ .turns) in
+    let q : observedFrom b (meaning m₁) (trace (meaning m₁) ys) ≡ observedFrom b (meaning m₂) (turnsOf ms₂) =
+    ap (λ (g : Gateway). observedFrom b g (trace (meaning m₁) ys)) e ∙ ap (observedFrom b (meaning m₂)) p in
+    subst₂ (λ u v. Agreeing b u v) (ap (observedFrom b (meaning m₁)) (sym (f₁ .turns))) q
+    (isolation s (meaning m₁) (x .hellos) r (x .is) b xs ys h)
 
 pub code-invariants : CodeInvariants
-code-invariants s ws ws′ b cs ms fit r =
+code-invariants s m left b cs ms fit r =
     let x = stands b in
-    rw (code-follows ws ws′ cs ms r .next) (invariants s (gatewayOf ws) (x .hellos) (x .is) cs fit)
+    rw (code-follows m left cs ms r .next) (invariants s (meaning m) (x .hellos) (x .is) cs fit)

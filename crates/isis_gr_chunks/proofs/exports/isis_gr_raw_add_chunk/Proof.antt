@@ -1,8 +1,8 @@
 -- The call's answer, told by its number.
 use Rattle.isis_gr.proofs.EncodesLaws.{with-octets}
 use borrow.Author.Needs.{needs}
-use Rattle.isis_gr.proofs.exports.isis_gr_raw_add_chunk.Statement.{statement}
-use Rattle.isis_gr.proofs.exports.isis_gr_raw_add_chunk.Tie as tie
+use Rattle.isis_gr_chunks.proofs.exports.isis_gr_raw_add_chunk.Statement.{statement}
+use Rattle.isis_gr_chunks.proofs.exports.isis_gr_raw_add_chunk.Tie as tie
 
 add-chunk-requires : tie.Need-add-chunk-requires
 add-chunk-requires c κs = search needs

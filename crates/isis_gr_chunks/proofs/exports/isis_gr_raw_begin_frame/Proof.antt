@@ -1,8 +1,8 @@
 -- The call's answer, told by its number.
 use Rattle.isis_gr.proofs.EncodesLaws.{encodes}
 use borrow.Author.Needs.{needs}
-use Rattle.isis_gr.proofs.exports.isis_gr_raw_begin_frame.Statement.{statement}
-use Rattle.isis_gr.proofs.exports.isis_gr_raw_begin_frame.Tie as tie
+use Rattle.isis_gr_chunks.proofs.exports.isis_gr_raw_begin_frame.Statement.{statement}
+use Rattle.isis_gr_chunks.proofs.exports.isis_gr_raw_begin_frame.Tie as tie
 
 begin-frame-requires : tie.Need-begin-frame-requires
 begin-frame-requires c κs = search needs
