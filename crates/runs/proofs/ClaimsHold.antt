@@ -1,10 +1,8 @@
 -- The claims about the code's runs: a run is the model's trace, by each call's promise; the rest is model's and invariants' theorems.
-use Prim.Native.Nat.{ℕ, _≤_, _<_}
+use Prim.Native.Nat.{ℕ}
 use native.Mathlib.Omega.{arith}
 use mathlib.Core.Path.{_≡_, refl, ap, sym, _∙_, subst₂}
-use mathlib.Core.List.{List, [], _∷_, _++_}
-use lib.ListN.{length}
-use Rattle.basics.proofs.ListLaws.{length-tabulate}
+use mathlib.Core.List.{List, [], _∷_}
 use Rattle.settings.specs.declared.setup.Settings.{Settings}
 use Rattle.timers.specs.Hellos.{Hellos}
 use Rattle.model.specs.Answers.{Answer}

@@ -1,1 +1,2 @@
 pub mod ClaimsHold
+pub mod CuttingHolds
