@@ -26,34 +26,40 @@ boundary: archive
 	@cd rust && if cargo clippy --version >/dev/null 2>&1; then cargo clippy --offline --quiet --all-targets -- -D warnings; \
 		else echo "cargo clippy is not installed: rust/ is not linted"; fi
 
-# the C side, on the archives as they stand: the tests (every_field and why as C99, C11 and C++17), the examples (the daemon is not run), and the seeds of
-# the fuzzing; what asks no question is linked without libisis_gr_why.a
+# the C side, on the archives as they stand: the tests (chunks, every_field and why as C99, C11 and C++17), the examples (the daemon is not run), and the
+# seeds of the fuzzing; what takes no chunks is linked without libisis_gr_chunks.a, what asks no question without libisis_gr_why.a
 WARN = -O1 -Wall -Wextra -Werror -Iinclude -Iexamples
 LINK = -Ltarget/staticlib -lisis_gr
+CHUNKS = -Ltarget/staticlib -lisis_gr_chunks -lisis_gr
 ASKS = -Ltarget/staticlib -lisis_gr_why -lisis_gr
+EVERY = -Ltarget/staticlib -lisis_gr_why -lisis_gr_chunks -lisis_gr
 c:
 	@mkdir -p target/c
 	@for name in every_call levels limits old_software; do \
-		$(CC) -std=c99 -pedantic $(WARN) tests/c/$$name.c $(LINK) -o target/c/$$name && target/c/$$name || exit 1; \
+		case $$name in every_call|limits) link="$(CHUNKS)";; *) link="$(LINK)";; esac; \
+		$(CC) -std=c99 -pedantic $(WARN) tests/c/$$name.c $$link -o target/c/$$name && target/c/$$name || exit 1; \
 	done
-	@for name in every_field why; do \
+	@for name in chunks every_field why; do \
+		case $$name in why) link="$(EVERY)";; *) link="$(CHUNKS)";; esac; \
 		for std in c99 c11; do \
-			$(CC) -std=$$std -pedantic $(WARN) tests/c/$$name.c $(ASKS) -o target/c/$$name && target/c/$$name || exit 1; \
+			$(CC) -std=$$std -pedantic $(WARN) tests/c/$$name.c $$link -o target/c/$$name && target/c/$$name || exit 1; \
 		done; \
-		$(CXX) -x c++ -std=c++17 $(WARN) tests/c/$$name.c $(ASKS) -o target/c/$$name && target/c/$$name || exit 1; \
+		$(CXX) -x c++ -std=c++17 $(WARN) tests/c/$$name.c $$link -o target/c/$$name && target/c/$$name || exit 1; \
 	done
-	@$(CC) -std=c99 -pedantic $(WARN) tests/c/stack.c $(ASKS) -o target/c/stack && target/c/stack
-	@set -o pipefail; for name in first two_ends why; do \
-		$(CC) -std=c99 -pedantic $(WARN) examples/$$name.c $$([ $$name = why ] && echo $(ASKS) || echo $(LINK)) -o target/c/$$name \
+	@$(CC) -std=c99 -pedantic $(WARN) tests/c/stack.c $(EVERY) -o target/c/stack && target/c/stack
+	@set -o pipefail; for name in first two_ends radio why; do \
+		case $$name in radio) link="$(CHUNKS)";; why) link="$(ASKS)";; *) link="$(LINK)";; esac; \
+		$(CC) -std=c99 -pedantic $(WARN) examples/$$name.c $$link -o target/c/$$name \
 			&& target/c/$$name | diff - examples/$$name.out && echo "examples/$$name.c: printed examples/$$name.out" || exit 1; \
 	done
-	@$(CC) -std=c99 -pedantic $(WARN) examples/daemon.c $(ASKS) -o target/c/daemon
-	@$(CC) -std=c99 -pedantic $(WARN) tests/fuzz/receive.c tests/fuzz/replay.c $(ASKS) -o target/c/replay
+	@$(CC) -std=c99 -pedantic $(WARN) examples/daemon.c $(EVERY) -o target/c/daemon
+	@$(CC) -std=c99 -pedantic $(WARN) tests/fuzz/receive.c tests/fuzz/replay.c $(EVERY) -o target/c/replay
 	@tools/fuzz_seeds target/seeds && target/c/replay $$(find target/seeds tests/fuzz/cases -type f 2>/dev/null)
 
-# the calls, and why
+# the calls, frames in chunks, and why
 archive:
 	@rt staticlib isis_gr
+	@rt staticlib isis_gr_chunks
 	@rt staticlib isis_gr_why
 
 # ten million calls on the archives and on the reference, and the branches that they reached
@@ -69,7 +75,7 @@ bench: archive
 FUZZ_SECONDS ?= 600
 fuzz: archive
 	@mkdir -p target/c && tools/fuzz_seeds target/corpus
-	@clang -g -O1 -fsanitize=fuzzer,address -Wall -Wextra -Werror -Iinclude tests/fuzz/receive.c $(ASKS) -o target/c/fuzz_receive
+	@clang -g -O1 -fsanitize=fuzzer,address -Wall -Wextra -Werror -Iinclude tests/fuzz/receive.c $(EVERY) -o target/c/fuzz_receive
 	@target/c/fuzz_receive -max_total_time=$(FUZZ_SECONDS) -max_len=4096 target/corpus
 
 # examples/daemon.c against FRR and against itself, in network namespaces of its own; as root, with Debian's frr and tshark

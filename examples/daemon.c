@@ -3,10 +3,10 @@
  * as no T1 runs. What a daemon of its own would do about SPF, LSPs and forwarding is printed, and why a neighbour that is heard is not advertised or gets
  * no CSNPs. `make live` runs it against FRR and against itself.
  *
- *   daemon NAME INTERFACE p2p|lan SYSTEM_ID IPV4 SECONDS [restart|start] [plan=AT] [reverse=METRIC] [levels=MASK] [priority=N]
+ *   daemon NAME INTERFACE p2p|lan SYSTEM_ID IPV4 SECONDS [restart|start] [plan=AT] [reverse=METRIC] [levels=MASK] [priority=N] [chunks=OCTETS]
  *
  * SYSTEM_ID is 12 hexadecimal digits; SECONDS after its start it ends; `restart` and `start` are the modes Restarting and Starting; `plan` sets PR
- * in its hellos from AT seconds on. Area 49.0001. */
+ * in its hellos from AT seconds on; with `chunks` the library gets hellos in chunks of so many octets. Area 49.0001. */
 #define _DEFAULT_SOURCE
 #include "isis_gr.h"
 
@@ -16,27 +16,27 @@
 
 #include <poll.h>
 #include <stdarg.h>
-#include <time.h>
 #include <unistd.h>
 
-enum { CIRCUIT = 1, EACH = 2, HOLD = 10, T1 = 2, T2 = 20, TRIES = 4, PLANNED = 60, KEPT = 16, OWN_CIRCUIT = 5 };
+enum { CIRCUIT = 1, EACH = 2, HOLD = 10, T1 = 2, T2 = 20, TRIES = 4, PLANNED = 60, KEPT = 16, OWN_CIRCUIT = 5, METRIC = 10 };
 
 typedef struct {
     uint8_t level, id[6], mac[6];
 } neighbour;
 
-static isis_gr_gateway g; /* static: 5,120 octets are much for a small stack */
-static isis_gr_settings settings = {.t1 = T1, .t2 = T2, .tries = TRIES, .count = 1};
+static isis_gr_gateway g;     /* static: 5,248 octets are much for a small stack */
+static isis_gr_frames frames; /* for hellos in chunks */
+static isis_gr_settings settings = {
+    .t1 = T1, .t2 = T2, .tries = TRIES, .count = 1,
+    .circuits = {{.levels = ISIS_GR_LEVEL_BOTH, .priority = 64, .hold = HOLD, .metric = METRIC, .id = OWN_CIRCUIT}}};
 static const isis_gr_circuit *const circuit = &settings.circuits[0];
 static const char *name, *interface;
 static uint8_t mode; /* ISIS_GR_MODE_..: as it was set up, and Running once that ended */
-static int fd, carrier = 1;
+static int fd, carrier = 1, heard;   /* heard: on P2P peer_id and peer_circuit are known */
 static uint8_t begun, sets, noticed; /* masks of levels: whose T1 began, whose CSNP set came, whose database was noticed */
-static unsigned length_of_life, plan_at;
-static uint32_t start_clock, clock_now, reverse, metric;
+static unsigned length_of_life, plan_at, chunk;
+static uint32_t start_clock, clock_now, reverse, metric = METRIC, peer_circuit;
 static uint8_t ip[4], lan_id[3][7], peer_id[6];
-static uint32_t peer_circuit;
-static int heard;                 /* P2P: peer_id and peer_circuit are known */
 static neighbour neighbours[KEPT]; /* LAN: whom TLV 6 lists; level 0 where there is none */
 
 static void say(const char *text, ...) {
@@ -46,12 +46,6 @@ static void say(const char *text, ...) {
     vprintf(text, rest);
     putchar('\n');
     va_end(rest);
-}
-
-static uint32_t read_clock(void) {
-    struct timespec t;
-    clock_gettime(CLOCK_MONOTONIC, &t);
-    return (uint32_t)t.tv_sec;
 }
 
 static int is_lan(void) { return circuit->kind == ISIS_GR_KIND_LAN; }
@@ -147,8 +141,7 @@ static void send_all_ordered(uint16_t hellos, uint8_t flags) {
 static void send_csnps(uint8_t levels) {
     uint8_t level;
     for (level = 1; level <= 2; level++) {
-        uint8_t pdu[33] = {0x83, 33, 1, 0, 0, 1, 0, 0, 0, 33};
-        pdu[4] = (uint8_t)(23 + level);
+        uint8_t pdu[33] = {0x83, 33, 1, 0, (uint8_t)(23 + level), 1, 0, 0, 0, 33};
         memcpy(pdu + 10, settings.system_id, 6);
         memset(pdu + 25, 0xFF, 8);
         if (levels & 1u << (level - 1)) {
@@ -220,6 +213,17 @@ static void learn(const uint8_t *frame, const uint8_t *source, const isis_gr_rec
     }
 }
 
+/* As a radio hands it over (document 02, W-205), the last chunk empty. Where one is refused, no end comes, and the next begin drops what was joined. */
+static isis_gr_received receive_chunks(const uint8_t *source, const uint8_t *frame, size_t n, uint8_t reply[ISIS_GR_REPLY_OCTETS]) {
+    isis_gr_received r = {.code = isis_gr_begin_frame(&g, CIRCUIT, source)};
+    size_t at, part = chunk;
+    for (at = 0; r.code == ISIS_GR_OK && part > 0; at += part) {
+        part = n - at < chunk ? n - at : chunk;
+        r.code = isis_gr_add_chunk(&g, &frames, CIRCUIT, frame + at, part);
+    }
+    return r.code == ISIS_GR_OK ? isis_gr_end_frame(&g, &frames, CIRCUIT, reply, ISIS_GR_REPLY_OCTETS) : r;
+}
+
 static void hello_came(const uint8_t *source, const uint8_t *frame, size_t n) {
     static const char *const records[3] = {"none", "INIT", "UP"};
     uint8_t reply[ISIS_GR_REPLY_OCTETS], question;
@@ -230,7 +234,7 @@ static void hello_came(const uint8_t *source, const uint8_t *frame, size_t n) {
             say("%s", why);
         }
     }
-    r = isis_gr_receive(&g, CIRCUIT, source, frame, n, reply, sizeof reply);
+    r = chunk ? receive_chunks(source, frame, n, reply) : isis_gr_receive(&g, CIRCUIT, source, frame, n, reply, sizeof reply);
     if (r.code != ISIS_GR_OK) {
         say("refused %u: %s", (unsigned)r.code, isis_gr_text(r.code));
         return;
@@ -342,14 +346,13 @@ static void read_arguments(int n, char **words) {
     isis_gr_circuit *c = &settings.circuits[0];
     int i;
     if (n < 7 || strlen(words[4]) != 12 || inet_pton(AF_INET, words[5], ip) != 1) {
-        fputs("daemon NAME INTERFACE p2p|lan SYSTEM_ID IPV4 SECONDS [restart|start] [plan=AT] [reverse=METRIC] [levels=MASK] [priority=N]\n", stderr);
+        fputs("daemon NAME INTERFACE p2p|lan SYSTEM_ID IPV4 SECONDS [restart|start] [plan=AT] [reverse=METRIC] [levels=MASK] [priority=N] [chunks=OCTETS]\n",
+              stderr);
         exit(2);
     }
     name = words[1];
     interface = words[2];
     c->kind = strcmp(words[3], "lan") == 0 ? ISIS_GR_KIND_LAN : ISIS_GR_KIND_P2P;
-    c->levels = ISIS_GR_LEVEL_BOTH;
-    c->priority = 64;
     for (i = 0; i < 6; i++) {
         unsigned octet = 0;
         sscanf(words[4] + 2 * i, "%2x", &octet);
@@ -363,6 +366,7 @@ static void read_arguments(int n, char **words) {
         reverse = strncmp(words[i], "reverse=", 8) == 0 ? value : reverse;
         c->levels = strncmp(words[i], "levels=", 7) == 0 ? (uint8_t)value : c->levels;
         c->priority = strncmp(words[i], "priority=", 9) == 0 ? (uint8_t)value : c->priority;
+        chunk = strncmp(words[i], "chunks=", 7) == 0 ? value : chunk;
     }
 }
 
@@ -372,12 +376,8 @@ int main(int n, char **words) {
     read_arguments(n, words);
     setvbuf(stdout, NULL, _IOLBF, 0);
     fd = raw_open(interface, settings.circuits[0].mac);
-    start_clock = clock_now = read_clock();
-    settings.clock = clock_now;
+    settings.clock = start_clock = clock_now = raw_clock();
     settings.mode = mode;
-    settings.circuits[0].hold = HOLD;
-    settings.circuits[0].metric = metric = 10;
-    settings.circuits[0].id = OWN_CIRCUIT;
     started = isis_gr_set_up(&g, &settings);
     if (started.code != ISIS_GR_OK || isis_gr_gateway_words() != ISIS_GR_GATEWAY_WORDS) {
         fprintf(stderr, "%s: setting %u\n", isis_gr_text(started.code), isis_gr_fault(&settings).setting);
@@ -390,8 +390,8 @@ int main(int n, char **words) {
         if (poll(&ready, 1, 100) > 0) {
             frame_came();
         }
-        if (read_clock() > clock_now) {
-            clock_now = read_clock();
+        if (raw_clock() > clock_now) {
+            clock_now = raw_clock();
             second();
         }
     }

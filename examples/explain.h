@@ -35,7 +35,7 @@ static inline void explain(char out[EXPLAIN_ROOM], uint8_t question, isis_gr_rea
    15. */
 static inline int explain_hello(char out[EXPLAIN_ROOM], const isis_gr_gateway *g, uint8_t circuit, uint8_t question, const uint8_t source[6],
                                 const uint8_t *frame, size_t n) {
-    static isis_gr_gateway after; /* static as the gateway is: 5,120 octets */
+    static isis_gr_gateway after; /* static as the gateway is: 5,248 octets */
     uint8_t reply[ISIS_GR_REPLY_OCTETS];
     const isis_gr_call call = {ISIS_GR_CALL_RECEIVE, circuit, 0, 0, source, frame, n, reply, sizeof reply};
     const uint8_t *id = frame + 9;

@@ -3,7 +3,7 @@
 
 #include <stdio.h>
 
-static isis_gr_gateway g; /* 5,120 octets of the caller's own; 0 until it is set up */
+static isis_gr_gateway g; /* 5,248 octets of the caller's own; 0 until it is set up */
 static const isis_gr_settings settings = {
     .system_id = {0x19, 0x21, 0x68, 0x00, 0x10, 0x01}, .t1 = 3, .t2 = 60, .tries = 3, .mode = ISIS_GR_MODE_RUNNING, .count = 1,
     .circuits = {{.kind = ISIS_GR_KIND_P2P, .levels = ISIS_GR_LEVEL_2, .mac = {2, 0, 0, 0, 0, 1}, .hold = 30, .metric = 10, .id = 1}}};

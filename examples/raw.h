@@ -1,4 +1,4 @@
-/* IS-IS PDUs on one interface of Linux: an AF_PACKET socket that has joined the three groups of IS-IS. For root. */
+/* IS-IS PDUs on one interface of Linux: an AF_PACKET socket that has joined the three groups of IS-IS, for root; and the clock. */
 #ifndef RAW_H
 #define RAW_H
 
@@ -11,6 +11,7 @@
 #include <string.h>
 #include <sys/ioctl.h>
 #include <sys/socket.h>
+#include <time.h>
 
 enum { RAW_802_2 = 4, RAW_HEAD = 17 }; /* the kernel's number of 802.3 frames with an LLC; octets before the PDU */
 
@@ -82,6 +83,13 @@ static inline int raw_carrier(int fd, const char *interface) {
     memset(&q, 0, sizeof q);
     strncpy(q.ifr_name, interface, sizeof q.ifr_name - 1);
     return ioctl(fd, SIOCGIFFLAGS, &q) == 0 && (q.ifr_flags & IFF_RUNNING) != 0;
+}
+
+/* Seconds that never go back. */
+static inline uint32_t raw_clock(void) {
+    struct timespec t;
+    clock_gettime(CLOCK_MONOTONIC, &t);
+    return (uint32_t)t.tv_sec;
 }
 
 #endif

@@ -1,21 +1,24 @@
-/* isis_gr: restart signaling (RFC 8706) and reverse metric (RFC 8500) for an IS-IS router, proved correct. Link with libisis_gr.a; a program that asks
- * isis_gr_why links libisis_gr_why.a too, and no other needs it.
+/* isis_gr: restart signaling (RFC 8706) and reverse metric (RFC 8500) for an IS-IS router, proved correct. Link with libisis_gr.a; a program whose frames
+ * come in chunks links libisis_gr_chunks.a too, one that asks isis_gr_why libisis_gr_why.a, and no other needs them.
  *
  * The library does no I/O, allocates nothing, and has no global and no clock of its own: hello frames and clock ticks go in; records, Restart
- * TLVs, orders (actions that the caller must take) and link metrics come out. Document 01 numbers the refusals; RFC sections are named at
+ * TLVs, orders (actions that the caller must take) and link metrics come out. Documents 01 and 02 number the refusals; RFC sections are named at
  * each order.
  *
  * What the proofs assume of a caller:
  * - every pointer is valid for the length beside it, or for the size that its type says; NULL only with length 0;
  * - buffers of one call do not overlap, and nobody writes them during the call (a driver copies a DMA buffer first);
  * - nobody but these functions writes a gateway's words. Any content of them is a gateway all the same: memory that was never set up holds no
- *   circuit, so a call that names one is refused 1, a tick has nothing to do and is done, and nothing waits; no call but set up changes it.
+ *   circuit, so a call that names one is refused 1, a tick has nothing to do and is done, and nothing waits; no call but set up changes it;
+ * - where frames come in chunks, all chunks of a frame and its end are given the same memory for frames, and nobody else writes the frame's octets there
+ *   until its end.
  * Separate gateways may be used by separate threads at one time; one gateway by one at a time.
  *
- * A refusal leaves the gateway and the reply buffer as they were, and the other fields of its answer 0. Circuits are numbered from 1 to 8. A
- * mask over circuits has bit 0 for circuit 1; a mask of levels has bit 0 for level 1 (ISIS_GR_LEVEL_..). A mask of hellos has two bits
- * for each circuit, 0 and 1 for circuit 1: on a LAN the hello of level 1 and that of level 2, on P2P the one hello and no other (RFC 8706,
- * 3.3.3; isis_gr_hello_ordered reads it). An argument `level` is the level's number, 1 or 2, and no mask. Times are seconds.
+ * A refusal leaves the gateway and the reply buffer as they were, and the other fields of its answer 0; an end that is refused 2 to 9 drops its
+ * unfinished frame, and leaves all else so. Circuits are numbered from 1 to 8. A mask over circuits has bit 0 for circuit 1; a mask of levels has bit 0
+ * for level 1 (ISIS_GR_LEVEL_..). A mask of hellos has two bits for each circuit, 0 and 1 for circuit 1: on a LAN the hello of level 1 and that of
+ * level 2, on P2P the one hello and no other (RFC 8706, 3.3.3; isis_gr_hello_ordered reads it). An argument `level` is the level's number, 1 or 2, and
+ * no mask. Times are seconds.
  *
  * T1, its tries and its acknowledgement are one for each enabled level of a LAN, and one for all levels of a P2P circuit.
  */
@@ -31,18 +34,20 @@ extern "C" {
 #endif
 
 #define ISIS_GR_VERSION_MAJOR 0
-#define ISIS_GR_VERSION_MINOR 11
+#define ISIS_GR_VERSION_MINOR 12
 
-/* The layout of settings and answers between this header and the archive; it rises whenever one of them changes. The code below is compiled into
-   the caller, so set up hands it on: an archive of another layout refuses 12 (isis_gr_fault: ISIS_GR_SETTING_VERSION). */
-#define ISIS_GR_LAYOUT 8u
+/* The layout of settings, answers and a gateway's memory between this header and the archive; it rises whenever one of them changes. The code below is
+   compiled into the caller, so set up hands it on: an archive of another layout refuses 12 (isis_gr_fault: ISIS_GR_SETTING_VERSION). */
+#define ISIS_GR_LAYOUT 9u
 
-#define ISIS_GR_GATEWAY_WORDS 640 /* equal to isis_gr_gateway_words(): compare the two at start-up */
+#define ISIS_GR_GATEWAY_WORDS 656 /* equal to isis_gr_gateway_words(): compare the two at start-up */
+#define ISIS_GR_FRAME_OCTETS 12000 /* equal to isis_gr_frame_octets(): likewise */
+#define ISIS_GR_MOST_OCTETS 1500 /* the most that a circuit's unfinished frame has */
 #define ISIS_GR_SETTINGS_OCTETS 169
 #define ISIS_GR_MAX_CIRCUITS 8
 #define ISIS_GR_REPLY_OCTETS 11 /* the least reply buffer, and the octets of a reply */
 
-/* ---- codes: 0, or the number of a refusal in document 01; no other code exists */
+/* ---- codes: 0, or the number of a refusal in document 01, 13 and 14 in document 02; no other code exists */
 
 #define ISIS_GR_OK 0u
 #define ISIS_GR_REFUSED_NO_CIRCUIT 1u      /* no circuit of that number, or a level not enabled there */
@@ -57,6 +62,8 @@ extern "C" {
 #define ISIS_GR_REFUSED_CLOCK_BACK 10u     /* clock lower than the held clock */
 #define ISIS_GR_REFUSED_NOT_RESTARTING 11u /* a notice outside the modes Restarting and Starting */
 #define ISIS_GR_REFUSED_BAD_SETTING 12u    /* a setting out of range */
+#define ISIS_GR_REFUSED_NOT_BEGUN 13u      /* a chunk or an end where no frame is begun */
+#define ISIS_GR_REFUSED_TOO_LONG 14u       /* a chunk with which more than 1,500 octets would be joined */
 
 /* ---- numbers */
 
@@ -118,6 +125,13 @@ enum {
 typedef struct {
     uint64_t words[ISIS_GR_GATEWAY_WORDS];
 } isis_gr_gateway;
+
+/* Memory for the octets of one gateway's unfinished frames (document 02, W-205). The caller owns it, it may hold anything at first, and only
+   isis_gr_add_chunk writes it; a daemon whose frames come whole needs none. The joined octets of circuit n stand from ISIS_GR_MOST_OCTETS * (n - 1) on, and
+   still after the end until the next chunk, so that a daemon can read there what it reads of an accepted hello itself. */
+typedef struct {
+    uint8_t octets[ISIS_GR_FRAME_OCTETS];
+} isis_gr_frames;
 
 typedef struct {
     uint8_t kind;     /* ISIS_GR_KIND_.. */
@@ -276,6 +290,13 @@ uint64_t isis_gr_raw_link_metric(const uint64_t *gateway, uint8_t circuit);
 uint32_t isis_gr_raw_next_hello_flags(const uint64_t *gateway, uint8_t circuit, uint8_t level);
 uint32_t isis_gr_raw_waiting_t1s(const uint64_t *gateway);
 
+/* those of libisis_gr_chunks.a */
+
+uint32_t isis_gr_raw_frame_octets(void);
+uint32_t isis_gr_raw_begin_frame(uint64_t *gateway, uint8_t circuit, const uint8_t *source);
+uint32_t isis_gr_raw_add_chunk(uint64_t *gateway, uint8_t *frames, uint8_t circuit, const uint8_t *octets, size_t octets_len);
+isis_gr_raw_received isis_gr_raw_end_frame(uint64_t *gateway, const uint8_t *frames, uint8_t circuit, uint8_t *reply, size_t reply_len);
+
 /* the one of libisis_gr_why.a */
 
 typedef struct {
@@ -332,11 +353,32 @@ static inline isis_gr_timers isis_gr_get_timers(uint64_t word) {
     return t;
 }
 
+static inline isis_gr_received isis_gr_get_received(isis_gr_raw_received words) {
+    uint64_t word = words.answer;
+    isis_gr_received r;
+    size_t i;
+    r.code = (uint32_t)(word & 255u);
+    r.reply = (uint8_t)(word >> 8);
+    r.csnps = (uint8_t)(word >> 16);
+    r.t1_end = (uint8_t)(word >> 24);
+    r.timers = isis_gr_get_timers(word);
+    r.remaining = (uint16_t)(word >> 40);
+    r.hello_flags = (uint8_t)(word >> 56);
+    for (i = 0; i < 6; i++) {
+        r.system_id[i] = (uint8_t)(words.change >> (40 - 8 * i));
+    }
+    r.level = (uint8_t)(words.change >> 48 & 3u);
+    r.before = (uint8_t)(words.change >> 50 & 3u);
+    r.after = (uint8_t)(words.change >> 52 & 3u);
+    r.advertised = (uint8_t)(words.change >> 54 & 1u);
+    return r;
+}
+
 /* ---- the calls */
 
 /* A text for a code. */
 static inline const char *isis_gr_text(uint32_t code) {
-    static const char *const texts[13] = {
+    static const char *const texts[15] = {
         "done",
         "no circuit of that number, or a level not enabled there",
         "reply buffer under 11 octets",
@@ -350,12 +392,17 @@ static inline const char *isis_gr_text(uint32_t code) {
         "clock lower than before",
         "a notice outside the modes Restarting and Starting",
         "a setting out of range",
+        "no frame is begun on that circuit",
+        "more than 1,500 octets joined",
     };
-    return code < 13u ? texts[code] : "no such code";
+    return code < 15u ? texts[code] : "no such code";
 }
 
 /* The words of a gateway in this archive. */
 static inline uint32_t isis_gr_gateway_words(void) { return isis_gr_raw_gateway_words(); }
+
+/* The octets of a memory for frames. Needs libisis_gr_chunks.a. */
+static inline uint32_t isis_gr_frame_octets(void) { return isis_gr_raw_frame_octets(); }
 
 /* A new gateway, whatever the memory was. Refused 12, the memory is as it was; isis_gr_fault says which setting it is. */
 static inline isis_gr_started isis_gr_set_up(isis_gr_gateway *gateway, const isis_gr_settings *settings) {
@@ -396,25 +443,29 @@ static inline isis_gr_setting_fault isis_gr_fault(const isis_gr_settings *settin
    ISIS_GR_REPLY_NONE, those past 11 never. */
 static inline isis_gr_received isis_gr_receive(isis_gr_gateway *gateway, uint8_t circuit, const uint8_t source[6], const uint8_t *frame,
                                                size_t frame_len, uint8_t *reply, size_t reply_len) {
-    isis_gr_raw_received words = isis_gr_raw_receive(gateway->words, circuit, source, frame, frame_len, reply, reply_len);
-    uint64_t word = words.answer;
-    isis_gr_received r;
-    size_t i;
-    r.code = (uint32_t)(word & 255u);
-    r.reply = (uint8_t)(word >> 8);
-    r.csnps = (uint8_t)(word >> 16);
-    r.t1_end = (uint8_t)(word >> 24);
-    r.timers = isis_gr_get_timers(word);
-    r.remaining = (uint16_t)(word >> 40);
-    r.hello_flags = (uint8_t)(word >> 56);
-    for (i = 0; i < 6; i++) {
-        r.system_id[i] = (uint8_t)(words.change >> (40 - 8 * i));
-    }
-    r.level = (uint8_t)(words.change >> 48 & 3u);
-    r.before = (uint8_t)(words.change >> 50 & 3u);
-    r.after = (uint8_t)(words.change >> 52 & 3u);
-    r.advertised = (uint8_t)(words.change >> 54 & 1u);
-    return r;
+    return isis_gr_get_received(isis_gr_raw_receive(gateway->words, circuit, source, frame, frame_len, reply, reply_len));
+}
+
+/* Begins a frame that comes in chunks (document 02, W-205), from a source MAC. Each circuit has its own unfinished frame, and one that was begun there
+   before is dropped; set up drops all. Other calls leave it as it is, isis_gr_receive on its circuit too. Returns the code; refused 1, the gateway is as
+   it was. Needs libisis_gr_chunks.a, as the two below. */
+static inline uint32_t isis_gr_begin_frame(isis_gr_gateway *gateway, uint8_t circuit, const uint8_t source[6]) {
+    return isis_gr_raw_begin_frame(gateway->words, circuit, source);
+}
+
+/* Joins a chunk to a circuit's unfinished frame: octets that isis_gr_receive takes, cut anywhere, or none. Returns the code. Refused 1, 13 where no frame
+   is begun there, or 14 where more than ISIS_GR_MOST_OCTETS would be joined, gateway and frames are as they were: the unfinished frame stays, nothing of
+   the chunk is kept, and a smaller one may still fit. octets may not overlap frames. */
+static inline uint32_t isis_gr_add_chunk(isis_gr_gateway *gateway, isis_gr_frames *frames, uint8_t circuit, const uint8_t *octets, size_t octets_len) {
+    return isis_gr_raw_add_chunk(gateway->words, frames->octets, circuit, octets, octets_len);
+}
+
+/* Ends a circuit's unfinished frame, which is dropped: answer, gateway and reply are those of isis_gr_receive on the joined octets, with the MAC of the
+   begin and the clock and mode of now. Refused 1, or 13 where no frame is begun there, gateway and reply are as they were; refused 2 to 9, as
+   isis_gr_receive would be, all of them but the dropped frame. */
+static inline isis_gr_received isis_gr_end_frame(isis_gr_gateway *gateway, const isis_gr_frames *frames, uint8_t circuit, uint8_t *reply,
+                                                 size_t reply_len) {
+    return isis_gr_get_received(isis_gr_raw_end_frame(gateway->words, frames->octets, circuit, reply, reply_len));
 }
 
 /* The clock, in seconds; one a second will do. Refused 10, the gateway is as it was. */
@@ -512,7 +563,7 @@ static inline isis_gr_waiting isis_gr_waiting_t1s(const isis_gr_gateway *gateway
    gateway as the call leaves it, and reply has what receive writes. `before` is not changed. So ask before the call is made, with the live gateway as
    `before`, and nothing need be copied; or later, with a copy of it that was kept. Nothing refuses a question; a circuit that is not there, or on
    a LAN a level that is not enabled there, has no record. A number of a question or a call that is none is ISIS_GR_REASON_UNKNOWN, and `after` and reply are
-   as they were. Needs libisis_gr_why.a. */
+   as they were. A frame that comes in chunks is asked about as the receive of its joined octets. Needs libisis_gr_why.a. */
 static inline isis_gr_reason isis_gr_why(const isis_gr_gateway *before, isis_gr_gateway *after, uint8_t question, const isis_gr_call *call, uint8_t circuit,
                                          uint8_t level, const uint8_t system_id[6], const uint8_t *mac) {
     static const uint8_t none[6] = {0, 0, 0, 0, 0, 0};

@@ -1,5 +1,5 @@
-/* Uses every function of isis_gr.h once or more: sample runs of document 01, a start (document 02, W-201), and what a refusal leaves. Circuit 1 is P2P with
-   both levels, circuit 2 a LAN with level 2. Prints the first thing that differs. */
+/* Uses every function of isis_gr.h once or more: sample runs of document 01, a start and a frame in chunks (document 02, W-201 and W-205), and what a
+   refusal leaves. Circuit 1 is P2P with both levels, circuit 2 a LAN with level 2. Prints the first thing that differs. */
 #include "isis_gr.h"
 
 #include "expect.h"
@@ -162,6 +162,36 @@ static void neighbour_restarts(void) {
     EXPECT(isis_gr_clear(&g, 1) == ISIS_GR_OK && isis_gr_look_up(&g, 1, 0, neighbour, NULL).state == ISIS_GR_RECORD_NONE);
 }
 
+/* C1 once more, its frame in three chunks, one of them empty, and a second passes before it ends */
+static void neighbour_restarts_in_chunks(void) {
+    static const uint8_t c1[ISIS_GR_REPLY_OCTETS] = {0xD3, 0x09, 0x02, 0x00, 0x1B, 0x19, 0x21, 0x68, 0x00, 0x10, 0x02};
+    static isis_gr_frames frames;
+    isis_gr_gateway g, before;
+    isis_gr_settings s = settings(ISIS_GR_MODE_RUNNING, 83);
+    isis_gr_received r;
+    uint8_t frame[64], reply[12];
+    size_t n = hello(frame, 1, 0, 0);
+
+    memset(reply, 0xEE, sizeof reply);
+    EXPECT(isis_gr_set_up(&g, &s).code == ISIS_GR_OK);
+    EXPECT(isis_gr_receive(&g, 1, source, frame, n, reply, sizeof reply).after == ISIS_GR_RECORD_UP);
+    before = g;
+    EXPECT(isis_gr_begin_frame(&g, 3, source) == ISIS_GR_REFUSED_NO_CIRCUIT);
+    EXPECT(isis_gr_add_chunk(&g, &frames, 1, frame, n) == ISIS_GR_REFUSED_NOT_BEGUN);
+    EXPECT(isis_gr_end_frame(&g, &frames, 1, reply, sizeof reply).code == ISIS_GR_REFUSED_NOT_BEGUN);
+    EXPECT(memcmp(&g, &before, sizeof g) == 0 && reply[0] == 0xEE);
+
+    n = hello(frame, 0, 1, 0);
+    EXPECT(isis_gr_begin_frame(&g, 1, source) == ISIS_GR_OK);
+    EXPECT(isis_gr_add_chunk(&g, &frames, 1, frame, 5) == ISIS_GR_OK && isis_gr_add_chunk(&g, &frames, 1, NULL, 0) == ISIS_GR_OK);
+    EXPECT(isis_gr_add_chunk(&g, &frames, 1, frame + 5, n - 5) == ISIS_GR_OK && isis_gr_tick(&g, 100).lost == 0);
+    r = isis_gr_end_frame(&g, &frames, 1, reply, sizeof reply);
+    EXPECT(r.code == ISIS_GR_OK && r.reply == ISIS_GR_REPLY_RA && r.remaining == 27 && r.csnps == ISIS_GR_LEVEL_BOTH);
+    EXPECT(memcmp(r.system_id, neighbour, 6) == 0 && r.before == ISIS_GR_RECORD_UP && r.after == ISIS_GR_RECORD_UP && r.advertised == 1);
+    EXPECT(memcmp(reply, c1, sizeof c1) == 0 && reply[11] == 0xEE && isis_gr_look_up(&g, 1, 0, neighbour, NULL).expiry == 127);
+    EXPECT(isis_gr_end_frame(&g, &frames, 1, reply, sizeof reply).code == ISIS_GR_REFUSED_NOT_BEGUN);
+}
+
 static void we_restart(void) {
     isis_gr_gateway g;
     isis_gr_settings s = settings(ISIS_GR_MODE_RESTARTING, 0);
@@ -219,9 +249,10 @@ static void we_start(void) {
 }
 
 int main(void) {
-    EXPECT(isis_gr_gateway_words() == ISIS_GR_GATEWAY_WORDS);
+    EXPECT(isis_gr_gateway_words() == ISIS_GR_GATEWAY_WORDS && isis_gr_frame_octets() == ISIS_GR_FRAME_OCTETS);
     setup_is_checked();
     neighbour_restarts();
+    neighbour_restarts_in_chunks();
     we_restart();
     we_start();
     puts("every call of isis_gr.h: as documents 01 and 02 have it");

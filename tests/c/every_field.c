@@ -4,7 +4,9 @@
 #include "neighbours.h"
 
 /* docs/RULES.md, "Refusals by number": each leaves the gateway and the reply as they were; and its text */
-static void twelve_refusals(void) {
+static void fourteen_refusals(void) {
+    static const uint8_t long_chunk[ISIS_GR_MOST_OCTETS + 1] = {0};
+    static isis_gr_frames frames;
     isis_gr_gateway before;
     isis_gr_settings s = settings(ISIS_GR_MODE_RUNNING, 100, 3, 60);
     isis_gr_ticked t;
@@ -36,10 +38,15 @@ static void twelve_refusals(void) {
     EXPECT(isis_gr_next_hello_flags(&g, P2P, 0).code == ISIS_GR_REFUSED_NO_CIRCUIT && isis_gr_next_hello_flags(&g, LAN, 3).code == ISIS_GR_REFUSED_NO_CIRCUIT);
     s.circuits[1].priority = 128;
     EXPECT(isis_gr_set_up(&g, &s).code == ISIS_GR_REFUSED_BAD_SETTING && isis_gr_set_up(&g, &s).hellos == 0 && isis_gr_set_up(&g, &s).hello_flags == 0);
+    EXPECT(isis_gr_add_chunk(&g, &frames, P2P, us, 6) == ISIS_GR_REFUSED_NOT_BEGUN);
+    refused(ISIS_GR_REFUSED_NOT_BEGUN, isis_gr_end_frame(&g, &frames, P2P, reply, sizeof reply));
     EXPECT(memcmp(&g, &before, sizeof g) == 0 && reply[0] == 0xEE);
+    EXPECT(isis_gr_begin_frame(&g, P2P, peer_mac) == ISIS_GR_OK);
+    before = g;
+    EXPECT(isis_gr_add_chunk(&g, &frames, P2P, long_chunk, ISIS_GR_MOST_OCTETS + 1) == ISIS_GR_REFUSED_TOO_LONG && memcmp(&g, &before, sizeof g) == 0);
 
-    EXPECT(strcmp(isis_gr_text(ISIS_GR_OK), "done") == 0 && strcmp(isis_gr_text(13), "no such code") == 0);
-    for (a = 0; a < 14; a++) {
+    EXPECT(strcmp(isis_gr_text(ISIS_GR_OK), "done") == 0 && strcmp(isis_gr_text(ISIS_GR_REFUSED_TOO_LONG + 1), "no such code") == 0);
+    for (a = 0; a <= ISIS_GR_REFUSED_TOO_LONG + 1; a++) {
         for (b = 0; b < a; b++) {
             EXPECT(strcmp(isis_gr_text(a), isis_gr_text(b)) != 0);
         }
@@ -323,6 +330,8 @@ static void eight_circuits(void) {
     s.count = ISIS_GR_MAX_CIRCUITS + 1;
     EXPECT(isis_gr_set_up(&g, &s).code == ISIS_GR_REFUSED_BAD_SETTING);
     EXPECT(isis_gr_gateway_words() == ISIS_GR_GATEWAY_WORDS && sizeof g == 8 * ISIS_GR_GATEWAY_WORDS);
+    EXPECT(isis_gr_frame_octets() == ISIS_GR_FRAME_OCTETS && sizeof(isis_gr_frames) == ISIS_GR_FRAME_OCTETS);
+    EXPECT(ISIS_GR_FRAME_OCTETS == ISIS_GR_MAX_CIRCUITS * ISIS_GR_MOST_OCTETS);
 }
 
 /* docs/RULES.md, "What the gateway holds": each setting out of its range, and the circuit that it is of; the first of two is named */
@@ -362,7 +371,7 @@ static void each_setting(void) {
 }
 
 int main(void) {
-    twelve_refusals();
+    fourteen_refusals();
     p2p_record();
     lan_records();
     restart_without_neighbours();

@@ -1,6 +1,17 @@
 /* What docs/INTEGRATION.md says under "Limits". */
 #include "neighbours.h"
 
+/* Chunks of 500 octets that make so many; the code of the last. */
+static uint32_t join(size_t octets) {
+    static const uint8_t padding[500] = {0};
+    static isis_gr_frames frames;
+    uint32_t code = isis_gr_begin_frame(&g, P2P, peer_mac);
+    for (; octets > 0 && code == ISIS_GR_OK; octets -= octets < 500 ? octets : 500) {
+        code = isis_gr_add_chunk(&g, &frames, P2P, padding, octets < 500 ? octets : 500);
+    }
+    return code;
+}
+
 int main(void) {
     uint8_t id[6], mac[6], n;
     start(ISIS_GR_MODE_RUNNING, 0, 3, 60);
@@ -22,6 +33,8 @@ int main(void) {
         lan((uint8_t)(1 + n % 2), id, 64, 0, 1);
         EXPECT(receive(LAN, mac).code == (n < 16 ? ISIS_GR_OK : ISIS_GR_REFUSED_NO_ROOM));
     }
+    EXPECT(join(1497) == ISIS_GR_OK && join(1500) == ISIS_GR_OK && join(1501) == ISIS_GR_REFUSED_TOO_LONG);
+    EXPECT(sizeof(isis_gr_gateway) == 5248 && sizeof(isis_gr_frames) == 12000);
     puts("the limits: as docs/INTEGRATION.md has them");
     return 0;
 }

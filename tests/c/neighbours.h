@@ -1,5 +1,5 @@
-/* The gateway of every_field.c, levels.c, limits.c, old_software.c and why.c, the hellos of its neighbours, and what they are answered. Circuit 1 is
-   P2P, circuit 2 a LAN; both have both levels, so that a mask of all hellos has bits 0, 2 and 3. */
+/* The gateway of chunks.c, every_field.c, levels.c, limits.c, old_software.c and why.c, the hellos of its neighbours, and what they are answered. Circuit 1
+   is P2P, circuit 2 a LAN; both have both levels, so that a mask of all hellos has bits 0, 2 and 3. */
 #ifndef NEIGHBOURS_H
 #define NEIGHBOURS_H
 

@@ -1,13 +1,15 @@
-/* Paints a stack and lets every call run on it, in every mode, with full rooms and frames of 1,492 octets of each kind: how deep it went, as the archive
-   has it and through the header, which adds what this compiler makes of it. Fails where a call went deeper than its limit, or never was done. */
+/* Paints a stack and lets every call run on it, in every mode, with full rooms and frames of 1,492 octets of each kind, whole and in chunks: how deep it
+   went, as the archive has it and through the header, which adds what this compiler makes of it. Fails where a call went deeper than its limit, or never was
+   done. */
 #define _XOPEN_SOURCE 700
 #include "isis_gr.h"
 
 #include "expect.h"
+#include "long_frames.h"
 
 #include <ucontext.h>
 
-enum { STACK = 1 << 14, PAINT = 0xA5, HEADER_LIMIT = 1024, LONGEST = 1492, ROUTERS = 17 };
+enum { STACK = 1 << 14, PAINT = 0xA5, HEADER_LIMIT = 1024, ROUTERS = 17 };
 
 static unsigned char stack[STACK];
 static ucontext_t caller, callee;
@@ -16,9 +18,10 @@ static unsigned char *at_call;
 /* ---- what the calls take */
 
 static isis_gr_gateway g, after;
+static isis_gr_frames frames;
 static isis_gr_settings settings;
-static uint8_t packed[ISIS_GR_SETTINGS_OCTETS], frame[LONGEST], reply[ISIS_GR_REPLY_OCTETS], source[6];
-static size_t length, reply_length;
+static uint8_t packed[ISIS_GR_SETTINGS_OCTETS], reply[ISIS_GR_REPLY_OCTETS];
+static size_t reply_length, chunk_length;
 static uint8_t circuit, level, question;
 static uint32_t now;
 static uint64_t found[2];
@@ -39,10 +42,15 @@ static volatile uint32_t code;
     }
 
 CALL(gateway_words, isis_gr_raw_gateway_words() - ISIS_GR_GATEWAY_WORDS, isis_gr_gateway_words() - ISIS_GR_GATEWAY_WORDS)
+CALL(frame_octets, isis_gr_raw_frame_octets() - ISIS_GR_FRAME_OCTETS, isis_gr_frame_octets() - ISIS_GR_FRAME_OCTETS)
 CALL(set_up, isis_gr_raw_set_up(ISIS_GR_LAYOUT, g.words, packed), isis_gr_set_up(&g, &settings).code)
 CALL(fault, isis_gr_raw_fault(ISIS_GR_LAYOUT, packed), isis_gr_fault(&settings).setting)
 CALL(receive, isis_gr_raw_receive(g.words, circuit, source, frame, length, reply, reply_length).answer,
      isis_gr_receive(&g, circuit, source, frame, length, reply, reply_length).code)
+CALL(begin_frame, isis_gr_raw_begin_frame(g.words, circuit, source), isis_gr_begin_frame(&g, circuit, source))
+CALL(add_chunk, isis_gr_raw_add_chunk(g.words, frames.octets, circuit, frame, chunk_length), isis_gr_add_chunk(&g, &frames, circuit, frame, chunk_length))
+CALL(end_frame, isis_gr_raw_end_frame(g.words, frames.octets, circuit, reply, reply_length).answer,
+     isis_gr_end_frame(&g, &frames, circuit, reply, reply_length).code)
 CALL(tick, isis_gr_raw_tick(g.words, now), isis_gr_tick(&g, now).code)
 CALL(release, isis_gr_raw_release(g.words, circuit), isis_gr_release(&g, circuit))
 CALL(clear, isis_gr_raw_clear(g.words, circuit), isis_gr_clear(&g, circuit))
@@ -59,7 +67,7 @@ CALL(why, /* done where question and call are known: 10 divided by 10 is 1 */
 
 /* a call and its limit */
 #define ROW(name, limit) {#name, limit, raw_##name, c_##name, 0, 0, 0, 0}
-enum { WORDS, SET_UP, FAULT, RECEIVE, TICK, RELEASE, CLEAR, CSNP, DATABASE, LOOK_UP, METRIC, FLAGS, WAITING, WHY, CALLS };
+enum { WORDS, OCTETS, SET_UP, FAULT, RECEIVE, BEGIN, CHUNK, END, TICK, RELEASE, CLEAR, CSNP, DATABASE, LOOK_UP, METRIC, FLAGS, WAITING, WHY, CALLS };
 
 static struct {
     const char *name;
@@ -68,8 +76,9 @@ static struct {
     size_t most, most_through;
     unsigned inputs, done;
 } calls[CALLS] = {
-    ROW(gateway_words, 16), ROW(set_up, 64), ROW(fault, 32), ROW(receive, 320), ROW(tick, 144), ROW(release, 64), ROW(clear, 16),
-    ROW(csnp_complete, 96), ROW(database_complete, 96), ROW(look_up, 64), ROW(link_metric, 16), ROW(next_hello_flags, 16), ROW(waiting_t1s, 16), ROW(why, 800),
+    ROW(gateway_words, 16), ROW(frame_octets, 16), ROW(set_up, 64), ROW(fault, 32), ROW(receive, 320), ROW(begin_frame, 16), ROW(add_chunk, 64),
+    ROW(end_frame, 512), ROW(tick, 144), ROW(release, 64), ROW(clear, 16), ROW(csnp_complete, 96), ROW(database_complete, 96), ROW(look_up, 64),
+    ROW(link_metric, 16), ROW(next_hello_flags, 16), ROW(waiting_t1s, 16), ROW(why, 800),
 };
 
 static size_t depth(void (*what)(void)) {
@@ -113,76 +122,40 @@ static void ask_why(uint8_t what, uint8_t which) {
 
 /* ---- frames */
 
-/* from the router of a number, which is its System ID and its MAC */
-static void header(uint8_t type, uint8_t router) {
-    memset(frame, 0, sizeof frame);
-    length = type == 17 ? 20 : 27;
-    frame[0] = 0x83;
-    frame[1] = (uint8_t)length;
-    frame[2] = 1;
-    frame[4] = type;
-    frame[5] = 1;
-    frame[8] = 3;
-    frame[14] = router;
-    frame[16] = 27;
-    frame[19] = 64;
-    memset(source, 0, 6);
-    source[0] = 2;
-    source[5] = router;
-}
-
-static void tlv(uint8_t type, size_t n, const uint8_t *value) {
-    frame[length] = type;
-    frame[length + 1] = (uint8_t)n;
-    if (value) {
-        memcpy(frame + length + 2, value, n);
-    } else {
-        memset(frame + length + 2, 7, n);
-    }
-    length += 2 + n;
-}
-
-static void seal(void) {
-    frame[17] = (uint8_t)(length >> 8);
-    frame[18] = (uint8_t)length;
-}
-
-/* A Restart TLV of 9 octets with these flags, or none; it names us, as RA asks on a LAN. */
-static void restart(unsigned flags) {
-    const uint8_t value[9] = {(uint8_t)flags, 0, 20, 0, 0, 0, 0, 0, 1};
-    if (flags < 256) {
-        tlv(211, sizeof value, value);
-    }
-}
-
-static void reverse_metric(void) {
-    const uint8_t value[5] = {2, 0, 0, 5, 0};
-    tlv(16, sizeof value, value);
-}
-
-/* The rest of the 1,492 octets: TLVs of a type, as long as multiples of `unit` allow; or none, but for what is left. */
-static void fill(uint8_t type, size_t unit) {
-    while (length + 2 + unit <= LONGEST) {
-        size_t most = (LONGEST - length - 2) / unit * unit, part = 255 / unit * unit;
-        tlv(type, most < part ? most : part, NULL);
-    }
-    if (length + 2 <= LONGEST) {
-        tlv(8, LONGEST - length - 2, NULL);
-    }
-}
-
-/* Empty TLVs up to what must stand last. */
-static void empty_up_to(size_t last) {
-    while (length + 2 <= LONGEST - last) {
-        tlv(8, 0, NULL);
-    }
+/* The end of the frame in chunks, and the frame whole, from the same memory, which is then as the second left it. The answer is the code of both. */
+static uint32_t both(void) {
+    static isis_gr_gateway first;
+    uint32_t ended;
+    first = g;
+    isis_gr_begin_frame(&g, circuit, source);
+    isis_gr_add_chunk(&g, &frames, circuit, frame, length);
+    ended = paint(END);
+    g = first;
+    EXPECT(paint(RECEIVE) == ended);
+    return ended;
 }
 
 static void received(void) {
     seal();
     reply_length = sizeof reply;
     ask_why(ISIS_GR_WHY_NO_CSNPS, ISIS_GR_CALL_RECEIVE);
-    paint(RECEIVE);
+    both();
+}
+
+/* Chunks and ends where no frame is begun; begins; chunks of no octet, of 300, 600 and, too long by then, more. */
+static void hand_over(void) {
+    for (circuit = 0; circuit <= ISIS_GR_MAX_CIRCUITS + 1; circuit++) {
+        chunk_length = 0;
+        paint(CHUNK);
+        paint(END);
+        paint(BEGIN);
+        for (; chunk_length <= sizeof frame; chunk_length += 300) {
+            paint(CHUNK);
+        }
+        paint(END);
+        paint(BEGIN);
+    }
+    paint(OCTETS);
 }
 
 /* Every shape of a frame with these flags, from a router: short and of 1,492 octets, what is read first and what is read last. */
@@ -285,22 +258,22 @@ static void refused(void) {
     tlv(240, sizeof another, another);
     seal();
     reply_length = sizeof reply;
-    EXPECT(paint(RECEIVE) == 8);
+    EXPECT(both() == 8);
     frame[14] = 1;
-    EXPECT(paint(RECEIVE) == 7);
+    EXPECT(both() == 7);
     tlv(211, 0, request);
     seal();
-    EXPECT(paint(RECEIVE) == 6);
+    EXPECT(both() == 6);
     frame[length - 1] = 1;
-    EXPECT(paint(RECEIVE) == 5);
+    EXPECT(both() == 5);
     frame[18]++;
-    EXPECT(paint(RECEIVE) == 4);
+    EXPECT(both() == 4);
     frame[4] = 15;
-    EXPECT(paint(RECEIVE) == 3);
+    EXPECT(both() == 3);
     reply_length--;
-    EXPECT(paint(RECEIVE) == 2);
+    EXPECT(both() == 2);
     circuit = ISIS_GR_MAX_CIRCUITS + 1;
-    EXPECT(paint(RECEIVE) == 1);
+    EXPECT(both() == 1);
     settings.circuits[ISIS_GR_MAX_CIRCUITS - 1].priority = 128;
     isis_gr_put_settings(packed, &settings);
     EXPECT(paint(FAULT) == ISIS_GR_SETTING_PRIORITY);
@@ -357,6 +330,7 @@ static void run(uint8_t mode) {
     start(mode);
     fill_rooms();
     ask();
+    hand_over();
     pass(70);
     now--;
     EXPECT(paint(TICK) == 10);

@@ -284,13 +284,14 @@ static void refusals(void) {
 
 /* ---- every call, and numbers that are none */
 
-/* a restart, in which the notices change the gateway */
+/* a restart, in which the notices change the gateway; an unfinished frame stands on either circuit, before and after */
 static void every_call(void) {
     uint8_t q;
     isis_gr_call call;
     start(ISIS_GR_MODE_RESTARTING, 100, 3, 60);
     p2p(HELLO_UP, HELLO_RA, 20);
     EXPECT(receive(P2P, peer_mac).after == ISIS_GR_RECORD_UP);
+    EXPECT(isis_gr_begin_frame(&g, P2P, peer_mac) == ISIS_GR_OK && isis_gr_begin_frame(&g, LAN, third_mac) == ISIS_GR_OK);
     for (q = ISIS_GR_WHY_NOT_ADVERTISED; q <= ISIS_GR_WHY_NO_CSNPS; q++) { /* the peer is advertised and stays: not so, of each */
         told(of_peer(q, on(ISIS_GR_CALL_CSNP_COMPLETE, P2P, 1), P2P), ISIS_GR_REASON_NOT_SO, 0, 0);
         EXPECT(memcmp(&after, &g, sizeof g) != 0);
