@@ -7,7 +7,7 @@ fn main() {
     let root = PathBuf::from(std::env::var_os("CARGO_MANIFEST_DIR").expect("cargo sets it")).join("../..");
     let folder = std::env::var_os("ISIS_GR_LIB_DIR").map(PathBuf::from).unwrap_or_else(|| root.join("target/staticlib"));
     println!("cargo:rustc-link-search=native={}", folder.display());
-    for archive in ["isis_gr", "isis_gr_why"] {
+    for archive in ["isis_gr", "isis_gr_chunks", "isis_gr_why"] {
         println!("cargo:rerun-if-changed={}", folder.join(format!("lib{archive}.a")).display());
         println!("cargo:rustc-link-lib=static={archive}");
     }
@@ -20,10 +20,15 @@ fn main() {
         line.split_whitespace().nth(2).expect("a number follows").trim_end_matches('u').parse().expect("it is a number")
     };
     let sizes = format!(
-        "/// The words of a gateway.\npub const GATEWAY_WORDS: usize = {};\n\n/// The octets of the settings.\npub const SETTINGS_OCTETS: usize = {};\n\n\
+        "/// The words of a gateway.\npub const GATEWAY_WORDS: usize = {};\n\n\
+         /// The octets of a memory for frames.\npub const FRAME_OCTETS: usize = {};\n\n\
+         /// The most octets of an unfinished frame.\npub const MOST_OCTETS: usize = {};\n\n\
+         /// The octets of the settings.\npub const SETTINGS_OCTETS: usize = {};\n\n\
          /// The most circuits of a gateway.\npub const CIRCUITS: usize = {};\n\n\
-         /// The layout of settings and answers that the header has.\npub const LAYOUT: u32 = {};\n",
+         /// The layout of settings, answers and memory that the header has.\npub const LAYOUT: u32 = {};\n",
         size("GATEWAY_WORDS"),
+        size("FRAME_OCTETS"),
+        size("MOST_OCTETS"),
         size("SETTINGS_OCTETS"),
         size("MAX_CIRCUITS"),
         size("LAYOUT")

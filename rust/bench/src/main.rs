@@ -6,9 +6,10 @@ mod report;
 mod shapes;
 
 use isis_gr_reference::{Kind, Levels, Mode, Settings};
-use measure::{expiring, look_up, receive, set_up, tick, Both, Pair, Shape};
+use measure::{expiring, in_chunks, in_chunks_or_whole, look_up, receive, set_up, tick, Both, Pair, Shape};
 use report::Line;
-use shapes::{empty, far, first_two, full, lan, last_four, last_octet, listed, lists, p2p, settings, tlv, with, OWN, SOURCE, WHOLE};
+use shapes::{empty, far, first_two, full, full_to_the_last, lan, last_four, last_octet, listed, lists, p2p, settings, tlv, with};
+use shapes::{OWN, SOURCE, WHOLE};
 use std::io::{Error, Result};
 use std::process::Command;
 
@@ -63,6 +64,15 @@ fn short_frames() -> Vec<Shape> {
     ]
 }
 
+/// A frame of 1,492 octets: 23 chunks of 64 octets, and one of 20.
+fn chunks() -> Vec<Shape> {
+    let (frame, name) = (full_to_the_last(), "begin, 24 chunks of 64 octets, end");
+    vec![
+        in_chunks(name, Both::new(), 2, SOURCE, &frame),
+        in_chunks_or_whole(&format!("{name}, against the archive's receive"), Both::new(), 2, SOURCE, &frame),
+    ]
+}
+
 fn refusals() -> Vec<Shape> {
     let plain = p2p(&[0], &[]);
     let edited = |at: usize, octet: u8| {
@@ -112,7 +122,7 @@ fn others() -> Vec<Shape> {
 }
 
 fn shapes() -> Vec<Shape> {
-    [long_lists(), long_walks(), short_frames(), refusals(), ticks(), others()].into_iter().flatten().collect()
+    [long_lists(), long_walks(), short_frames(), chunks(), refusals(), ticks(), others()].into_iter().flatten().collect()
 }
 
 /// A round: a line a shape, its name and the nanoseconds of both.

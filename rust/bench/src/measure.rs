@@ -1,11 +1,13 @@
 //! One shape measured: the archive and the reference in turns, and of each the least of many batches. Both are brought to the same state, and compared,
 //! by the trait that they share; what is measured is the archive as C calls it, whose answer is the word that it returns.
 use crate::shapes::{lan, listed, settings};
+use isis_gr::{Received, Refusal};
+use isis_gr_differential::memory::{Octets, Words};
 use isis_gr_differential::proved::{self, Proved};
 use isis_gr_differential::reference::Reference;
 use isis_gr_differential::side::Side;
-use isis_gr_differential::words::Words;
 use isis_gr_reference::{Gateway, Mac, Settings};
+use isis_gr_sys::{isis_gr_raw_add_chunk, isis_gr_raw_begin_frame, isis_gr_raw_end_frame};
 use isis_gr_sys::{isis_gr_raw_look_up, isis_gr_raw_receive, isis_gr_raw_tick};
 use std::hint::black_box;
 use std::time::Instant;
@@ -105,6 +107,76 @@ pub fn receive(name: &str, both: Both, circuit: u8, source: Mac, frame: &[u8], r
         )
     };
     Shape { name: format!("{name}{answer}"), round: Box::new(round) }
+}
+
+/// The octets of a chunk.
+const CHUNK: usize = 64;
+
+/// A frame handed over to the archive: its begin, its chunks and its end.
+fn hand_over(words: &mut Words, frames: &mut Octets, circuit: u8, source: Mac, frame: &[u8], reply: &mut [u8]) {
+    let (gateway, octets) = (words.as_mut_ptr(), frames.as_mut_ptr());
+    // SAFETY: every pointer is of a live buffer, and goes with its length or has the size that the archive reads or writes.
+    unsafe {
+        black_box(isis_gr_raw_begin_frame(gateway, circuit, source.as_ptr()));
+        for chunk in frame.chunks(CHUNK) {
+            black_box(isis_gr_raw_add_chunk(gateway, octets, circuit, chunk.as_ptr(), chunk.len()));
+        }
+        black_box(isis_gr_raw_end_frame(gateway, octets, circuit, reply.as_mut_ptr(), reply.len()));
+    }
+}
+
+/// The same on either side, for its answer.
+fn handed(side: &mut impl Side, circuit: u8, source: Mac, frame: &[u8], reply: &mut [u8]) -> Result<Received, Refusal> {
+    side.begin_frame(circuit, source)?;
+    frame.chunks(CHUNK).try_for_each(|chunk| side.add_chunk(circuit, chunk))?;
+    side.end_frame(circuit, reply)
+}
+
+/// A frame from its begin to its end, in chunks of 64 octets, the same again and again.
+pub fn in_chunks(name: &str, both: Both, circuit: u8, source: Mac, frame: &[u8]) -> Shape {
+    let Both { mut proved, mut reference } = both;
+    let (frame, mut x, mut y) = (frame.to_vec(), [0; 11], [0; 11]);
+    let a = handed(&mut proved, circuit, source, &frame, &mut x);
+    assert_eq!((a, x), (handed(&mut reference, circuit, source, &frame, &mut y), y), "{name}");
+    assert!(a.is_ok(), "{name}");
+    let (mut words, mut frames, Reference(mut reference)) = (*proved.words(), Box::new(*proved.octets()), reference);
+    let round = move || {
+        turns(
+            || hand_over(&mut words, &mut frames, circuit, black_box(source), black_box(&frame), &mut x),
+            || {
+                let (source, frame) = (black_box(source), black_box(&frame[..]));
+                black_box(reference.begin_frame(circuit, source)).ok();
+                for chunk in frame.chunks(CHUNK) {
+                    black_box(reference.add_chunk(circuit, chunk)).ok();
+                }
+                black_box(reference.end_frame(circuit, &mut y)).ok();
+            },
+        )
+    };
+    Shape { name: name.to_string(), round: Box::new(round) }
+}
+
+/// The same against the archive's own receive of that frame, which is the second of the pair.
+pub fn in_chunks_or_whole(name: &str, both: Both, circuit: u8, source: Mac, frame: &[u8]) -> Shape {
+    let Both { mut proved, .. } = both;
+    let (frame, mut x, mut y, mut twin) = (frame.to_vec(), [0; 11], [0; 11], proved.clone());
+    let a = handed(&mut proved, circuit, source, &frame, &mut x);
+    assert_eq!((a, x), (twin.receive(circuit, source, &frame, &mut y), y), "{name}");
+    assert!(a.is_ok(), "{name}");
+    let (mut words, mut frames, mut whole) = (*proved.words(), Box::new(*proved.octets()), *twin.words());
+    let round = move || {
+        turns(
+            || hand_over(&mut words, &mut frames, circuit, black_box(source), black_box(&frame), &mut x),
+            || {
+                let (source, frame) = (black_box(source), black_box(&frame[..]));
+                // SAFETY: every pointer is of a live buffer, and goes with its length.
+                black_box(unsafe {
+                    isis_gr_raw_receive(whole.as_mut_ptr(), circuit, source.as_ptr(), frame.as_ptr(), frame.len(), y.as_mut_ptr(), y.len())
+                });
+            },
+        )
+    };
+    Shape { name: name.to_string(), round: Box::new(round) }
 }
 
 fn tick_once(words: &mut Words, clock: u32) -> u64 {

@@ -69,6 +69,12 @@ pub fn full(like: impl Fn(u16) -> Mac, last: Option<Mac>) -> Vec<u8> {
     lan(1, &lists(&macs, 42))
 }
 
+/// A LAN hello of 1,492 octets: 241 neighbours that share nothing with us, and a TLV of padding.
+pub fn full_to_the_last() -> Vec<u8> {
+    let macs: Vec<Mac> = (0..241).map(far).collect();
+    lan(1, &[lists(&macs, 42), tlv(8, &[0; 5])].concat())
+}
+
 /// A neighbour that shares nothing with us, by its number.
 pub fn far(n: u16) -> Mac {
     [4, 1, (n >> 8) as u8, n as u8, n as u8 ^ 0x55, (n % 101) as u8]

@@ -1,14 +1,21 @@
 //! Random settings and random calls.
 use crate::frames::{frame, mac, system, Meant, MACS, OWN, SYSTEMS};
+use crate::radio::Radio;
 use crate::random::Random;
 use isis_gr::Question;
 use isis_gr_reference::{Asked, CircuitSettings, Kind, Levels, Mac, Mode, Settings, SystemId};
 
-/// A call of document 01, setup apart.
+/// A call of documents 01 and 02, setup and why apart.
 #[derive(Clone, Debug, PartialEq, Eq)]
 pub enum Call {
     /// Receive: circuit, source MAC, frame, octets of the reply buffer; and what was meant.
     Receive(u8, Mac, Vec<u8>, usize, Meant),
+    /// Begin a frame that comes in chunks: circuit, source MAC.
+    Begin(u8, Mac),
+    /// A chunk: circuit, octets.
+    Chunk(u8, Vec<u8>),
+    /// End it: circuit, octets of the reply buffer; and the frame that was meant, with what was meant by it.
+    End(u8, usize, Vec<u8>, Meant),
     /// Tick.
     Tick(u32),
     /// Release.
@@ -31,9 +38,22 @@ pub enum Call {
     Waiting,
 }
 
-/// The clock that the next tick is drawn from.
-#[derive(Clone, Copy, Debug)]
-pub struct Now(pub u32);
+/// What the next call is drawn from.
+#[derive(Clone, Debug)]
+pub struct Now {
+    /// The clock.
+    pub clock: u32,
+    /// The frames that come in chunks, and how many in 100 of the calls that bring frames are theirs.
+    radio: Radio,
+    in_chunks: u64,
+}
+
+impl Now {
+    /// At this clock, and no frame has begun. In a quarter of all runs most frames come in chunks.
+    pub fn new(r: &mut Random, clock: u32) -> Now {
+        Now { clock, radio: Radio::default(), in_chunks: if r.chance(25) { 80 } else { 15 } }
+    }
+}
 
 /// A circuit; a LAN has mostly both levels, so that its T1s are two.
 fn circuit(r: &mut Random) -> CircuitSettings {
@@ -129,6 +149,9 @@ pub fn receive(r: &mut Random, s: &Settings, number: u8) -> Call {
 pub fn name(call: &Call) -> &'static str {
     match call {
         Call::Receive(..) => "receive",
+        Call::Begin(..) => "begin",
+        Call::Chunk(..) => "chunk",
+        Call::End(..) => "end",
         Call::Tick(_) => "tick",
         Call::Release(_) => "release",
         Call::Clear(_) => "clear",
@@ -146,23 +169,29 @@ pub fn name(call: &Call) -> &'static str {
 pub fn named(call: &Call) -> Option<u8> {
     match *call {
         Call::Receive(n, ..) | Call::Release(n) | Call::Clear(n) | Call::Csnp(n, _) | Call::Metric(n) | Call::Flags(n, _) => Some(n),
-        Call::LookUpP2p(n, _) | Call::LookUpLan(n, ..) => Some(n),
+        Call::LookUpP2p(n, _) | Call::LookUpLan(n, ..) | Call::Begin(n, _) | Call::Chunk(n, _) | Call::End(n, ..) => Some(n),
         Call::Tick(_) | Call::Database(_) | Call::Waiting => None,
     }
+}
+
+/// Whether a call hands a frame over in chunks: a begin, a chunk or an end.
+pub fn is_piece(call: &Call) -> bool {
+    matches!(call, Call::Begin(..) | Call::Chunk(..) | Call::End(..))
 }
 
 /// Any call. The clock moves by small steps, sometimes back.
 pub fn call(r: &mut Random, s: &Settings, now: &mut Now) -> Call {
     let n = number(r, s);
     match r.below(100) {
+        0..=66 if r.chance(now.in_chunks) => now.radio.call(r, s, n),
         0..=66 => receive(r, s, n),
         67..=78 => {
             let step = r.pick(&[0, 0, 1, 1, 1, 2, 4, 30]);
             if r.chance(3) {
-                return Call::Tick(now.0.saturating_sub(1 + r.below(3) as u32));
+                return Call::Tick(now.clock.saturating_sub(1 + r.below(3) as u32));
             }
-            now.0 = now.0.saturating_add(step);
-            Call::Tick(now.0)
+            now.clock = now.clock.saturating_add(step);
+            Call::Tick(now.clock)
         }
         79 => Call::Release(n),
         80 => Call::Clear(n),

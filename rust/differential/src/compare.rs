@@ -1,9 +1,11 @@
 //! One random run of both: a difference panics with the seed and the call.
-use crate::calls::{call, mode, name, named, question, settings, spoilt, Call, Now};
+use crate::calls::{call, is_piece, mode, name, named, question, settings, spoilt, Call, Now};
+use crate::chunks::{Chunks, Handed};
 use crate::coverage::Coverage;
 use crate::frames::{mac, system, Meant, MACS, SYSTEMS};
 use crate::levels::ByLevel;
 use crate::marks::{self, is_up, Took};
+use crate::memory;
 use crate::proved::Proved;
 use crate::random::Random;
 use crate::reference::Reference;
@@ -13,7 +15,7 @@ use crate::watch::{timers_of, Seen, Watch};
 use crate::why::{self, Asking};
 use isis_gr::{Ack, Flags, Freed, Hellos, Overload, Question, Received, Record, Refusal, Timers};
 use isis_gr_reference::{Asked, Kind, Mac, Mode, Settings, MAX_CIRCUITS};
-use isis_gr_sys::GATEWAY_WORDS;
+use isis_gr_sys::{FRAME_OCTETS, GATEWAY_WORDS};
 
 /// Both gateways, and the settings that they came from.
 pub struct Pair {
@@ -23,6 +25,9 @@ pub struct Pair {
     watch: Watch,
     start: Start,
     levels: ByLevel,
+    chunks: Chunks,
+    /// the mode is Running
+    running: bool,
 }
 
 fn timers(c: &mut Coverage, t: Timers) {
@@ -52,7 +57,7 @@ impl Pair {
     pub fn new(r: &mut Random, c: &mut Coverage, mode: Mode) -> Pair {
         let settings = settings(r, mode);
         let filling = r.pick(&[0, u64::MAX, 0x0101_0101_0101_0101, 5_283_647_409_863_405_617]);
-        let mut proved = Proved::of_words([filling; GATEWAY_WORDS]);
+        let mut proved = Proved::of_memory([filling; GATEWAY_WORDS], [filling as u8; FRAME_OCTETS]);
         let (mut reference, hellos) = Reference::new(&settings).expect("in range");
         let bad = spoilt(r, settings.clone());
         let before = (proved.clone(), reference.clone());
@@ -63,7 +68,10 @@ impl Pair {
         assert_eq!(proved.set_up(&settings), Ok(hellos));
         let watch = Watch::new(&settings, hellos);
         let (start, levels) = (Start::new(&settings), ByLevel::new(c, &settings, &watch, hellos));
-        Pair { proved, reference, settings, watch, start, levels }
+        let running = settings.mode == Mode::Running;
+        let pair = Pair { proved, reference, settings, watch, start, levels, chunks: Chunks::default(), running };
+        pair.look_at_frames();
+        pair
     }
 
     /// Sets both up anew over what they hold, at this clock.
@@ -74,6 +82,9 @@ impl Pair {
         self.watch = Watch::new(&self.settings, hellos);
         self.start = Start::new(&self.settings);
         self.levels = ByLevel::new(c, &self.settings, &self.watch, hellos);
+        self.chunks.set_up(c);
+        self.running = self.settings.mode == Mode::Running;
+        self.look_at_frames();
     }
 
     /// The record of the key that a frame has.
@@ -105,6 +116,21 @@ impl Pair {
             }
         }
         assert_eq!(self.proved.waiting(), self.reference.waiting());
+    }
+
+    /// Every unfinished frame.
+    fn look_at_frames(&self) {
+        for circuit in 1..=MAX_CIRCUITS as u8 {
+            assert_eq!(self.proved.unfinished(circuit), self.reference.unfinished(circuit), "unfinished frame on {circuit}");
+        }
+    }
+
+    /// The receive that an end is: of the begin's MAC and the octets joined. What was meant holds of them where they are the frame that was meant.
+    fn as_receive(&self, call: &Call) -> Option<Call> {
+        let Call::End(n, room, ref frame, meant) = *call else { return None };
+        let (source, octets) = self.reference.unfinished(n)?;
+        let meant = Meant { damaged: meant.damaged || octets != frame, ..meant };
+        Some(Call::Receive(n, source, octets.to_vec(), room, meant))
     }
 
     fn is_lan(&self, n: u8) -> bool {
@@ -195,39 +221,58 @@ impl Pair {
         ended
     }
 
-    /// One call on both.
+    /// One call on both. An end counts as the receive that it is.
     fn take(&mut self, c: &mut Coverage, call: &Call) -> (Outcome, bool) {
         let before = self.proved.clone();
         let t1s = self.watch.t1s;
-        let stood = match *call {
+        let whole = self.as_receive(call);
+        let counted = whole.as_ref().unwrap_or(call);
+        let stood = match *counted {
             Call::Receive(n, source, _, _, meant) => self.look(n, meant, source),
             _ => None,
         };
         let outcome = call.on(&mut self.proved);
         assert_eq!(outcome, call.on(&mut self.reference));
         let answer = outcome.answer;
+        let code = answer.err().map_or(0, Refusal::number);
+        memory::check(call, code, (before.words(), before.octets()), (self.proved.words(), self.proved.octets()));
+        self.look_at_frames();
+        if let Some(whole) = &whole {
+            self.ends_as(&before, whole, &outcome);
+        }
         match answer {
             Err(why) => {
-                assert!(self.proved == before, "a refusal changed the memory");
                 assert!(outcome.reply.iter().all(|octet| *octet == UNTOUCHED), "a refusal wrote the reply");
                 refused(c, call, why);
             }
-            Ok(answer) => self.count(c, call, answer, stood),
+            Ok(answer) => self.count(c, counted, answer, stood),
         }
+        let (settings, clock, running) = (&self.settings, self.watch.clock, self.running);
+        self.chunks.count(c, &Handed { call, answer, before: &before, settings, clock, running });
         let timers = answer.map_or(Timers::Idle, |answer| {
-            self.watch.follow(call, answer, self.proved.waiting());
+            self.watch.follow(counted, answer, self.proved.waiting());
             timers_of(answer)
         });
-        let seen = Seen { call, answer, stood, before: t1s, watch: &self.watch };
+        let seen = Seen { call: counted, answer, stood, before: t1s, watch: &self.watch };
         self.start.count(c, &seen);
         self.levels.count(c, &seen);
         let fewer = self.watch.t1s.running.count_ones() < t1s.running.count_ones();
-        let acknowledged = matches!(call, Call::Receive(.., m) if !m.damaged && m.acknowledges);
+        let acknowledged = matches!(counted, Call::Receive(.., m) if !m.damaged && m.acknowledges);
         let keeps = matches!(timers, Timers::GoOn { overload: Overload::Keep, .. });
         c.hit_if(fewer && acknowledged, "T1 stops by an acknowledgement");
         c.hit_if(fewer && matches!(call, Call::Csnp(..)), "T1 stops by a CSNP set");
         c.hit_if(fewer && keeps && matches!(call, Call::Tick(_)), "T1 stops at its last expiry");
-        (outcome, matches!(timers, Timers::Ended { .. }))
+        let ended = matches!(timers, Timers::Ended { .. });
+        self.running |= ended;
+        (outcome, ended)
+    }
+
+    /// "The answer, state and reply equal those of receive on the joined octets": the receive, made on the memory before the end. The frame is dropped.
+    fn ends_as(&self, before: &Proved, whole: &Call, outcome: &Outcome) {
+        let mut twin = before.clone();
+        assert_eq!(whole.on(&mut twin), *outcome, "receive on the joined octets");
+        assert!(memory::own(twin.words()) == memory::own(self.proved.words()), "an end leaves another gateway than receive");
+        assert!(named(whole).is_some_and(|n| self.proved.unfinished(n).is_none()), "an end left its frame");
     }
 }
 
@@ -237,14 +282,17 @@ pub fn run(seed: u64, calls: u64) -> Coverage {
     let mut r = Random::new(seed);
     let mode = mode(&mut r);
     let mut pair = Pair::new(&mut r, &mut c, mode);
-    let (mut now, mut asking) = (Now(pair.settings.clock), Random::new(seed ^ 0xA5C));
+    let (mut now, mut asking) = (Now::new(&mut r, pair.settings.clock), Random::new(seed ^ 0xA5C));
     for i in 0..calls {
         let next = call(&mut r, &pair.settings, &mut now);
         let stands = |at: Asked| pair.proved.look_up_lan(at.circuit, at.level, at.system, at.mac).is_ok_and(|found| found.is_some());
-        let asked = question(&mut asking, &next, stands);
-        let outcome = std::panic::catch_unwind(std::panic::AssertUnwindSafe(|| pair.step(&mut c, &next, asked)));
+        let asked = (!is_piece(&next)).then(|| question(&mut asking, &next, stands));
+        let outcome = std::panic::catch_unwind(std::panic::AssertUnwindSafe(|| match asked {
+            Some(asked) => pair.step(&mut c, &next, asked),
+            None => pair.take(&mut c, &next).1,
+        }));
         match outcome {
-            Ok(ended) if ended && r.chance(80) => pair.set_up_again(&mut c, now.0),
+            Ok(ended) if ended && r.chance(80) => pair.set_up_again(&mut c, now.clock),
             Ok(_) => {}
             Err(why) => {
                 eprintln!("seed {seed}, call {i}: {next:02x?} after {:?}", pair.settings);

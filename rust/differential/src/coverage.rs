@@ -1,4 +1,5 @@
 //! How often each branch of the definitions was reached. A branch that was never reached is a failure of the test.
+use crate::chunks;
 use crate::levels;
 use crate::marks;
 use crate::why;
@@ -99,6 +100,7 @@ fn branches() -> Vec<String> {
     all.extend(marks::branches());
     all.extend(levels::branches());
     all.extend(why::branches());
+    all.extend(chunks::branches());
     all
 }
 

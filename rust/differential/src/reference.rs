@@ -156,6 +156,22 @@ impl Side for Reference {
         self.0.receive(circuit, source, frame, reply).map(received).map_err(refusal)
     }
 
+    fn begin_frame(&mut self, circuit: u8, source: Mac) -> Result<(), Refusal> {
+        self.0.begin_frame(circuit, source).map_err(refusal)
+    }
+
+    fn add_chunk(&mut self, circuit: u8, octets: &[u8]) -> Result<(), Refusal> {
+        self.0.add_chunk(circuit, octets).map_err(refusal)
+    }
+
+    fn end_frame(&mut self, circuit: u8, reply: &mut [u8]) -> Result<Received, Refusal> {
+        self.0.end_frame(circuit, reply).map(received).map_err(refusal)
+    }
+
+    fn unfinished(&self, circuit: u8) -> Option<(Mac, &[u8])> {
+        self.0.unfinished(circuit)
+    }
+
     fn tick(&mut self, clock: u32) -> Result<Ticked, Refusal> {
         let theirs::Ticked { marks, hellos: ordered, timers: outcome } = self.0.tick(clock).map_err(refusal)?;
         Ok(Ticked { lost: circuits(marks), hellos: hellos(ordered), timers: timers(outcome) })
@@ -211,6 +227,7 @@ impl Side for Reference {
             Call::Csnp(n, level) => theirs::Call::CsnpComplete(n, level),
             Call::Database(level) => theirs::Call::DatabaseComplete(level),
             Call::LookUpP2p(..) | Call::LookUpLan(..) | Call::Metric(_) | Call::Flags(..) | Call::Waiting => theirs::Call::Asks,
+            Call::Begin(..) | Call::Chunk(..) | Call::End(..) => panic!("{call:02x?} is not asked about"),
         };
         let (named, after) = self.0.why(question(asks), made, asked);
         Explained { reason: reason(named), after: Reference(after), reply }

@@ -17,6 +17,14 @@ pub trait Side: Sized {
     fn set_up(&mut self, settings: &Settings) -> Result<Hellos, Refusal>;
     /// Receive.
     fn receive(&mut self, circuit: u8, source: Mac, frame: &[u8], reply: &mut [u8]) -> Result<Received, Refusal>;
+    /// Begin a frame that comes in chunks.
+    fn begin_frame(&mut self, circuit: u8, source: Mac) -> Result<(), Refusal>;
+    /// A chunk.
+    fn add_chunk(&mut self, circuit: u8, octets: &[u8]) -> Result<(), Refusal>;
+    /// End it.
+    fn end_frame(&mut self, circuit: u8, reply: &mut [u8]) -> Result<Received, Refusal>;
+    /// A circuit's unfinished frame: its source MAC, and the octets joined so far.
+    fn unfinished(&self, circuit: u8) -> Option<(Mac, &[u8])>;
     /// Tick.
     fn tick(&mut self, clock: u32) -> Result<Ticked, Refusal>;
     /// Release.
@@ -55,11 +63,11 @@ pub struct Explained<S, R = Reason> {
 /// What a call that was not refused answers.
 #[derive(Clone, Copy, Debug, PartialEq, Eq)]
 pub enum Answer {
-    /// To receive.
+    /// To receive, and to an end.
     Received(Received),
     /// To tick.
     Ticked(Ticked),
-    /// To release and clear.
+    /// To release and clear, a begin and a chunk.
     Done,
     /// To the two notices.
     Timers(Timers),
@@ -90,6 +98,12 @@ impl Call {
             Call::Receive(n, source, ref frame, room, _) => {
                 reply = vec![UNTOUCHED; room];
                 side.receive(n, source, frame, &mut reply).map(Answer::Received)
+            }
+            Call::Begin(n, source) => side.begin_frame(n, source).map(|()| Answer::Done),
+            Call::Chunk(n, ref octets) => side.add_chunk(n, octets).map(|()| Answer::Done),
+            Call::End(n, room, ..) => {
+                reply = vec![UNTOUCHED; room];
+                side.end_frame(n, &mut reply).map(Answer::Received)
             }
             Call::Tick(clock) => side.tick(clock).map(Answer::Ticked),
             Call::Release(n) => side.release(n).map(|()| Answer::Done),

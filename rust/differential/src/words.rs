@@ -1,15 +1,14 @@
 //! The archive's words as they are, apart from the wrapper's reading of them: what include/isis_gr.h says of every word is checked on random calls. A refusal
-//! tells nothing but its number and changes no word; a call that asks changes none either; a number is one that the header knows; bits without
-//! a meaning are 0; what is not told is not written. Of why: the gateway before the call is not written, and a number that is none changes nothing.
-use crate::calls::{call, mode, question, settings, Call, Now};
+//! tells nothing but its number and changes no word, but that an end may drop its frame; a call that asks changes none either; a number is one that the
+//! header knows; bits without a meaning are 0; what is not told is not written. Of why: the gateway before the call is not written, and a number that is
+//! none changes nothing.
+use crate::calls::{call, is_piece, mode, question, settings, Call, Now};
+use crate::memory::{self, Octets, Words};
 use crate::random::Random;
 use crate::side::{Explained, UNTOUCHED};
 use isis_gr::{Line, Question, Reason, Refusal};
 use isis_gr_reference::{Asked, Kind, Mode, Settings};
 use isis_gr_sys::*;
-
-/// A gateway's words.
-pub type Words = [u64; GATEWAY_WORDS];
 
 /// What a record's words hold before a look-up.
 const BLANK: u64 = 0xEEEE_EEEE_EEEE_EEEE;
@@ -48,33 +47,46 @@ fn bits(word: u64, at: u32, count: u32) -> u64 {
 }
 
 /// The archive's function of a call, with its words checked.
-pub fn tell(words: &mut Words, call: &Call) -> Told {
+pub fn tell(words: &mut Words, octets: &mut Octets, call: &Call) -> Told {
     let before = *words;
-    let told = ask(words, call);
-    let asks = matches!(call, Call::LookUpP2p(..) | Call::LookUpLan(..) | Call::Metric(_) | Call::Flags(..) | Call::Waiting);
-    assert!(*words == before || !(asks || told.code() != 0), "a refusal or a question changed the memory");
+    let lent = if is_piece(call) { Some(*octets) } else { None };
+    let told = ask(words, octets, call);
+    memory::check(call, told.code(), (&before, lent.as_ref().unwrap_or(octets)), (words, octets));
     if told.code() == 0 {
         check(call, &told);
     } else {
-        assert!((1..=11).contains(&told.code()), "an unknown code");
+        let known = match call {
+            Call::Chunk(..) => [1, 13, 14].contains(&told.code()),
+            Call::End(..) => (1..=9).contains(&told.code()) || told.code() == 13,
+            _ => (1..=11).contains(&told.code()),
+        };
+        assert!(known, "an unknown code");
         assert_eq!((told.answer >> 8, told.change, told.record), (0, 0, [BLANK; 2]), "a refusal tells nothing else");
         assert!(is_untouched(&told.reply), "a refusal wrote the reply");
     }
     told
 }
 
-fn ask(words: &mut Words, call: &Call) -> Told {
-    let gateway = words.as_mut_ptr();
+fn ask(words: &mut Words, octets: &mut Octets, call: &Call) -> Told {
+    let (gateway, frames) = (words.as_mut_ptr(), octets.as_mut_ptr());
     let mut told = Told { answer: 0, change: 0, record: [BLANK; 2], reply: Vec::new() };
     let record = told.record.as_mut_ptr();
-    // SAFETY: the gateway's pointer is valid for its words, and each other one for the length beside it or the size that the archive reads or
-    // writes; no two of one call overlap.
+    // SAFETY: the gateway's pointer is valid for its words, that of the frames for its octets, and each other one for the length beside it or the size
+    // that the archive reads or writes; no two of one call overlap.
     told.answer = unsafe {
         match *call {
             Call::Receive(n, source, ref frame, room, _) => {
                 told.reply = vec![UNTOUCHED; room];
                 let reply = told.reply.as_mut_ptr();
                 let got = isis_gr_raw_receive(gateway, n, source.as_ptr(), frame.as_ptr(), frame.len(), reply, room);
+                told.change = got.change;
+                got.answer
+            }
+            Call::Begin(n, source) => u64::from(isis_gr_raw_begin_frame(gateway, n, source.as_ptr())),
+            Call::Chunk(n, ref chunk) => u64::from(isis_gr_raw_add_chunk(gateway, frames, n, chunk.as_ptr(), chunk.len())),
+            Call::End(n, room, ..) => {
+                told.reply = vec![UNTOUCHED; room];
+                let got = isis_gr_raw_end_frame(gateway, frames, n, told.reply.as_mut_ptr(), room);
                 told.change = got.change;
                 got.answer
             }
@@ -111,6 +123,7 @@ fn ask_why(words: &Words, question: u8, number: u8, call: &Call, asked: Asked) -
         Call::Csnp(circuit, at) | Call::Flags(circuit, at) => (n, level) = (circuit, at),
         Call::Database(at) => level = at,
         Call::Waiting => {}
+        Call::Begin(..) | Call::Chunk(..) | Call::End(..) => panic!("{call:02x?} is not asked about"),
     }
     let Asked { circuit, level: at, system, mac } = asked;
     let (frame, room) = (lent.as_ptr(), reply.len());
@@ -154,6 +167,7 @@ fn call_number(call: &Call) -> u8 {
         Call::Metric(_) => 7,
         Call::Flags(..) => 8,
         Call::Waiting => 9,
+        Call::Begin(..) | Call::Chunk(..) | Call::End(..) => panic!("{call:02x?} has no number"),
     }
 }
 
@@ -210,7 +224,7 @@ fn is_untouched(octets: &[u8]) -> bool {
 /// What the header says of the words of a call that was done.
 fn check(call: &Call, told: &Told) {
     let unused: &[(u32, u32)] = match call {
-        Call::Receive(..) => {
+        Call::Receive(..) | Call::End(..) => {
             check_received(told);
             &[(18, 6), (38, 2)]
         }
@@ -219,7 +233,7 @@ fn check(call: &Call, told: &Told) {
             assert!([0, RR, RR + SA].contains(&flags) && (hellos == 0) == (flags == 0), "the flags of ordered hellos");
             &[(38, 2), (48, 16)]
         }
-        Call::Release(_) | Call::Clear(_) => &[(8, 56)],
+        Call::Release(_) | Call::Clear(_) | Call::Begin(..) | Call::Chunk(..) => &[(8, 56)],
         Call::Csnp(..) | Call::Database(_) => &[(8, 24), (38, 26)],
         Call::LookUpP2p(..) | Call::LookUpLan(..) => {
             check_record(told);
@@ -236,7 +250,7 @@ fn check(call: &Call, told: &Told) {
             &[(24, 40)]
         }
     };
-    if matches!(call, Call::Receive(..) | Call::Tick(_) | Call::Csnp(..) | Call::Database(_)) {
+    if matches!(call, Call::Receive(..) | Call::End(..) | Call::Tick(_) | Call::Csnp(..) | Call::Database(_)) {
         assert!(told.bits(32, 2) < 3, "the restart");
         assert!(told.bits(32, 2) != 0 || told.bits(34, 4) == 0, "orders of timers that do not run");
     }
@@ -336,7 +350,7 @@ pub fn run(seed: u64, calls: u64) {
     let mode = mode(&mut r);
     let s = settings(&mut r, mode);
     let octets = packed(&s);
-    let mut words = [r.number(); GATEWAY_WORDS];
+    let (mut words, mut frames) = ([r.number(); GATEWAY_WORDS], [r.octet(); FRAME_OCTETS]);
     for _ in 0..8 {
         set_up(&mut words.clone(), &std::array::from_fn(|_| r.octet()));
         let mut near = octets;
@@ -347,11 +361,14 @@ pub fn run(seed: u64, calls: u64) {
         assert!(!set_up(&mut words.clone(), &near), "an unknown mode");
     }
     assert!(set_up(&mut words, &octets), "settings in range");
-    let (mut now, mut asking) = (Now(s.clock), Random::new(seed ^ 0xA5C));
+    assert!((1..=CIRCUITS as u8).all(|n| memory::unfinished(&words, &frames, n).is_none()), "setup begins no frame");
+    let (mut now, mut asking) = (Now::new(&mut r, s.clock), Random::new(seed ^ 0xA5C));
     for _ in 0..calls {
         let next = call(&mut r, &s, &mut now);
-        let (_, asked) = question(&mut asking, &next, |_| false);
-        check_unknown(&mut asking, &words, &next, asked);
-        check_places(hellos(&octets), &next, &tell(&mut words, &next));
+        if !is_piece(&next) {
+            let (_, asked) = question(&mut asking, &next, |_| false);
+            check_unknown(&mut asking, &words, &next, asked);
+        }
+        check_places(hellos(&octets), &next, &tell(&mut words, &mut frames, &next));
     }
 }

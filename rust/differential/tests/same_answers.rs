@@ -1,23 +1,34 @@
 //! A smaller run, for every check.
-use isis_gr_differential::{compare, coverage::Coverage, isolation, proved::Proved, reference::Reference, side::Side, words};
+use isis_gr_differential::{
+    compare,
+    coverage::Coverage,
+    isolation::{self, Ran},
+    proved::Proved,
+    reference::Reference,
+    side::Side,
+    words,
+};
 
 #[test]
 fn the_archive_answers_as_the_reference_and_every_branch_is_reached() {
     let mut all = Coverage::default();
-    for seed in 1..=1_000 {
+    for seed in 1..=1_500 {
         all.add(&compare::run(seed, 400));
     }
     assert!(all.missing().is_empty(), "never reached: {:?}", all.missing());
 }
 
 fn bad_neighbour_harms_itself_on<S: Side + Clone>() {
-    let (mut frames, mut stood) = (0, 0);
+    let (mut all, mut stood) = (Ran::default(), 0);
     for seed in 1..=500 {
-        let (its, stands) = isolation::run::<S>(seed, 200);
-        frames += its;
-        stood += u64::from(stands);
+        let ran = isolation::run::<S>(seed, 200);
+        all = Ran { frames: all.frames + ran.frames, pieces: all.pieces + ran.pieces, shared: all.shared + ran.shared, ..all };
+        stood += u64::from(ran.stands);
     }
-    assert!(frames > 10_000 && stood > 20, "{frames} frames, {stood} runs whose LAN's promise stood");
+    assert!(
+        all.frames > 10_000 && all.pieces > 5_000 && all.shared > 5_000 && stood > 20,
+        "{all:?}, {stood} runs whose LAN's promise stood"
+    );
 }
 
 #[test]

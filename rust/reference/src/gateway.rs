@@ -1,7 +1,8 @@
-//! The gateway and its calls (document 01, "What the gateway holds").
+//! The gateway and its calls (document 01, "What the gateway holds"; document 02).
 
 use crate::adjacency::{self, Own, Record};
 use crate::answers::{Change, Hellos, Received, Reply, ReplyKind, Ticked, TimerOutcome};
+use crate::chunks::Unfinished;
 use crate::frame::{self, Hello, Link, RESTART};
 use crate::metric;
 use crate::refusal::Refusal;
@@ -17,6 +18,7 @@ const REPLY_LENGTH: usize = 11;
 struct Circuit {
     settings: CircuitSettings,
     room: Room,
+    unfinished: Unfinished,
 }
 
 /// A gateway of 1 to 8 circuits.
@@ -34,7 +36,8 @@ impl Gateway {
     /// starts, no hello is ordered. Refusal 12.
     pub fn set_up(settings: &Settings) -> Result<(Gateway, Hellos), Refusal> {
         settings.check()?;
-        let circuits = settings.circuits.iter().map(|&own| Circuit { settings: own, room: Room::new(own.kind) });
+        let circuits =
+            settings.circuits.iter().map(|&own| Circuit { settings: own, room: Room::new(own.kind), unfinished: Unfinished::NONE });
         let (timers, hellos) = match settings.mode {
             Mode::Running => (None, Hellos::NONE),
             Mode::Restarting => {
@@ -93,6 +96,36 @@ impl Gateway {
             Reply { kind, remaining }
         });
         Ok(Received { reply, csnps, hello: heard.hello.map(Flags::octet), timers: heard.outcome, freed: heard.freed, change })
+    }
+
+    /// Begins a frame that comes on a circuit from a source MAC, with no octet yet; drops an unfinished one there. Refusal 1
+    /// (document 02, W-205).
+    pub fn begin_frame(&mut self, circuit: u8, source: Mac) -> Result<(), Refusal> {
+        let at = self.place(circuit)?;
+        self.circuits[at].unfinished.begin(source);
+        Ok(())
+    }
+
+    /// Adds a chunk, which may be empty, to a circuit's unfinished frame. Refusals 1, 13 and 14, in this order: the frame stays
+    /// as it was.
+    pub fn add_chunk(&mut self, circuit: u8, octets: &[u8]) -> Result<(), Refusal> {
+        let at = self.place(circuit)?;
+        self.circuits[at].unfinished.add(octets)
+    }
+
+    /// Ends a circuit's unfinished frame: receive, of the begin's MAC and the octets joined, whatever the gateway is by now. The
+    /// frame is dropped, also where that refuses. Refusals 1 and 13, and then those of receive from 2 on.
+    pub fn end_frame(&mut self, circuit: u8, reply: &mut [u8]) -> Result<Received, Refusal> {
+        let at = self.place(circuit)?;
+        let (source, frame) = self.circuits[at].unfinished.take()?;
+        let answer = self.receive(circuit, source, &frame, reply);
+        self.circuits[at].unfinished.give_back(frame);
+        answer
+    }
+
+    /// A circuit's unfinished frame: its source MAC and the octets joined so far. None too where no circuit has that number.
+    pub fn unfinished(&self, circuit: u8) -> Option<(Mac, &[u8])> {
+        self.circuits[self.place(circuit).ok()?].unfinished.get()
     }
 
     /// Moves the clock, removes the records that ended and runs the timers. An equal clock is a whole tick. Refusal 10.
@@ -161,7 +194,7 @@ impl Gateway {
     /// The metric of a circuit's link: the configured one, worse by the reverse metric of a point-to-point neighbour that
     /// is UP. Refusal 1.
     pub fn link_metric(&self, circuit: u8) -> Result<u32, Refusal> {
-        let Circuit { settings, room } = &self.circuits[self.place(circuit)?];
+        let Circuit { settings, room, .. } = &self.circuits[self.place(circuit)?];
         let reverse = match settings.kind {
             Kind::Lan => None,
             Kind::PointToPoint => room.first().filter(|record| record.up).and_then(|record| record.reverse),
@@ -188,7 +221,7 @@ impl Gateway {
 
     /// The router that has the CSNP duty before us at a level of a LAN circuit.
     pub(crate) fn senior(&self, circuit: u8, level: u8) -> Option<Senior> {
-        let Circuit { settings: own, room } = &self.circuits[self.place(circuit).ok()?];
+        let Circuit { settings: own, room, .. } = &self.circuits[self.place(circuit).ok()?];
         room.senior(Level::from_number(level)?, own.priority, own.mac)
     }
 

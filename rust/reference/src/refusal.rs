@@ -1,6 +1,6 @@
-//! Why a call was refused (document 01, "Refusals by number").
+//! Why a call was refused (document 01, "Refusals by number"; document 02, W-205).
 
-/// A refusal, in the order in which they are checked.
+/// A refusal. Those of one call are checked in the order of their numbers, but that 13 and 14 come right after 1.
 #[derive(Clone, Copy, Debug, PartialEq, Eq)]
 pub enum Refusal {
     /// No. 1: no circuit of that number, or a level not enabled there.
@@ -27,10 +27,14 @@ pub enum Refusal {
     NotRestarting,
     /// No. 12: a setting out of range.
     Setting,
+    /// No. 13: a chunk or an end, and no frame is begun.
+    NotBegun,
+    /// No. 14: more than 1,500 octets joined.
+    TooLong,
 }
 
 impl Refusal {
-    /// The refusal's number in document 01.
+    /// The refusal's number in documents 01 and 02.
     pub fn number(self) -> u8 {
         match self {
             Refusal::NoCircuit => 1,
@@ -45,6 +49,8 @@ impl Refusal {
             Refusal::ClockBack => 10,
             Refusal::NotRestarting => 11,
             Refusal::Setting => 12,
+            Refusal::NotBegun => 13,
+            Refusal::TooLong => 14,
         }
     }
 }

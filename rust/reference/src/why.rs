@@ -34,7 +34,7 @@ pub struct Asked {
     pub mac: Mac,
 }
 
-/// A call, setup apart.
+/// A call that is asked about: all but setup and those that hand a frame over in chunks.
 #[derive(Debug, PartialEq, Eq)]
 pub enum Call<'a> {
     /// Receive.

@@ -2,123 +2,9 @@
 //! of every gateway holds.
 
 mod common;
+use common::drawn::*;
 use common::*;
 use isis_gr_reference::*;
-
-const SYSTEMS: [SystemId; 5] = [OWN, PEER, THIRD, [1; 6], [2; 6]];
-const MACS: [Mac; 5] = [OWN_MAC, PEER_MAC, THIRD_MAC, [1; 6], [0xff; 6]];
-
-fn some_settings(dice: &mut Dice) -> Settings {
-    let count = 1 + dice.below(8);
-    let circuits = (0..count)
-        .map(|_| CircuitSettings {
-            kind: dice.pick(&[Kind::PointToPoint, Kind::Lan]),
-            levels: dice.pick(&[ONE, TWO, BOTH, BOTH]),
-            mac: OWN_MAC,
-            priority: dice.pick(&[0, 64, 127]),
-            hold: dice.pick(&[1, 30, u16::MAX]),
-            metric: dice.pick(&[0, 10, 16_777_214]),
-            id: OWN_ID,
-        })
-        .collect();
-    Settings {
-        system: OWN,
-        t1: dice.pick(&[1, 3, 60]),
-        t2: dice.pick(&[10, 60, u16::MAX]),
-        tries: dice.pick(&[1, 3, 255]),
-        clock: dice.pick(&[0, 100, u32::MAX - 500]),
-        mode: dice.pick(&[Mode::Running, Mode::Restarting, Mode::Starting]),
-        circuits,
-    }
-}
-
-fn some_octets(dice: &mut Dice, length: u64) -> Vec<u8> {
-    (0..length).map(|_| dice.roll() as u8).collect()
-}
-
-fn some_tlv(dice: &mut Dice, hello: Hello) -> Hello {
-    let time = dice.pick(&[0, 5, 40, 300, u16::MAX]);
-    match dice.below(8) {
-        0 | 1 => {
-            let flags = dice.pick(&[0, RR, RR, RA, RA, SA, PR, PR, PA, RR | SA, RR | PR, RA | SA, 0xe0]);
-            let system = dice.pick(&SYSTEMS);
-            hello.restart_of(flags, time, system)
-        }
-        2 => hello.restart(dice.roll() as u8, time),
-        3 => hello.reverse(dice.roll() as u8, dice.below(1 << 24) as u32),
-        4 => {
-            let list: Vec<u8> = (0..dice.below(4)).flat_map(|_| dice.pick(&MACS)).collect();
-            hello.tlv(6, &list)
-        }
-        5 => {
-            let kind = dice.pick(&[1, 6, 8, 16, 18, 129, 211, 240]);
-            let length = dice.below(20);
-            let value = some_octets(dice, length);
-            hello.tlv(kind, &value)
-        }
-        _ => hello.tlv(129, &[0xcc]),
-    }
-}
-
-/// A hello, most often a good one.
-fn some_hello(dice: &mut Dice, kind: Kind) -> Vec<u8> {
-    let mut hello = match kind {
-        Kind::Lan => Hello::lan(1 + dice.below(2) as u8),
-        Kind::PointToPoint => Hello::bare(),
-    };
-    hello = hello.from(dice.pick(&[PEER, PEER, PEER, THIRD, [1; 6], OWN]));
-    hello = hello.hold(dice.pick(&[0, 5, 27, 300, u16::MAX])).priority(dice.roll() as u8);
-    match kind {
-        Kind::Lan if dice.chance(2) => hello = hello.tlv(6, &OWN_MAC),
-        Kind::Lan => {}
-        Kind::PointToPoint => {
-            let state = dice.below(3) as u8;
-            let neighbour = dice.pick(&[OWN, OWN, OWN, THIRD]);
-            let circuit = dice.pick(&[OWN_ID, OWN_ID, OWN_ID, 7]);
-            hello = match dice.below(6) {
-                0 => hello.tlv(240, &[state]),
-                1 => hello.tlv(240, &[state, 1, 2, 3, 4]),
-                _ => hello.three_way(state, neighbour, circuit),
-            };
-        }
-    }
-    for _ in 0..dice.below(3) {
-        hello = some_tlv(dice, hello);
-    }
-    hello.octets()
-}
-
-/// Octets to lend: a hello, a hello with some octets changed, cut or added, or garbage.
-fn some_frame(dice: &mut Dice, kind: Kind) -> Vec<u8> {
-    if dice.chance(12) {
-        let length = dice.below(1_600);
-        return some_octets(dice, length);
-    }
-    let other = match kind {
-        Kind::Lan => Kind::PointToPoint,
-        Kind::PointToPoint => Kind::Lan,
-    };
-    let kind = if dice.chance(20) { other } else { kind };
-    let mut octets = some_hello(dice, kind);
-    match dice.below(8) {
-        0 => {
-            let at = dice.below(octets.len() as u64) as usize;
-            octets[at] = dice.roll() as u8;
-        }
-        1 => {
-            let at = dice.below(octets.len() as u64) as usize;
-            octets[at] ^= 1 << dice.below(8);
-        }
-        2 => octets.truncate(dice.below(octets.len() as u64) as usize),
-        3 => {
-            let length = dice.below(9);
-            let more = some_octets(dice, length);
-            octets.extend(more);
-        }
-        _ => {}
-    }
-    octets
-}
 
 /// Whether the gateway starts: all its hellos, so those of circuit 1, have SA.
 fn starts(gateway: &Gateway) -> bool {
@@ -183,20 +69,78 @@ fn check(gateway: &Gateway, settings: &Settings, clock: u32) {
     }
 }
 
+/// The unfinished frames by circuit, as document 02 has them: the MAC of the begin, and the octets joined.
+type Joined = [Option<(Mac, Vec<u8>)>; 8];
+
+/// The chunks of a circuit's frame that are to come, last first.
+type ToCome = [Vec<Vec<u8>>; 8];
+
+/// A begin, a chunk or an end on a circuit, compared with the frames that are begun; answers why it was refused.
+fn take_piece(dice: &mut Dice, gateway: &mut Gateway, kind: Kind, named: u8, joined: &mut Joined, to_come: &mut ToCome) -> Option<Refusal> {
+    let before = gateway.clone();
+    let at = usize::from(named).wrapping_sub(1);
+    let there = gateway.link_metric(named).is_ok();
+    let none = there && joined[at].is_none();
+    if dice.chance(if none { 2 } else { 15 }) {
+        let source = dice.pick(&MACS);
+        let answer = gateway.begin_frame(named, source);
+        assert_eq!(answer, if there { Ok(()) } else { Err(Refusal::NoCircuit) });
+        if there {
+            joined[at] = Some((source, Vec::new()));
+            let mut frame = some_frame(dice, kind);
+            if dice.chance(8) {
+                frame.resize(1_500, 0xd3);
+            }
+            to_come[at] = some_cuts(dice, &frame);
+        }
+        return answer.err();
+    }
+    let chunk = if there && !dice.chance(12) { to_come[at].pop() } else { Some(vec![0xd3; dice.below(1_600) as usize]) };
+    if let Some(chunk) = chunk {
+        let answer = gateway.add_chunk(named, &chunk);
+        let due = match joined.get_mut(at).filter(|_| there) {
+            None => Err(Refusal::NoCircuit),
+            Some(None) => Err(Refusal::NotBegun),
+            Some(Some((_, octets))) if octets.len() + chunk.len() > 1_500 => Err(Refusal::TooLong),
+            Some(Some((_, octets))) => {
+                octets.extend(chunk);
+                Ok(())
+            }
+        };
+        assert_eq!(answer, due);
+        return answer.err();
+    }
+    let room = if dice.chance(20) { dice.below(11) } else { 11 + dice.below(4) } as usize;
+    let (mut reply, mut second) = (vec![UNTOUCHED; room], vec![UNTOUCHED; room]);
+    let answer = gateway.end_frame(named, &mut reply);
+    match joined[at].take() {
+        None => assert_eq!(answer, Err(Refusal::NotBegun)),
+        Some((source, octets)) => {
+            let mut twin = before;
+            assert_eq!(answer, twin.receive(named, source, &octets, &mut second));
+            assert_eq!((but_for_frame(gateway, named), &reply), (but_for_frame(&twin, named), &second));
+        }
+    }
+    answer.err()
+}
+
 #[test]
 fn random_calls_never_panic_and_refusals_change_nothing() {
-    let mut seen = [0_u32; 12];
+    let mut seen = [0_u32; 15];
     for seed in 1..=120 {
         let mut dice = Dice::new(seed);
         let settings = some_settings(&mut dice);
         let (mut gateway, _) = Gateway::set_up(&settings).unwrap();
         let mut clock = settings.clock;
-        for _ in 0..500 {
+        let (mut joined, mut to_come) = (Joined::default(), ToCome::default());
+        for _ in 0..600 {
             let before = gateway.clone();
             let circuit = dice.below(settings.circuits.len() as u64) as u8 + 1;
             let named = if dice.chance(40) { dice.roll() as u8 } else { circuit };
             let level = if dice.chance(40) { dice.roll() as u8 } else { 1 + dice.below(2) as u8 };
-            let refused = match dice.below(20) {
+            let kind = settings.circuits[usize::from(circuit) - 1].kind;
+            let mut dropped = None;
+            let refused = match dice.below(24) {
                 0 => {
                     let to = if dice.chance(6) { clock.wrapping_sub(3) } else { clock.saturating_add(dice.pick(&[0, 1, 4])) };
                     let answer = gateway.tick(to);
@@ -208,8 +152,14 @@ fn random_calls_never_panic_and_refusals_change_nothing() {
                 1 => gateway.release(named).err(),
                 2 => gateway.csnp_complete(named, level).err(),
                 3 => gateway.database_complete(level).err(),
+                4 => gateway.clear(named).err(),
+                5..=9 => {
+                    let refused = take_piece(&mut dice, &mut gateway, kind, named, &mut joined, &mut to_come);
+                    dropped = refused.filter(|refusal| (2..=9).contains(&refusal.number())).map(|_| named);
+                    refused
+                }
                 _ => {
-                    let frame = some_frame(&mut dice, settings.circuits[usize::from(circuit) - 1].kind);
+                    let frame = some_frame(&mut dice, kind);
                     let source = dice.pick(&MACS);
                     let room = if dice.chance(40) { dice.below(11) } else { 11 + dice.below(4) } as usize;
                     let mut reply = vec![UNTOUCHED; room];
@@ -237,15 +187,21 @@ fn random_calls_never_panic_and_refusals_change_nothing() {
             };
             match refused {
                 Some(refusal) => {
-                    assert_eq!(gateway, before);
+                    match dropped {
+                        Some(circuit) => assert_eq!(but_for_frame(&gateway, circuit), but_for_frame(&before, circuit)),
+                        None => assert_eq!(gateway, before),
+                    }
                     seen[usize::from(refusal.number())] += 1;
                 }
                 None => seen[0] += 1,
             }
+            for (circuit, frame) in (1..).zip(&joined) {
+                assert_eq!(gateway.unfinished(circuit), frame.as_ref().map(|(source, octets)| (*source, &octets[..])));
+            }
             check(&gateway, &settings, clock);
         }
     }
-    assert!(seen.iter().all(|&count| count > 0), "accepted and refusals 1 to 11: {seen:?}");
+    assert!((0..).zip(seen).all(|(number, count)| number == 12 || count > 0), "accepted and refusals, but for setup's: {seen:?}");
     assert!(seen[0] > 15_000, "{seen:?}");
 }
 

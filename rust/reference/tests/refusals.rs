@@ -1,4 +1,4 @@
-//! The refusals and their order (document 01, "Refusals by number").
+//! The refusals and their order (document 01, "Refusals by number"); 13 and 14 are in `chunks.rs`.
 
 mod common;
 use common::*;
@@ -26,8 +26,10 @@ fn numbers_are_those_of_the_table() {
         ClockBack,
         NotRestarting,
         Setting,
+        NotBegun,
+        TooLong,
     ];
-    assert!(all.iter().map(|refusal| refusal.number()).eq(1..=12));
+    assert!(all.iter().map(|refusal| refusal.number()).eq(1..=14));
 }
 
 #[test]
@@ -36,6 +38,9 @@ fn no_1_circuit_or_level_not_there() {
     let gateway = &mut run.gateway;
     for circuit in [0, 3, 8, 9, 255] {
         assert_eq!(gateway.receive(circuit, PEER_MAC, &[], &mut [0; 11]), Err(Refusal::NoCircuit));
+        assert_eq!(gateway.begin_frame(circuit, PEER_MAC), Err(Refusal::NoCircuit));
+        assert_eq!(gateway.add_chunk(circuit, &[]), Err(Refusal::NoCircuit));
+        assert_eq!(gateway.end_frame(circuit, &mut [0; 11]), Err(Refusal::NoCircuit));
         assert_eq!(gateway.release(circuit), Err(Refusal::NoCircuit));
         assert_eq!(gateway.csnp_complete(circuit, 1), Err(Refusal::NoCircuit));
         assert_eq!(gateway.look_up(circuit, 1, PEER, PEER_MAC), Err(Refusal::NoCircuit));

@@ -112,6 +112,23 @@ fn crafted_frames_are_refused_as_their_names_say() {
 }
 
 #[test]
+fn crafted_frames_in_chunks_are_answered_as_when_whole() {
+    let mut counts = [0; 2];
+    for line in CRAFTED.into_iter().flat_map(crafted) {
+        assert!(line.octets.len() <= 1_500, "{}", line.name);
+        for length in [1, 5, 64] {
+            let mut runs = [(); 2].map(|()| Run::running(&[circuit(line.kind)]));
+            let [run, whole] = &mut runs;
+            run.hand(1, line.source, &line.octets.chunks(length).collect::<Vec<_>>());
+            let answers = [run.end(1), whole.lend(1, line.source, &line.octets)];
+            assert_eq!((answers[0], &run.gateway, run.reply), (answers[1], &whole.gateway, whole.reply), "{}", line.name);
+            counts[usize::from(answers[0].is_err())] += 1;
+        }
+    }
+    assert_eq!(counts, [3 * 644, 3 * 599]);
+}
+
+#[test]
 fn crafted_fields_are_read_as_meant() {
     let mut checked = 0;
     for line in CRAFTED.into_iter().flat_map(crafted) {

@@ -1,6 +1,6 @@
-//! The functions of the proved archives `libisis_gr.a` and, of why, `libisis_gr_why.a`, as they are: words and octets. `include/isis_gr.h` says what each
-//! word holds, and what the proofs assume of a caller: pointers valid for the sizes named here, and buffers that neither overlap nor change during a
-//! call. The crate `isis-gr` is the safe way to use them.
+//! The functions of the proved archives `libisis_gr.a`, of frames in chunks `libisis_gr_chunks.a` and of why `libisis_gr_why.a`, as they are: words and
+//! octets. `include/isis_gr.h` says what each word holds, and what the proofs assume of a caller: pointers valid for the sizes named here, and buffers that
+//! neither overlap nor change during a call. The crate `isis-gr` is the safe way to use them.
 #![no_std]
 #![deny(missing_docs)]
 
@@ -30,6 +30,8 @@ pub struct ReasonWords {
 extern "C" {
     /// The words of a gateway in this archive.
     pub fn isis_gr_raw_gateway_words() -> u32;
+    /// The octets of a memory for frames in the archive of frames in chunks.
+    pub fn isis_gr_raw_frame_octets() -> u32;
     /// A new gateway in `GATEWAY_WORDS` words, of `SETTINGS_OCTETS` octets; `layout` is `LAYOUT`.
     pub fn isis_gr_raw_set_up(layout: u32, gateway: *mut u64, settings: *const u8) -> u32;
     /// Which setting a set up with these would refuse.
@@ -44,6 +46,12 @@ extern "C" {
         reply: *mut u8,
         reply_len: usize,
     ) -> ReceivedWords;
+    /// Begins a frame that comes in chunks; the source MAC is six octets.
+    pub fn isis_gr_raw_begin_frame(gateway: *mut u64, circuit: u8, source: *const u8) -> u32;
+    /// Joins a chunk to a circuit's unfinished frame, in `FRAME_OCTETS` octets.
+    pub fn isis_gr_raw_add_chunk(gateway: *mut u64, frames: *mut u8, circuit: u8, octets: *const u8, octets_len: usize) -> u32;
+    /// Ends a circuit's unfinished frame: receive, of the octets joined.
+    pub fn isis_gr_raw_end_frame(gateway: *mut u64, frames: *const u8, circuit: u8, reply: *mut u8, reply_len: usize) -> ReceivedWords;
     /// The clock.
     pub fn isis_gr_raw_tick(gateway: *mut u64, clock: u32) -> u64;
     /// Removes a circuit's Planned records.

@@ -7,7 +7,8 @@ use crate::settings::SettingError;
 /// The one table of refusals: text, name, number.
 macro_rules! refusals {
     ($($text:literal $name:ident = $number:literal,)*) => {
-        /// Why a call was refused; the number is that of document 01. A refusal leaves the gateway and the reply buffer as they were.
+        /// Why a call was refused; the number is that of documents 01 and 02. A refusal leaves the gateway, the reply buffer and the memory for
+        /// frames as they were, but that [`Gateway::end_frame`](crate::Gateway::end_frame), refused 2 to 9, drops the unfinished frame.
         #[derive(Clone, Copy, PartialEq, Eq, PartialOrd, Ord, Hash, Debug)]
         #[non_exhaustive]
         #[repr(u32)]
@@ -61,10 +62,14 @@ refusals! {
     NotRestarting = 11,
     "a setting out of range"
     BadSetting = 12,
+    "no frame is begun on that circuit"
+    NotBegun = 13,
+    "more than 1,500 octets joined"
+    TooLong = 14,
 }
 
 impl Refusal {
-    /// Its number in document 01.
+    /// Its number in documents 01 and 02.
     pub const fn number(self) -> u32 {
         self as u32
     }

@@ -2,9 +2,10 @@
 use crate::why::{Asked, Given};
 use isis_gr_sys as raw;
 
-pub(crate) use raw::{CIRCUITS, GATEWAY_WORDS, SETTINGS_OCTETS};
+pub(crate) use raw::{CIRCUITS, FRAME_OCTETS, GATEWAY_WORDS, SETTINGS_OCTETS};
 
 pub(crate) type Words = [u64; GATEWAY_WORDS];
+pub(crate) type Octets = [u8; FRAME_OCTETS];
 
 pub(crate) fn set_up(words: &mut Words, settings: &[u8; SETTINGS_OCTETS]) -> u32 {
     // SAFETY: both references are valid for the sizes that their types say, and do not overlap.
@@ -21,6 +22,23 @@ pub(crate) fn receive(words: &mut Words, circuit: u8, source: &[u8; 6], frame: &
     unsafe {
         raw::isis_gr_raw_receive(words.as_mut_ptr(), circuit, source.as_ptr(), frame.as_ptr(), frame.len(), reply.as_mut_ptr(), reply.len())
     }
+}
+
+pub(crate) fn begin_frame(words: &mut Words, circuit: u8, source: &[u8; 6]) -> u32 {
+    // SAFETY: both references are valid for the sizes that their types say, and do not overlap.
+    unsafe { raw::isis_gr_raw_begin_frame(words.as_mut_ptr(), circuit, source.as_ptr()) }
+}
+
+pub(crate) fn add_chunk(words: &mut Words, frames: &mut Octets, circuit: u8, octets: &[u8]) -> u32 {
+    // SAFETY: the references are valid for the sizes that their types say, the slice for the length that is handed on with it; the borrows do
+    // not overlap.
+    unsafe { raw::isis_gr_raw_add_chunk(words.as_mut_ptr(), frames.as_mut_ptr(), circuit, octets.as_ptr(), octets.len()) }
+}
+
+pub(crate) fn end_frame(words: &mut Words, frames: &Octets, circuit: u8, reply: &mut [u8]) -> raw::ReceivedWords {
+    // SAFETY: the references are valid for the sizes that their types say, the slice for the length that is handed on with it; the borrows do
+    // not overlap.
+    unsafe { raw::isis_gr_raw_end_frame(words.as_mut_ptr(), frames.as_ptr(), circuit, reply.as_mut_ptr(), reply.len()) }
 }
 
 pub(crate) fn tick(words: &mut Words, clock: u32) -> u64 {

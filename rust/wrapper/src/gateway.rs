@@ -1,19 +1,20 @@
 //! The gateway and its calls.
 use crate::answers::{Received, Refusal, Ticked, Timers, Waiting};
 use crate::ffi;
+use crate::frames::Frames;
 use crate::hellos::{Flags, HelloOrders, Hellos};
 use crate::names::{Circuit, Level, Mac, SystemId};
 use crate::record::Record;
 use crate::settings::{SettingError, Settings};
 use crate::why::{Call, Key, Question, Reason, Why};
 
-/// The octets of a reply, and the least reply buffer that `receive` takes.
+/// The octets of a reply, and the least reply buffer that `receive` and `end_frame` take.
 pub const REPLY_OCTETS: usize = 11;
 
 /// The level of a P2P key: it counts for nothing there, and is enabled on no LAN.
 pub(crate) const NO_LEVEL: u8 = 0;
 
-/// A gateway: memory of 5,120 octets that [`Gateway::set_up`] makes a gateway of, in place. It stands wherever its owner puts it: in a
+/// A gateway: memory of 5,248 octets that [`Gateway::set_up`] makes a gateway of, in place. It stands wherever its owner puts it: in a
 /// `static`, in a field, in a box. It is moved and cloned as so many octets.
 #[derive(Clone)]
 pub struct Gateway {
@@ -72,6 +73,42 @@ impl Gateway {
     /// lent too). A reply, where one is due, is the first 11 octets of `reply`; else the buffer is untouched. Refused 1 to 9.
     pub fn receive(&mut self, circuit: Circuit, from: Mac, frame: &[u8], reply: &mut [u8]) -> Result<Received, Refusal> {
         let words = ffi::receive(&mut self.words, circuit.number(), &from.0, frame, reply);
+        Refusal::unless(words.answer, Received::of_words(words.answer, words.change))
+    }
+
+    /// Begins a frame that comes in chunks (document 02, W-205), from a source MAC. Each circuit has its own unfinished frame: one that was begun
+    /// there before is dropped, and [`Gateway::set_up`] drops all; no other call but [`Gateway::add_chunk`] and [`Gateway::end_frame`] touches it.
+    /// Refused 1.
+    ///
+    /// ```
+    /// # use isis_gr::{Circuit, CircuitSettings, Frames, Gateway, Kind, Levels, Mac, Mode, Refusal, Settings, SystemId, REPLY_OCTETS};
+    /// # let p2p = CircuitSettings::new(Kind::P2p, Levels::TWO, Mac([2; 6]));
+    /// # let mut gateway = Gateway::new();
+    /// # gateway.set_up(&Settings::new(SystemId([1; 6]), Mode::Running, 0).circuit(p2p)).expect("in range");
+    /// let (first, mut frames, mut reply) = (Circuit::new(1).expect("1 to 8"), Frames::new(), [0; REPLY_OCTETS]);
+    /// gateway.begin_frame(first, Mac([2, 0, 0, 0, 0, 2]))?;
+    /// for chunk in [&b"no"[..], b"", b" hello"] {
+    ///     gateway.add_chunk(&mut frames, first, chunk)?;
+    /// }
+    /// assert_eq!(gateway.end_frame(&frames, first, &mut reply), Err(Refusal::NotHello), "as of `receive`");
+    /// assert_eq!(gateway.end_frame(&frames, first, &mut reply), Err(Refusal::NotBegun), "the frame is gone all the same");
+    /// # Ok::<(), Refusal>(())
+    /// ```
+    pub fn begin_frame(&mut self, circuit: Circuit, from: Mac) -> Result<(), Refusal> {
+        Refusal::unless(u64::from(ffi::begin_frame(&mut self.words, circuit.number(), &from.0)), ())
+    }
+
+    /// Joins a chunk, which may be empty, to a circuit's unfinished frame. All chunks of a frame and its end take the same memory for frames.
+    /// Refused 1, 13, or 14 where more than 1,500 octets would be joined; the frame then stays as it was, nothing of the chunk is kept, and a
+    /// smaller one may still fit.
+    pub fn add_chunk(&mut self, frames: &mut Frames, circuit: Circuit, octets: &[u8]) -> Result<(), Refusal> {
+        Refusal::unless(u64::from(ffi::add_chunk(&mut self.words, frames.octets_mut(), circuit.number(), octets)), ())
+    }
+
+    /// Ends a circuit's unfinished frame: answer, gateway and reply are those of [`Gateway::receive`] on the octets joined, with the MAC of the
+    /// begin and the clock and mode of now. Refused 1, 13, or as `receive` is, 2 to 9; the frame is dropped but with 1 and 13.
+    pub fn end_frame(&mut self, frames: &Frames, circuit: Circuit, reply: &mut [u8]) -> Result<Received, Refusal> {
+        let words = ffi::end_frame(&mut self.words, frames.octets(), circuit.number(), reply);
         Refusal::unless(words.answer, Received::of_words(words.answer, words.change))
     }
 
@@ -153,7 +190,8 @@ impl Gateway {
 
     /// Why (document 02, W-204), of this gateway before a call, the call, and a circuit with a record's key. The call is made on `after`, whatever that
     /// holds: it is then the gateway as the call leaves it, and the reply buffer of a receive has what it writes. So ask before the call is made, of the
-    /// live gateway; or later, of a clone that was kept. A circuit that is not there, or on a LAN a level that is not enabled there, has no record.
+    /// live gateway; or later, of a clone that was kept. A circuit that is not there, or on a LAN a level that is not enabled there, has no record. A frame
+    /// that comes in chunks is asked about as the receive of its octets joined.
     ///
     /// ```
     /// # use isis_gr::{Call, Circuit, CircuitSettings, Gateway, Key, Kind, Levels, Mac, Mode, Question, Settings, SystemId};

@@ -1,8 +1,8 @@
 //! Restart signaling (RFC 8706) and reverse metric (RFC 8500) for an IS-IS router.
 //!
-//! A safe wrapper of `libisis_gr.a` and, for [`Gateway::why`], `libisis_gr_why.a`, whose every call is proved against its definition. It adds no rule:
-//! each method hands its arguments on and names what comes back. There is no I/O, no allocation and no clock inside: hello frames and clock ticks go in;
-//! records, Restart TLVs, orders (actions that the caller must take) and link metrics come out.
+//! A safe wrapper of `libisis_gr.a`, for frames in chunks `libisis_gr_chunks.a`, and for [`Gateway::why`] `libisis_gr_why.a`, whose every call is proved
+//! against its definition. It adds no rule: each method hands its arguments on and names what comes back. There is no I/O, no allocation and no clock
+//! inside: hello frames and clock ticks go in; records, Restart TLVs, orders (actions that the caller must take) and link metrics come out.
 //!
 //! A gateway is memory of its owner's. [`Gateway::new`] is a constant, so that a `static` holds it and no stack has to:
 //!
@@ -25,6 +25,8 @@
 //! # Ok::<(), isis_gr::SettingError>(())
 //! ```
 //!
+//! A frame may also come in chunks: [`Gateway::begin_frame`], [`Gateway::add_chunk`] and [`Gateway::end_frame`], with a [`Frames`] beside the gateway.
+//!
 //! The crate needs no `std`: where there is none, a `static` of another kind of lock holds the gateway as well, or a field of the program's
 //! one state.
 #![no_std]
@@ -33,6 +35,7 @@
 
 mod answers;
 mod ffi;
+mod frames;
 mod gateway;
 mod hellos;
 mod names;
@@ -41,6 +44,7 @@ mod settings;
 mod why;
 
 pub use answers::{Ack, Freed, Overload, Received, Refusal, Reply, Ticked, Timers, Waiting};
+pub use frames::Frames;
 pub use gateway::{Gateway, REPLY_OCTETS};
 pub use hellos::{Flags, HelloOrders, Hellos};
 pub use names::{Circuit, Circuits, Level, Levels, Mac, SystemId};

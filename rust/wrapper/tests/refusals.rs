@@ -1,13 +1,13 @@
 //! The refusals: the one table against the C header's, and each number from the call that gives it.
 mod common;
 use common::*;
-use isis_gr::{Gateway, Level, Mac, Mode, Refusal, REPLY_OCTETS};
+use isis_gr::{Frames, Gateway, Level, Mac, Mode, Refusal, REPLY_OCTETS};
 
 const HEADER: &str = include_str!("../../../include/isis_gr.h");
 
 /// The texts of `isis_gr_text`, by number from 0.
 fn header_texts() -> Vec<&'static str> {
-    let (_, rest) = HEADER.split_once("texts[13] = {").expect("the header has the texts");
+    let (_, rest) = HEADER.split_once("texts[15] = {").expect("the header has the texts");
     let (inside, _) = rest.split_once("};").expect("they end");
     inside.lines().filter_map(|line| line.trim().strip_prefix('"')?.strip_suffix("\",")).collect()
 }
@@ -37,7 +37,7 @@ fn a_number_finds_its_refusal_and_no_other_number_does() {
     for refusal in Refusal::ALL {
         assert_eq!(Refusal::of_number(refusal.number()), Some(*refusal));
     }
-    for number in [0, 13, 255, 256, u32::MAX] {
+    for number in [0, 15, 255, 256, u32::MAX] {
         assert_eq!(Refusal::of_number(number), None);
     }
 }
@@ -56,6 +56,9 @@ fn no_1_of_every_call_that_names_a_circuit_or_a_level() {
     let mut g = gateway(Mode::Restarting);
     for absent in [circuit(3), circuit(8)] {
         assert_eq!(refused(&mut g, |g| receive(g, absent, &[])), told);
+        assert_eq!(refused(&mut g, |g| g.begin_frame(absent, PEER_MAC)), told);
+        assert_eq!(refused(&mut g, |g| g.add_chunk(&mut Frames::new(), absent, &[0; 1_501])), told);
+        assert_eq!(refused(&mut g, |g| g.end_frame(&Frames::new(), absent, &mut [])), told);
         assert_eq!(refused(&mut g, |g| g.release(absent)), told);
         assert_eq!(refused(&mut g, |g| g.clear(absent)), told);
         assert_eq!(refused(&mut g, |g| g.csnp_complete(absent, Level::One)), told);
@@ -130,4 +133,16 @@ fn no_12_is_the_number_of_a_setting_out_of_range() {
     let mut g = gateway(Mode::Running);
     let bad = settings(Mode::Running).t2(0);
     assert_eq!(refused(&mut g, |g| g.set_up(&bad).map_err(Refusal::from)), (12, "a setting out of range"));
+}
+
+#[test]
+fn no_13_where_no_frame_is_begun_and_no_14_above_1500_octets() {
+    let (mut g, mut frames) = (gateway(Mode::Running), Frames::new());
+    let told = (13, "no frame is begun on that circuit");
+    assert_eq!(refused(&mut g, |g| g.add_chunk(&mut frames, P2P, &[0; 1_501])), told, "ahead of 14");
+    assert_eq!(refused(&mut g, |g| g.end_frame(&frames, P2P, &mut [])), told, "ahead of 2");
+    g.begin_frame(P2P, PEER_MAC).expect("a circuit");
+    assert_eq!(refused(&mut g, |g| g.add_chunk(&mut frames, P2P, &[0; 1_501])), (14, "more than 1,500 octets joined"));
+    assert_eq!(refused(&mut g, |g| g.add_chunk(&mut frames, LAN, &[])), told, "the frame is another circuit's");
+    assert_eq!(g.add_chunk(&mut frames, P2P, &[0; 1_500]), Ok(()));
 }

@@ -2,6 +2,8 @@
 
 #![allow(dead_code)]
 
+pub mod drawn;
+
 use isis_gr_reference::*;
 
 pub const OWN: SystemId = [0x19, 0x21, 0x68, 0x00, 0x10, 0x01];
@@ -201,6 +203,35 @@ impl Run {
         self.reply = [UNTOUCHED; 14];
         let before = self.gateway.clone();
         let answer = self.gateway.receive(circuit, source, octets, &mut self.reply);
+        if answer.is_err() {
+            assert_eq!(self.gateway, before);
+        }
+        self.checked(answer)
+    }
+
+    /// Begins a frame and adds chunks, all of which are taken.
+    pub fn hand(&mut self, circuit: u8, source: Mac, chunks: &[&[u8]]) {
+        assert_eq!(self.gateway.begin_frame(circuit, source), Ok(()));
+        for chunk in chunks {
+            assert_eq!(self.gateway.add_chunk(circuit, chunk), Ok(()));
+        }
+        assert_eq!(self.gateway.unfinished(circuit), Some((source, &chunks.concat()[..])));
+    }
+
+    /// Ends a circuit's frame, which is gone then. A refusal changes nothing else.
+    pub fn end(&mut self, circuit: u8) -> Result<Received, u8> {
+        self.reply = [UNTOUCHED; 14];
+        let before = self.gateway.clone();
+        let answer = self.gateway.end_frame(circuit, &mut self.reply);
+        assert_eq!(self.gateway.unfinished(circuit), None);
+        if answer.is_err() {
+            assert_eq!(but_for_frame(&self.gateway, circuit), but_for_frame(&before, circuit));
+        }
+        self.checked(answer)
+    }
+
+    /// The reply buffer is written only for a reply, and only in 11 octets.
+    fn checked(&self, answer: Result<Received, Refusal>) -> Result<Received, u8> {
         match &answer {
             Ok(Received { reply: Some(reply), .. }) => {
                 assert_eq!(self.reply[..2], [211, 9]);
@@ -208,11 +239,7 @@ impl Run {
                 assert_eq!(self.reply[3..5], reply.remaining.to_be_bytes());
                 assert_eq!(self.reply[11..], [UNTOUCHED; 3]);
             }
-            Ok(Received { reply: None, .. }) => assert_eq!(self.reply, [UNTOUCHED; 14]),
-            Err(_) => {
-                assert_eq!(self.reply, [UNTOUCHED; 14]);
-                assert_eq!(self.gateway, before);
-            }
+            Ok(Received { reply: None, .. }) | Err(_) => assert_eq!(self.reply, [UNTOUCHED; 14]),
         }
         answer.map_err(Refusal::number)
     }
@@ -249,6 +276,13 @@ impl Run {
     pub fn record(&self) -> Record {
         self.peer().expect("record stands")
     }
+}
+
+/// A gateway with the same frame begun on a circuit, whichever it had there.
+pub fn but_for_frame(gateway: &Gateway, circuit: u8) -> Gateway {
+    let mut copy = gateway.clone();
+    let _ = copy.begin_frame(circuit, OWN_MAC);
+    copy
 }
 
 /// A point-to-point circuit, Running, the peer UP from this clock on.
