@@ -1,10 +1,10 @@
 -- A circuit's unfinished frame in two lent words and 1,500 lent octets (house), and what the functions on them are to do.
-use Prim.Native.Nat.{ℕ, _-_, _%_, _^_, _<_, _≤_}
+use Prim.Native.Nat.{ℕ, _+_, _-_, _%_, _^_, _<_, _≤_}
 use mathlib.Core.Path.{_≡_}
 use mathlib.Core.Bool.{cond}
 use mathlib.Core.List.{List}
 use lib.ListN.{getD, take}
-use lib.Dec.{eqb}
+use lib.Dec.{eqb, ltb}
 use Rattle.basics.specs.declared.refusal.Refusal.{Refusal}
 use Rattle.chunks.specs.declared.slot.Handed.{Handed}
 use Rattle.chunks.specs.declared.slot.Handed.the-variants.{Refused as RefusedChunk, Done}
@@ -15,9 +15,11 @@ use Rattle.chunks.specs.Chunks.{Unfinished, None, Frame, mostOctets, Joi
 abbrev pub slotWords : ℕ
 slotWords = 2
 
--- the first word is 0, or one more than the length; the second is the MAC. Any words mean something.
+-- the first word w, one more than the length of a frame that is begun, and none is with any other; the second is the MAC. Any words mean something.
 unfoldable pub pendingOf : List ℕ → Pending
-pendingOf us = cond (eqb (getD us 0 0) 0) Idle (Begun (getD us 1 0 % 2 ^ 48) ((getD us 0 0 - 1) % 1501))
+pendingOf us =
+    let w : ℕ = getD us 0 0 in
+    cond (eqb w 0) Idle (cond (ltb (mostOctets + 1) w) Idle (Begun (getD us 1 0 % 2 ^ 48) (w - 1)))
 
 -- .. with the octets fs
 abbrev pub meant : List ℕ → Pending → Unfinished

@@ -1,5 +1,5 @@
-// The two words and the 1,500 octets of one circuit's unfinished frame. The first word is 0 where none is begun, and else one more than the
-// length; the second is the MAC.
+// The two words and the 1,500 octets of one circuit's unfinished frame. The first word is one more than the length of a frame that is begun, so from 1 to
+// 1,501; with any other none is begun. The second is the MAC.
 use basics::octets::six;
 use basics::refusal::Refusal;
 ghost use mathlib.Core.Path.{_≡_};
@@ -35,7 +35,10 @@ pub fn load(slot: &[u64]) -> Pending
     if w == 0 {
         return Pending::Idle;
     }
-    let n = ((w - 1) % 1501) as usize;
+    if MOST_OCTETS as u64 + 1 < w {
+        return Pending::Idle;
+    }
+    let n = (w - 1) as usize;
     let mac = slot[1] % 281474976710656;
     Pending::Begun(mac, n)
 }

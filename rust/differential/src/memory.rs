@@ -36,7 +36,7 @@ fn part(octets: &Octets, at: usize) -> &[u8] {
 pub fn unfinished<'a>(words: &Words, octets: &'a Octets, n: u8) -> Option<(Mac, &'a [u8])> {
     let at = usize::from(n).checked_sub(1).filter(|at| *at < CIRCUITS)?;
     let [tag, mac] = slot(words, at);
-    let length = tag.checked_sub(1)? % (MOST_OCTETS as u64 + 1);
+    let length = tag.checked_sub(1).filter(|length| *length <= MOST_OCTETS as u64)?;
     let [_, _, mac @ ..] = mac.to_be_bytes();
     Some((mac, &part(octets, at)[..length as usize]))
 }
