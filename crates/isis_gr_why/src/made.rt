@@ -1,11 +1,11 @@
 // The call in question, made on a memory by the function of crate gateway that makes it. Those that only ask change nothing.
-use gateway::whole::GATEWAY_WORDS;
 use gateway::calls::clear;
 use gateway::calls::csnp_complete;
 use gateway::calls::database_complete;
 use gateway::calls::receive;
 use gateway::calls::release;
 use gateway::calls::tick;
+use gateway::whole::GATEWAY_WORDS;
 use model::answers::Received;
 use reasons::why::Call;
 use reasons::why::Reason;

@@ -112,7 +112,6 @@ module _ (b : Neighbour) (s₁ s₂ : Bool) (g₁ g₂ : Gateway) (n : Near b s�
       rw (ap (λ (c : Common). circuitOf c i) (sym (n .common)))
       (by-test (eqb i (b .circuit)) (λ h. rw (eqb-true i (b .circuit) h) (own-on b s₁ s₂ g₁ g₂ n l (cc) (circuitOf (g₁ .common) (b .circuit)) (n .lan₁)))
       (λ h. away-on b s₁ s₂ g₁ g₂ n (At i l) i l (eqb-false i (b .circuit) h) (circuitOf (g₁ .common) i)))
-
   step-kept (Hand i p) e =
       rw (ap (λ (c : Common). circuitOf c i) (sym (n .common))) (hand-kept i p (eqb-false i (b .circuit) e) (circuitOf (g₁ .common) i))
 

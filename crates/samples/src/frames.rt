@@ -2,10 +2,10 @@
 use basics::kind::CircuitKind;
 use basics::levels::Levels;
 use basics::mask::CIRCUITS;
-use gateway::whole::GATEWAY_WORDS;
 use gateway::calls::set_up;
 use gateway::config::CircuitSettings;
 use gateway::config::GatewaySettings;
+use gateway::whole::GATEWAY_WORDS;
 use settings::lengths::Lengths;
 use settings::mode::Mode;
 

@@ -7,9 +7,9 @@ use crate::show::cell;
 use crate::show::metric;
 use crate::show::text;
 use basics::kind::CircuitKind;
-use gateway::whole::GATEWAY_WORDS;
 use gateway::calls::link_metric;
 use gateway::calls::receive;
+use gateway::whole::GATEWAY_WORDS;
 use settings::mode::Mode;
 
 fn row(name: &[u8], what: &[u8], configured: u32, frame: &[u8]) {

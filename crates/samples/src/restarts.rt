@@ -9,10 +9,10 @@ use crate::show::number_cell;
 use crate::show::received;
 use crate::show::text;
 use basics::kind::CircuitKind;
-use gateway::whole::GATEWAY_WORDS;
 use gateway::calls::look_up;
 use gateway::calls::receive;
 use gateway::calls::tick;
+use gateway::whole::GATEWAY_WORDS;
 use settings::mode::Mode;
 
 // A tick to the clock, then the frame; the record afterwards, and the answer.

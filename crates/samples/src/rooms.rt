@@ -5,9 +5,9 @@ use crate::show::cell;
 use crate::show::text;
 use crate::show::verdict;
 use basics::kind::CircuitKind;
-use gateway::whole::GATEWAY_WORDS;
 use gateway::calls::receive;
 use gateway::calls::tick;
+use gateway::whole::GATEWAY_WORDS;
 use model::answers::Received;
 use settings::mode::Mode;
 

@@ -7,8 +7,8 @@ use crate::show::cell;
 use crate::show::text;
 use crate::show::verdict;
 use basics::kind::CircuitKind;
-use gateway::whole::GATEWAY_WORDS;
 use gateway::calls::receive;
+use gateway::whole::GATEWAY_WORDS;
 use settings::mode::Mode;
 
 fn row(gateway: &mut [u64; GATEWAY_WORDS], name: &[u8], what: &[u8], frame: &[u8]) {
