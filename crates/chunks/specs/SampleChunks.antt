@@ -1,10 +1,10 @@
 -- Rows of one circuit's unfinished frame (document 02, W-205), with the document's numbers on the right: 13 and 14 by their names, 1,500 octets.
 use Prim.Native.Nat.{ℕ}
 use mathlib.Core.Path.{_≡_}
-use mathlib.Core.List.{List, [], _∷_}
+use mathlib.Core.List.{[], _∷_}
 use lib.ListN.{replicate}
 use Rattle.basics.specs.declared.refusal.Refusal.the-variants.{NotBegun, TooLong}
-use Rattle.chunks.specs.Chunks.{Unfinished, None, Frame, begun, Refused, As, join, afterAll}
+use Rattle.chunks.specs.Chunks.{None, Frame, begun, Refused, As, join, afterAll}
 
 abbrev pub mac : ℕ
 mac = 0x020000000002

@@ -1,11 +1,11 @@
 -- What begin, chunk and end do, from what the functions on one circuit's words and octets ensure.
-use Prim.Native.Nat.{ℕ, zero, suc, _+_, _-_, _*_, _^_, _<_, _≤_}
+use Prim.Native.Nat.{ℕ, _+_, _-_, _^_, _<_, _≤_}
 use native.Mathlib.Omega.{arith}
 use mathlib.Core.Path.{_≡_, refl, ap, sym, _∙_}
 use mathlib.Core.Logic.{inl, inr, _⊎_, _≢_}
-use mathlib.Core.Bool.{Bool, true, false, true≢false}
+use mathlib.Core.Bool.{true, false, true≢false}
 use mathlib.Core.List.{List, [], append-nil}
-use lib.ListN.{length, getD, set, take, drop}
+use lib.ListN.{length, take, drop}
 use lib.Seq.{take-take}
 use lib.Dec.{ltb}
 use borrow.Author.Tests.{ltb-true, ltb-false}
@@ -19,7 +19,7 @@ use Rattle.basics.proofs.BoolLaws.{by-test}
 use Rattle.basics.proofs.ListLaws.{getD-tabulate}
 use Rattle.basics.proofs.OctetsLaws.{big-octetsOf}
 use Rattle.basics.proofs.PartLaws.{part-same}
-use Rattle.chunks.specs.Chunks.{Unfinished, None, Frame, begun, mostOctets, Joined, Refused as RefusedChunk, As, join, after}
+use Rattle.chunks.specs.Chunks.{Unfinished, None, begun, mostOctets, Joined, Refused as RefusedChunk, As, join, after}
 use Rattle.chunks.specs.Words.{slotWords, pendingOf, meant, answered, Adds}
 use Rattle.chunks.specs.declared.slot.Handed.{Handed}
 use Rattle.chunks.specs.declared.slot.Handed.the-variants.{Refused as RefusedPiece, Done as DonePiece}
@@ -32,13 +32,13 @@ use Rattle.control.specs.Common.{circuitOf, Chooses}
 use Rattle.control.specs.Words.{commonOf, controlWords}
 use Rattle.model.specs.Numbers.{refusalNo}
 use Rattle.model.specs.Answers.{Answer, Refused, Told, Done, handedOf}
-use Rattle.model.specs.Gateway.{Gateway, withFrames, withUnfinished, unfinishedOn, numbered, renew}
+use Rattle.model.specs.Gateway.{Gateway, withFrames, withUnfinished, unfinishedOn}
 use Rattle.model.specs.Step.{Outcome, At, Receive, Piece, Begin, Chunk, End, Hand, refused, handed, chunked, ended, hand, handOn, lentTo, step}
 use Rattle.model.specs.Refusals.{dropsOn, drops}
 use Rattle.gateway.specs.declared.pieces.Taken.{Taken}
 use Rattle.gateway.specs.declared.pieces.Taken.the-variants.{Refused as RefusedTaken, Frame as FrameTaken}
-use Rattle.gateway.specs.Words.{ownWords, gatewayOf}
-use Rattle.gateway.specs.Whole.{gatewayWords, frameOctets, slotPlace, octetsPlace, unfinishedAt, wholeOf, DoesWith, Does}
+use Rattle.gateway.specs.Words.{gatewayOf}
+use Rattle.gateway.specs.Whole.{gatewayWords, frameOctets, slotPlace, octetsPlace, unfinishedAt, wholeOf, DoesWith}
 use Rattle.gateway.specs.Pieces.{TakesFrame, Takes}
 use Rattle.gateway.proofs.WordLaws.{part-other, renew-at, numbered-at, choice}
 use Rattle.gateway.proofs.PieceLaws.{slot-own, slot-put}

@@ -1,23 +1,21 @@
 -- A circuit's unfinished frame in the lent memories: its two words and its octets put back change it alone. Then what setup does to the memory whole.
-use Prim.Native.Nat.{ℕ, zero, suc, _+_, _-_, _*_, _^_, _<_, _≤_}
+use Prim.Native.Nat.{ℕ, _+_, _-_, _<_, _≤_}
 use native.Mathlib.Omega.{arith}
 use mathlib.Core.Path.{_≡_, refl, ap, sym, _∙_}
 use mathlib.Core.Logic.{inl, inr, _⊎_, _≢_}
-use mathlib.Core.Bool.{Bool, true, false}
 use mathlib.Core.List.{List, []}
-use lib.ListN.{length, getD, set, take, drop}
+use lib.ListN.{length, set, take, drop}
 use lib.Dec.{ltb, eqb}
 use borrow.Author.Tests.{ltb-true, ltb-false, eqb-true, eqb-false}
-use borrow.Rule.Slice.PartMut.{putMid, put-same, mid-len}
+use borrow.Rule.Slice.PartMut.{putMid, put-same}
 use Rattle.basics.specs.Mask.{circuits}
 use Rattle.basics.specs.Lists.{part, tabulate}
 use Rattle.basics.proofs.BoolLaws.{by-test}
-use Rattle.basics.proofs.ListLaws.{tabulate-set, tabulate-same, getD-tabulate, length-tabulate}
+use Rattle.basics.proofs.ListLaws.{tabulate-set, tabulate-same}
 use Rattle.basics.proofs.PartLaws.{length-back, part-same}
-use Rattle.chunks.specs.Chunks.{Unfinished, None, mostOctets}
+use Rattle.chunks.specs.Chunks.{None, mostOctets}
 use Rattle.chunks.specs.Words.{slotWords, pendingOf, meant}
-use Rattle.chunks.specs.declared.slot.Pending.{Pending}
-use Rattle.chunks.specs.declared.slot.Pending.the-variants.{Idle, Begun}
+use Rattle.chunks.specs.declared.slot.Pending.the-variants.{Idle}
 use Rattle.basics.specs.declared.refusal.Refusal.{Refusal}
 use Rattle.settings.specs.declared.setup.Settings.{Settings}
 use Rattle.timers.specs.declared.hellos.HelloOrders.{HelloOrders}
@@ -34,7 +32,7 @@ use Rattle.control.specs.declared.setup.Basis.{Basis}
 use Rattle.model.specs.Gateway.{Gateway, withFrames, withCommon, newRoom, noFrames, Setup, Refused as RefusedSetup, Started, setup}
 use Rattle.gateway.specs.Words.{ownWords, gatewayOf}
 use Rattle.gateway.specs.Setup.{Refused, reportOf, reportIn, startedIn, PutsCircuit, Begins, SetsUp}
-use Rattle.gateway.specs.Whole.{gatewayWords, frameOctets, slotPlace, octetsPlace, unfinishedAt, wholeOf, Starts, SetsUpWhole}
+use Rattle.gateway.specs.Whole.{gatewayWords, slotPlace, octetsPlace, unfinishedAt, wholeOf, Starts, SetsUpWhole}
 use Rattle.gateway.proofs.WordLaws.{part-other}
 use Rattle.gateway.proofs.WholeLaws.{own-part, own-control, own-back, gateway-back}
 

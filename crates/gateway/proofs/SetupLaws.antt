@@ -3,7 +3,7 @@ use Prim.Native.Nat.{ℕ, zero, suc, _+_, _-_, _<_, _≤_}
 use native.Mathlib.Omega.{arith}
 use mathlib.Core.Path.{_≡_, refl, ap, sym, _∙_}
 use mathlib.Core.Logic.{_≢_}
-use mathlib.Core.Bool.{Bool, true, false}
+use mathlib.Core.Bool.{true, false}
 use mathlib.Core.List.{List, [], _∷_, _++_, map}
 use lib.ListN.{length, set, getD, take, drop}
 use borrow.Author.Tests.{lt-ltb, le-ltb}
@@ -16,7 +16,6 @@ use Rattle.timers.specs.Events.{startHellos}
 use Rattle.control.specs.Words.{controlWords, circuitAt, circuitsFrom}
 use Rattle.basics.specs.declared.refusal.Refusal.the-variants.{BadSetting}
 use Rattle.slots.specs.Slots.{tableOf, roomWords}
-use Rattle.adjacency.specs.declared.place.Slot.{Slot}
 use Rattle.room.specs.Table.{emptyRoom}
 use Rattle.basics.specs.Mask.{circuits}
 use Rattle.settings.specs.Settings.{settingsOk}
@@ -26,7 +25,6 @@ use Rattle.control.specs.Common.{startOf, setupCommon}
 use Rattle.control.specs.Setup.{SetsControl, settingsOn, basisOf}
 use Rattle.control.specs.declared.setup.Basis.{Basis}
 use Rattle.control.proofs.SetupLaws.{Stored, stored-step, stored-all}
-use Rattle.model.specs.declared.answers.SetUp.{SetUp}
 use Rattle.model.specs.declared.answers.SetUp.the-variants.{Refused, Done}
 use Rattle.model.specs.Gateway.{Gateway, Room, withCommon, newRoom, noFrames, newGateway, setup}
 use Rattle.gateway.specs.Words.{ownWords, roomPlace, gatewayOf}

@@ -1,32 +1,28 @@
 -- The laws of the lent memories whole: the gateway's own words lent and put back, a frame's words and octets, and what a call then does. The functions of
 -- modules whole and pieces cite these.
-use Prim.Native.Nat.{ℕ, zero, suc, _+_, _-_, _*_, _<_, _≤_}
+use Prim.Native.Nat.{ℕ, zero, suc, _+_, _≤_}
 use native.Mathlib.Omega.{arith}
 use mathlib.Core.Path.{_≡_, refl, ap, sym, subst, _∙_}
-use mathlib.Core.Logic.{inl, inr, _⊎_, _≢_}
-use mathlib.Core.Bool.{Bool, true, false}
+use mathlib.Core.Logic.{inr}
+use mathlib.Core.Bool.{false}
 use mathlib.Core.List.{List, [], _∷_}
-use lib.ListN.{length, getD, set, take, drop}
+use lib.ListN.{length, take}
 use lib.Seq.{take-take}
-use lib.Dec.{ltb}
-use borrow.Author.Tests.{ltb-true, ltb-false}
 use borrow.Rule.Slice.PartMut.{putMid, put-same, mid-len}
 use Rattle.basics.specs.Mask.{circuits}
 use Rattle.basics.specs.Lists.{part}
-use Rattle.basics.proofs.BoolLaws.{by-test}
-use Rattle.basics.proofs.ListLaws.{tabulate-set, tabulate-same, getD-tabulate, length-tabulate}
+use Rattle.basics.proofs.ListLaws.{tabulate-same}
 use Rattle.basics.proofs.PartLaws.{length-back, part-same}
 use Rattle.slots.specs.Slots.{tableOf, roomWords}
-use Rattle.chunks.specs.Chunks.{Unfinished, None, mostOctets}
+use Rattle.chunks.specs.Chunks.{mostOctets}
 use Rattle.chunks.specs.Words.{slotWords, pendingOf, meant}
-use Rattle.chunks.specs.declared.slot.Pending.{Pending}
 use Rattle.control.specs.Words.{commonOf, controlWords}
 use Rattle.model.specs.Answers.{Answer, Refused}
 use Rattle.model.specs.Gateway.{Gateway, withFrames, noFrames}
 use Rattle.model.specs.Step.{Call, Outcome, step}
 use Rattle.model.proofs.FrameLaws.{isHand, framed, step-framed, frames-kept, drops-none}
 use Rattle.gateway.specs.Words.{ownWords, roomPlace, roomAt, gatewayOf, Meets}
-use Rattle.gateway.specs.Whole.{gatewayWords, frameOctets, slotPlace, octetsPlace, unfinishedAt, wholeOf, DoesWith, Does}
+use Rattle.gateway.specs.Whole.{gatewayWords, slotPlace, octetsPlace, unfinishedAt, wholeOf, Does}
 use Rattle.gateway.proofs.WordLaws.{part-other}
 
 -- ---- a part of a first part

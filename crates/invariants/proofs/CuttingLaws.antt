@@ -4,10 +4,9 @@ use Prim.Native.Nat.{ℕ, zero, suc, _+_, _≤_, _<_}
 use native.Mathlib.Omega.{arith}
 use mathlib.Core.Path.{_≡_, refl, sym, ap, _∙_}
 use mathlib.Core.Logic.{_≢_}
-use mathlib.Core.Bool.{Bool, true, false}
+use mathlib.Core.Bool.{false}
 use mathlib.Core.List.{List, [], _∷_, _++_, append-assoc, append-nil}
 use lib.ListN.{length, length-append}
-use lib.Dec.{eqb}
 use borrow.Author.Tests.{eqb-false}
 use Rattle.settings.specs.declared.circuit.Chosen.{Chosen}
 use Rattle.settings.specs.declared.circuit.Chosen.the-variants.{Known, Unknown}
@@ -15,12 +14,12 @@ use Rattle.settings.specs.declared.circuit.Circuit.{Circuit}
 use Rattle.chunks.specs.Chunks.{Unfinished, None, Frame, mostOctets, Joined, Refused as RefusedChunk, As, join, joined}
 use Rattle.chunks.proofs.ChunkLaws.{join-fits}
 use Rattle.control.specs.Common.{circuitOf}
-use Rattle.model.specs.Gateway.{Gateway, renew, unfinishedOn, withFrames, withUnfinished}
-use Rattle.model.specs.Step.{Local, Receive, Global, Piece, Begin, Chunk, End, Call, At, Over, Hand, Outcome, lift, on, at, Judged, Refused as RefusedCall, Sweep, Tell, judge, carry, handed, chunked, ended, hand, handOn, step}
+use Rattle.model.specs.Gateway.{Gateway, unfinishedOn, withFrames, withUnfinished}
+use Rattle.model.specs.Step.{Local, Receive, Piece, Begin, Chunk, End, Call, At, Over, Hand, Outcome, lift, on, at, Judged, Refused as RefusedCall, Sweep, Tell, judge, carry, handed, chunked, ended, hand, handOn, step}
 use Rattle.model.specs.Trace.{trace, leftBy, after}
 use Rattle.model.proofs.Near.{circuitOf-same}
-use Rattle.model.proofs.Lists.{length-renew, renew-same, renew-other, renew-again, renew-swap}
-use Rattle.invariants.specs.Cutting.{isPieceOn, Aside, FramesAside, Between, none, chunk, other, EndsAs, AnyCutting}
+use Rattle.model.proofs.Lists.{renew-same, renew-other, renew-again, renew-swap}
+use Rattle.invariants.specs.Cutting.{isPieceOn, FramesAside, Between, none, chunk, other, AnyCutting}
 use Rattle.invariants.proofs.CommonLaws.{step-moves}
 use Rattle.invariants.proofs.FrameLaws.{step-length}
 

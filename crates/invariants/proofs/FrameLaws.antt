@@ -1,5 +1,5 @@
 -- Unfinished frames (document 02, W-205): one for each circuit, each of at most 1,500 octets, from setup on and after every call.
-use Prim.Native.Nat.{ℕ, zero, suc, _+_, _≤_, _<_}
+use Prim.Native.Nat.{ℕ, zero, suc, _+_, _≤_}
 use native.Mathlib.Omega.{arith}
 use mathlib.Core.Path.{_≡_, refl, ap, _∙_}
 use mathlib.Core.List.{List, [], _∷_, _++_}
@@ -8,7 +8,6 @@ use lib.Dec.{ltb}
 use borrow.Author.Tests.{ltb-false}
 use Rattle.basics.proofs.BoolLaws.{by-test}
 use Rattle.basics.specs.Mask.{circuits}
-use Rattle.basics.specs.Octets.{octet}
 use Rattle.settings.specs.declared.circuit.Chosen.{Chosen}
 use Rattle.settings.specs.declared.circuit.Chosen.the-variants.{Known, Unknown}
 use Rattle.settings.specs.declared.setup.Settings.{Settings}

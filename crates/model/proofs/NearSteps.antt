@@ -1,19 +1,18 @@
 -- Every call keeps two runs near: begins, chunks and ends, and then all of them. Callers: Isolation.
 use Prim.Native.Nat.{ℕ}
-use mathlib.Core.Path.{_≡_, refl, sym, ap, _∙_, subst}
+use mathlib.Core.Path.{_≡_, refl, sym, ap, subst}
 use mathlib.Core.Logic.{_≢_}
-use mathlib.Core.Bool.{Bool, true, false, not, _&&_, false≢true}
+use mathlib.Core.Bool.{Bool, true, false, false≢true}
 use mathlib.Core.List.{List}
-use lib.ListN.{length}
 use lib.Dec.{eqb}
-use borrow.Author.Tests.{eqb-true, eqb-false, eq-eqb}
+use borrow.Author.Tests.{eqb-true, eqb-false}
 use Rattle.basics.proofs.BoolLaws.{by-test, and-left, and-false}
 use Rattle.settings.specs.declared.circuit.Chosen.{Chosen}
 use Rattle.settings.specs.declared.circuit.Chosen.the-variants.{Known, Unknown}
 use Rattle.chunks.specs.Chunks.{Unfinished, None, Frame, begun, Joined, Refused as RefusedChunk, As, join}
 use Rattle.control.specs.Common.{Common, circuitOf}
 use Rattle.model.specs.Answers.{Answer}
-use Rattle.model.specs.Gateway.{Gateway, renew, unfinishedOn, withFrames, withUnfinished}
+use Rattle.model.specs.Gateway.{Gateway, unfinishedOn, withFrames, withUnfinished}
 use Rattle.model.specs.Step.{Receive, Piece, Begin, Chunk, End, Call, At, Over, Hand, at, judge, chunked, ended, hand, handOn, step}
 use Rattle.model.specs.Claim.{Neighbour, isSent, isIts, isThere, still}
 use Rattle.model.proofs.Lists.{renew-both, length-renew, renew-numbered}

@@ -5,7 +5,6 @@ use mathlib.Core.Path.{_≡_}
 use mathlib.Core.List.{List, [], _∷_, _++_, map}
 use lib.ListN.{replicate, take, drop}
 use Rattle.adjacency.specs.Record.{phaseOf}
-use Rattle.adjacency.specs.declared.record.Key.{Key}
 use Rattle.settings.specs.declared.mode.Mode.the-variants.{Running}
 use Rattle.model.specs.Numbers.{phaseNo}
 use Rattle.model.specs.Answers.{numberOf}

@@ -1,6 +1,6 @@
 -- No call changes which circuits there are, and a record that stood before a call and stands no more went by a tick at its expiry, by its circuit's release
 -- where it was Planned, or by its circuit's clear. For WhyLaws.
-use Prim.Native.Nat.{ℕ, zero, suc, _≤_}
+use Prim.Native.Nat.{ℕ, _≤_}
 use native.Mathlib.Omega.{arith}
 use mathlib.Core.Path.{_≡_, refl, sym, ap, _∙_}
 use mathlib.Core.Logic.{_≢_}

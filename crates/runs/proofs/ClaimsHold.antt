@@ -2,21 +2,20 @@
 use Prim.Native.Nat.{ℕ}
 use native.Mathlib.Omega.{arith}
 use mathlib.Core.Path.{_≡_, refl, ap, sym, _∙_, subst₂}
-use mathlib.Core.List.{List, [], _∷_}
+use mathlib.Core.List.{List, _∷_}
 use Rattle.settings.specs.declared.setup.Settings.{Settings}
 use Rattle.timers.specs.Hellos.{Hellos}
 use Rattle.model.specs.Answers.{Answer}
 use Rattle.model.specs.Gateway.{Gateway, Setup, Refused, Started, setup}
-use Rattle.model.specs.Step.{Call, Outcome, step}
-use Rattle.model.specs.Trace.{Turn, trace, leftBy, after}
+use Rattle.model.specs.Step.{Call}
+use Rattle.model.specs.Trace.{trace, leftBy, after}
 use Rattle.model.specs.Claim.{observedFrom, Agreeing}
 use Rattle.model.proofs.RefusalLaws.{refusals-keep}
 use Rattle.model.proofs.Isolation.{isolation}
-use Rattle.gateway.specs.Setup.{Begun, reportOf, reportIn, startedIn}
-use Rattle.gateway.specs.Whole.{wholeOf, SetsUpWith}
-use Rattle.invariants.specs.Invariants.{Invariant}
+use Rattle.gateway.specs.Setup.{Begun, reportIn, startedIn}
+use Rattle.gateway.specs.Whole.{wholeOf}
 use Rattle.invariants.proofs.InvariantsHold.{invariants}
-use Rattle.runs.specs.Runs.{Lent, meaning, Made, Keeps, Ran, done, also, Begins, begins, turnsOf, EveryCall, none, more}
+use Rattle.runs.specs.Runs.{Lent, meaning, Made, Keeps, done, also, Begins, begins, turnsOf, none, more}
 use Rattle.runs.specs.Claims.{Follows, CodeFollows, Kept, CodeKeeps, CodeIsolation, CodeInvariants}
 
 -- ---- a run is the model's trace

@@ -1,5 +1,5 @@
 -- Any cutting, of the code's runs: the last call of a run is the model's last step.
-use Prim.Native.Nat.{ℕ, zero, suc, _≤_, _<_}
+use Prim.Native.Nat.{ℕ, _≤_}
 use native.Mathlib.Omega.{arith}
 use mathlib.Core.Path.{_≡_, refl, ap, sym, _∙_}
 use mathlib.Core.List.{List, [], _∷_, _++_, map}
@@ -17,15 +17,14 @@ use Rattle.control.proofs.CommonLaws.{circuits-length}
 use Rattle.basics.specs.Lists.{part}
 use Rattle.model.specs.Gateway.{Gateway, withUnfinished}
 use Rattle.chunks.specs.Chunks.{None, joined}
-use Rattle.model.specs.Step.{Call, At, Hand, Receive, Begin, End, Outcome, step}
+use Rattle.model.specs.Step.{Call, At, Hand, Receive, Begin, End, step}
 use Rattle.model.specs.Trace.{Turn, trace, leftBy, after}
 use Rattle.gateway.specs.Words.{gatewayOf}
 use Rattle.gateway.specs.Whole.{unfinishedAt, wholeOf}
-use Rattle.invariants.specs.Cutting.{EndsAs}
 use Rattle.invariants.proofs.CommonLaws.{known-stands}
 use Rattle.invariants.proofs.CuttingLaws.{any-cutting}
 use Rattle.runs.specs.Runs.{Lent, meaning, Made, Ran, turnOf}
-use Rattle.runs.specs.Claims.{EndsSo, CodeCutting}
+use Rattle.runs.specs.Claims.{CodeCutting}
 use Rattle.runs.proofs.ClaimsHold.{code-follows}
 
 -- ---- the last of a list
