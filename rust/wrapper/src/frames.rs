@@ -22,7 +22,7 @@ impl Frames {
         Frames { octets }
     }
 
-    /// Its octets. Those of a frame that was ended stand until the next chunk on its circuit.
+    /// Its octets. Those of a frame that was ended stand until the next chunk.
     pub const fn octets(&self) -> &[u8; Frames::OCTETS] {
         &self.octets
     }
