@@ -37,10 +37,10 @@ use Rattle.model.specs.Step.{Outcome, At, Receive, Piece, Begin, Chunk, End, Ha
 use Rattle.model.specs.Refusals.{dropsOn, drops}
 use Rattle.gateway.specs.declared.pieces.Taken.{Taken}
 use Rattle.gateway.specs.declared.pieces.Taken.the-variants.{Refused as RefusedTaken, Frame as FrameTaken}
-use Rattle.gateway.specs.Words.{gatewayOf}
+use Rattle.own_words.specs.Words.{gatewayOf}
 use Rattle.gateway.specs.Whole.{gatewayWords, frameOctets, slotPlace, octetsPlace, unfinishedAt, wholeOf, DoesWith}
 use Rattle.gateway.specs.Pieces.{TakesFrame, Takes}
-use Rattle.gateway.proofs.WordLaws.{part-other, renew-at, numbered-at, choice}
+use Rattle.own_words.proofs.WordLaws.{part-other, renew-at, numbered-at, choice}
 use Rattle.gateway.proofs.PieceLaws.{slot-own, slot-put}
 
 -- ---- the circuit of the number

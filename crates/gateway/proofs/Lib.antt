@@ -1,7 +1,3 @@
-pub mod WordLaws
-pub mod FrameLaws
-pub mod CallLaws
-pub mod SetupLaws
 pub mod WholeLaws
 pub mod PieceLaws
 pub mod HandLaws

@@ -30,10 +30,10 @@ use Rattle.control.specs.Setup.{settingsOn}
 use Rattle.control.specs.Words.{controlWords, circuitAt, circuitsFrom}
 use Rattle.control.specs.declared.setup.Basis.{Basis}
 use Rattle.model.specs.Gateway.{Gateway, withFrames, withCommon, newRoom, noFrames, Setup, Refused as RefusedSetup, Started, setup}
-use Rattle.gateway.specs.Words.{ownWords, gatewayOf}
-use Rattle.gateway.specs.Setup.{Refused, reportOf, reportIn, startedIn, PutsCircuit, Begins, SetsUp}
+use Rattle.own_words.specs.Words.{ownWords, gatewayOf}
+use Rattle.own_words.specs.Setup.{Refused, reportOf, reportIn, startedIn, PutsCircuit, Begins, SetsUp}
 use Rattle.gateway.specs.Whole.{gatewayWords, slotPlace, octetsPlace, unfinishedAt, wholeOf, Starts, SetsUpWhole}
-use Rattle.gateway.proofs.WordLaws.{part-other}
+use Rattle.own_words.proofs.WordLaws.{part-other}
 use Rattle.gateway.proofs.WholeLaws.{own-part, own-control, own-back, gateway-back}
 
 -- ---- the words of circuit i (from 0), as the code lends them

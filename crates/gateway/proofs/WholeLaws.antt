@@ -21,9 +21,9 @@ use Rattle.model.specs.Answers.{Answer, Refused}
 use Rattle.model.specs.Gateway.{Gateway, withFrames, noFrames}
 use Rattle.model.specs.Step.{Call, Outcome, step}
 use Rattle.model.proofs.FrameLaws.{isHand, framed, step-framed, frames-kept, drops-none}
-use Rattle.gateway.specs.Words.{ownWords, roomPlace, roomAt, gatewayOf, Meets}
+use Rattle.own_words.specs.Words.{ownWords, roomPlace, roomAt, gatewayOf, Meets}
 use Rattle.gateway.specs.Whole.{gatewayWords, slotPlace, octetsPlace, unfinishedAt, wholeOf, Does}
-use Rattle.gateway.proofs.WordLaws.{part-other}
+use Rattle.own_words.proofs.WordLaws.{part-other}
 
 -- ---- a part of a first part
 

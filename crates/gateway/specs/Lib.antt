@@ -1,6 +1,3 @@
-pub mod Words
-pub mod Frame
-pub mod Tick
-pub mod Setup
+pub mod Given
 pub mod Whole
 pub mod Pieces

@@ -8,7 +8,7 @@ use Rattle.model.specs.Step.{At, Hand, Receive, End, refused, step}
 use Rattle.model.specs.Refusals.{drops}
 use Rattle.gateway.specs.declared.pieces.Taken.{Taken}
 use Rattle.gateway.specs.declared.pieces.Taken.the-variants.{Refused, Frame}
-use Rattle.gateway.specs.Words.{ownWords}
+use Rattle.own_words.specs.Words.{ownWords}
 use Rattle.gateway.specs.Whole.{frameOctets, wholeOf}
 
 -- its MAC, and where its octets start and end: the end is receive on these, of the words that are left

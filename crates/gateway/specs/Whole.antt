@@ -15,8 +15,8 @@ use Rattle.timers.specs.Hellos.{Hellos}
 use Rattle.model.specs.Gateway.{Gateway, withFrames, noFrames, Setup}
 use Rattle.model.specs.Step.{Call, step}
 use Rattle.model.specs.Refusals.{drops}
-use Rattle.gateway.specs.Words.{ownWords, gatewayOf}
-use Rattle.gateway.specs.Setup.{Refused as RefusedReport, reportOf, reportIn, startedIn, Begins}
+use Rattle.own_words.specs.Words.{ownWords, gatewayOf}
+use Rattle.own_words.specs.Setup.{Refused as RefusedReport, reportOf, reportIn, startedIn, Begins}
 
 abbrev pub gatewayWords : ℕ
 gatewayWords = ownWords + slotWords * circuits

@@ -2,11 +2,11 @@
 // the caller lends; any content of it means some gateway, and memory that was never set up is one without circuits. Circuits are numbered from 1; MACs and
 // System IDs are six octets. A refusal leaves the memory and the reply buffer as they were, but that an end which receive refuses drops its frame.
 use crate::config::GatewaySettings;
+use crate::config::settings_given;
 use crate::pieces::FRAME_OCTETS;
 use crate::pieces::begin_at;
 use crate::pieces::chunk_at;
 use crate::pieces::end_at;
-use crate::setup::settings_given;
 use crate::whole::GATEWAY_WORDS;
 use crate::whole::clear_at;
 use crate::whole::csnp_at;
@@ -39,8 +39,7 @@ ghost use Rattle.model.specs.Answers.{receivedOf, handedOf, tickedOf, releasedO
 ghost use Rattle.model.specs.Gateway.{setup};
 ghost use Rattle.model.specs.Step.{Hand, Begin, Chunk, End, At, Over, Receive, Tick, Release, Clear, CsnpComplete, DatabaseComplete, LookUp, LinkMetric, NextHello};
 ghost use Rattle.model.specs.Step.{Waiting as Waits};
-ghost use Rattle.gateway.specs.Words.{keyGiven};
-ghost use Rattle.gateway.specs.Setup.{settingsGiven};
+ghost use Rattle.gateway.specs.Given.{keyGiven, settingsGiven};
 ghost use Rattle.gateway.specs.Whole.{DoesWith, Does, SetsUpWhole};
 
 // A new gateway, whatever the memory was; the answer says which hellos are ordered.

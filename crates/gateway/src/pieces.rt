@@ -1,6 +1,5 @@
 // Frames in chunks (document 02, W-205): begin, chunk and end, on the memory whole and on the octets of unfinished frames. An end reads the frame where its
 // octets lie.
-use crate::whole::OWN_WORDS;
 use crate::whole::receive_at;
 use basics::mask::CIRCUITS;
 use basics::octets::six_octets;
@@ -16,6 +15,7 @@ use chunks::slot::load;
 use control::words::CONTROL_WORDS;
 use control::words::circuit_of;
 use model::answers::Received;
+use own_words::words::OWN_WORDS;
 use settings::circuit::Chosen;
 ghost use mathlib.Core.Path.{_≡_};
 ghost use mathlib.Core.List.{[]};

@@ -1,21 +1,9 @@
 // The calls of document 01 on the memory whole: each lends the gateway's own words to the function that makes the call, so that the words of unfinished
 // frames stay as they are. Setup clears those.
-use crate::asks::flags_in;
-use crate::asks::look_in;
-use crate::asks::metric_in;
-use crate::asks::waiting_in;
-use crate::frame::receive_in;
-use crate::notices::csnp_in;
-use crate::notices::database_in;
-use crate::setup::set_up_in;
-use crate::ticks::clear_in;
-use crate::ticks::release_in;
-use crate::ticks::tick_in;
 use adjacency::record::Key;
 use basics::mask::CIRCUITS;
 use chunks::slot::SLOT_WORDS;
 use chunks::slot::clear;
-use control::words::CONTROL_WORDS;
 use model::answers::Looked;
 use model::answers::Metric;
 use model::answers::NextFlags;
@@ -25,8 +13,19 @@ use model::answers::Released;
 use model::answers::SetUp;
 use model::answers::Ticked;
 use model::answers::Waiting;
+use own_words::asks::flags_in;
+use own_words::asks::look_in;
+use own_words::asks::metric_in;
+use own_words::asks::waiting_in;
+use own_words::frame::receive_in;
+use own_words::notices::csnp_in;
+use own_words::notices::database_in;
+use own_words::setup::set_up_in;
+use own_words::ticks::clear_in;
+use own_words::ticks::release_in;
+use own_words::ticks::tick_in;
+use own_words::words::OWN_WORDS;
 use settings::setup::Settings;
-use slots::slot::ROOM_WORDS;
 ghost use mathlib.Core.Path.{_≡_};
 ghost use mathlib.Core.List.{List, []};
 ghost use Prim.Native.Nat.{ℕ};
@@ -38,9 +37,7 @@ ghost use Rattle.model.specs.Step.{At, Over, Receive, Tick, Release, Clear, Csn
 ghost use Rattle.model.specs.Step.{Waiting as Waits};
 ghost use Rattle.gateway.specs.Whole.{gatewayWords, wholeOf, Does, SetsUpWhole};
 
-// The gateway's own words, and with those of unfinished frames.
-pub const OWN_WORDS: usize = CONTROL_WORDS + ROOM_WORDS * CIRCUITS;
-
+// The gateway's own words, and two for each circuit's unfinished frame.
 pub const GATEWAY_WORDS: usize = OWN_WORDS + SLOT_WORDS * CIRCUITS;
 
 pub(crate) fn receive_at(

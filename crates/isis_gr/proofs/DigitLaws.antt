@@ -36,7 +36,7 @@ use Rattle.model.specs.declared.answers.Change.{Change}
 use Rattle.model.specs.declared.answers.Orders.{Orders}
 use Rattle.model.specs.Numbers.{refusalNo, replyFlags, levelsNo, csnpsNo, freedNo, overloadNo, markNo, phaseNo, stateNo}
 use Rattle.model.specs.Answers.{Answer, Refused, Received, Ticked, Told, Fact, Done, Noticed, Looked, Metric, HelloFlags, Waits, TimersAnswer, FrameAnswer, RecordAnswer, numberOf, timersAnswer, changeAnswer, frameAnswer, stateAnswer, lastOf}
-use Rattle.gateway.specs.Setup.{Begun}
+use Rattle.own_words.specs.Setup.{Begun}
 use Rattle.isis_gr.specs.Words.{maskNo, timersNo, changeNo, answerNo, reportNo, recordNo}
 
 -- ---- the range of each part

@@ -18,7 +18,7 @@ use Rattle.adjacency.specs.declared.record.State.the-variants.{Init, Up}
 use Rattle.model.specs.Answers.{Answer, Told, Looked, Waits, stateAnswer, recordAnswer}
 use Rattle.model.specs.Step.{Call, Over, step, judge, carry}
 use Rattle.model.specs.Step.{Waiting as WaitingCall}
-use Rattle.gateway.specs.Words.{gatewayOf}
+use Rattle.own_words.specs.Words.{gatewayOf}
 use Rattle.gateway.specs.Whole.{wholeOf, DoesWith, Does}
 use Rattle.isis_gr.specs.Words.{answerNo, changedNo, recordWords, foundWords}
 use Rattle.isis_gr.specs.declared.answers.ReceivedWords.{ReceivedWords}

@@ -21,7 +21,7 @@ use Rattle.control.specs.declared.setup.Basis.{Basis}
 use Rattle.model.specs.Numbers.{refusalNo}
 use Rattle.model.specs.Gateway.{setup}
 use Rattle.model.specs.declared.answers.SetUp.{SetUp}
-use Rattle.gateway.specs.Setup.{Refused as RefusedReport, PutsCircuit, reportOf}
+use Rattle.own_words.specs.Setup.{Refused as RefusedReport, PutsCircuit, reportOf}
 use Rattle.gateway.specs.Whole.{SetsUpWhole}
 use Rattle.isis_gr.specs.Words.{reportNo, modeKnown}
 use Rattle.isis_gr.specs.Settings.{layout, circuitPlace, circuitPlaces, circuitFrom, circuitKnown, settingsFrom, settingsKnown, setupFrom, EncodesSetup}

@@ -22,7 +22,7 @@ use Rattle.settings.specs.declared.setup.Settings.{Settings}
 use Rattle.model.specs.Numbers.{refusalNo}
 use Rattle.model.specs.Gateway.{Setup, Refused as RefusedSetup, setup}
 use Rattle.gateway.specs.Whole.{wholeOf}
-use Rattle.gateway.specs.Setup.{Refused as RefusedReport, reportIn, startedIn}
+use Rattle.own_words.specs.Setup.{Refused as RefusedReport, reportIn, startedIn}
 use Rattle.isis_gr.specs.Words.{reportNo, modeOf, modeKnown, kindOf, kindKnown, levelsOf, levelsKnown}
 
 -- where the octets of each circuit start

@@ -11,7 +11,7 @@ use Rattle.basics.specs.declared.levels.Levels.{Levels}
 use Rattle.settings.specs.declared.mode.Mode.{Mode}
 use Rattle.settings.specs.declared.mode.Mode.the-variants.{Running, Restarting, Starting}
 use Rattle.model.specs.Answers.{Answer, Refused, Received, Ticked, Told, Fact, Done, Noticed, Looked, Metric, HelloFlags, Waits, TimersAnswer, ChangeAnswer, FrameAnswer, RecordAnswer}
-use Rattle.gateway.specs.Setup.{Report, Refused as RefusedReport, Begun}
+use Rattle.own_words.specs.Setup.{Report, Refused as RefusedReport, Begun}
 
 -- ---- the parts
 

@@ -37,7 +37,7 @@ ghost use lib.ListN.{length};
 ghost use Rattle.model.specs.Answers.{changeAnswer, frameAnswer, recordAnswer, receivedOf, tickedOf, releasedOf, noticedOf, lookedOf, metricOf, flagsOf, waitingOf};
 ghost use Rattle.adjacency.specs.declared.record.Adjacency.the-variants.{Present};
 ghost use Rattle.basics.specs.Mask.{t1Places};
-ghost use Rattle.gateway.specs.Setup.{reportOf};
+ghost use Rattle.own_words.specs.Setup.{reportOf};
 ghost use Rattle.isis_gr.specs.Words.{frameNo, changeNo, answerNo, changedNo, reportNo, recordWords, foundWords};
 
 fn orders_word(o: Orders) -> u64

@@ -33,7 +33,7 @@ ghost use mathlib.Core.Path.{_≡_};
 ghost use mathlib.Core.List.{[]};
 ghost use Rattle.basics.specs.Octets.{big};
 ghost use Rattle.model.specs.Step.{At, Over, Receive, Tick, Release, Clear, CsnpComplete, DatabaseComplete, LookUp, LinkMetric, NextHello, Waiting};
-ghost use Rattle.gateway.specs.Words.{keyGiven};
+ghost use Rattle.gateway.specs.Given.{keyGiven};
 ghost use Rattle.gateway.specs.Whole.{gatewayWords};
 ghost use Rattle.isis_gr.specs.Encodes.{Encodes, EncodesFrame, EncodesFound};
 ghost use Rattle.isis_gr.specs.Settings.{setupFrom, EncodesSetup};

@@ -19,7 +19,7 @@ ghost use Rattle.basics.specs.Mask.{circuits};
 ghost use Rattle.basics.specs.Lists.{every};
 ghost use Rattle.settings.specs.Settings.{circuitOk, settingsOk};
 ghost use Rattle.model.specs.Gateway.{setup};
-ghost use Rattle.gateway.specs.Setup.{HoldsCircuits};
+ghost use Rattle.own_words.specs.Setup.{HoldsCircuits};
 ghost use Rattle.gateway.specs.Whole.{SetsUpWhole};
 ghost use Rattle.isis_gr.specs.Settings.{settingsOctets, settingsFrom};
 

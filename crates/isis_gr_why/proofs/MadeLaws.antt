@@ -18,10 +18,10 @@ use Rattle.model.specs.Receive.{Acted, refuse}
 use Rattle.model.specs.Step.{Call as CallMade, LookUp, LinkMetric, NextHello, Receive, Waiting, At, Over, told, asksLevel, flagsAt, lookUp, linkMetricOf, nextHello, act, lift, on, at, judge, carry, step}
 use Rattle.model.specs.declared.answers.Received.{Received}
 use Rattle.model.proofs.FrameLaws.{isHand, frames-kept}
-use Rattle.gateway.specs.Words.{gatewayOf}
+use Rattle.own_words.specs.Words.{gatewayOf}
 use Rattle.gateway.specs.Whole.{wholeOf, Does}
 use Rattle.gateway.proofs.WholeLaws.{own-does}
-use Rattle.gateway.proofs.WordLaws.{same-room}
+use Rattle.own_words.proofs.WordLaws.{same-room}
 use Rattle.reasons.specs.Holds.{isReceive}
 use Rattle.reasons.specs.Why.{goneBy, callOf, reasonOf}
 use Rattle.reasons.specs.declared.why.Call.{Call}

@@ -42,8 +42,8 @@ use Rattle.model.specs.Numbers.{replyFlags, isOrdered}
 use Rattle.model.specs.Receive.{hereOf, rankOf}
 use Rattle.model.specs.Step.{Call, At, Receive, asksLevel, step}
 use Rattle.model.specs.declared.answers.Orders.{Orders}
-use Rattle.gateway.proofs.WordLaws.{room-of}
-use Rattle.gateway.specs.Words.{gatewayOf, roomPlace}
+use Rattle.own_words.proofs.WordLaws.{room-of}
+use Rattle.own_words.specs.Words.{gatewayOf, roomPlace}
 use Rattle.reasons.proofs.FrameLaws.{Took, took}
 use Rattle.reasons.proofs.LineLaws.{line-restart, line-planned, line-silent}
 use Rattle.reasons.specs.Duty.{dutyIn}

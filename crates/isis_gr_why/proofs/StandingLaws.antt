@@ -17,8 +17,8 @@ use Rattle.settings.specs.declared.circuit.Circuit.{Circuit}
 use Rattle.control.specs.Common.{circuitOf}
 use Rattle.model.specs.Gateway.{Gateway, recordAt}
 use Rattle.model.specs.Step.{asksLevel}
-use Rattle.gateway.specs.Words.{gatewayOf, roomPlace}
-use Rattle.gateway.proofs.WordLaws.{room-of}
+use Rattle.own_words.specs.Words.{gatewayOf, roomPlace}
+use Rattle.own_words.proofs.WordLaws.{room-of}
 use Rattle.reasons.specs.Why.{standsOn, standing}
 
 module _ (ws : List ℕ) (n : ℕ) (s : Circuit) (k : Key) where

@@ -5,7 +5,7 @@ use mathlib.Core.Path.{_≡_}
 use mathlib.Core.List.{List}
 use Rattle.adjacency.specs.declared.record.Key.{Key}
 use Rattle.model.specs.Step.{Outcome, step}
-use Rattle.gateway.specs.Words.{gatewayOf}
+use Rattle.own_words.specs.Words.{gatewayOf}
 use Rattle.gateway.specs.Whole.{wholeOf}
 use Rattle.reasons.specs.Why.{callOf, reasonOf, whyOf}
 use Rattle.reasons.specs.declared.why.Call.{Call}

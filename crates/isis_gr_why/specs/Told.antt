@@ -14,7 +14,7 @@ use Rattle.adjacency.specs.declared.record.Adjacency.{Adjacency}
 use Rattle.adjacency.specs.declared.record.Key.{Key}
 use Rattle.model.specs.Answers.{Answer, receivedOf}
 use Rattle.model.specs.Step.{Call, At, Receive, step}
-use Rattle.gateway.specs.Words.{gatewayOf}
+use Rattle.own_words.specs.Words.{gatewayOf}
 use Rattle.reasons.specs.Holds.{isReceive}
 use Rattle.reasons.specs.Why.{goneBy, callOf, reasonOf}
 use Rattle.reasons.specs.declared.why.Call.{Call as CallGiven}

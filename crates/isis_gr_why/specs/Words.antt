@@ -5,7 +5,7 @@ use mathlib.Core.Bool.{Bool, true, false, cond, _&&_}
 use mathlib.Core.List.{List}
 use lib.Dec.{eqb, ltb}
 use Rattle.adjacency.specs.declared.record.Key.{Key}
-use Rattle.gateway.specs.Words.{gatewayOf}
+use Rattle.own_words.specs.Words.{gatewayOf}
 use Rattle.reasons.specs.Why.{Why, NotSo, Init, Suppressed, NoRecord, Refused, Expired, Released, Cleared, Fits, Outranked, callOf, whyOf}
 use Rattle.reasons.specs.declared.why.Call.{Call}
 use Rattle.reasons.specs.declared.why.Call.the-variants.{Receive, Tick, Release, Clear, CsnpComplete, DatabaseComplete, LookUp, LinkMetric, NextHello, Waiting}

@@ -9,7 +9,7 @@ use crate::words::question_of;
 use crate::words::reason_words;
 use gateway::whole::GATEWAY_WORDS;
 ghost use Rattle.basics.specs.Octets.{big};
-ghost use Rattle.gateway.specs.Words.{keyGiven};
+ghost use Rattle.gateway.specs.Given.{keyGiven};
 ghost use Rattle.isis_gr_why.specs.Words.{callFrom, areKnown, EncodesWhy};
 
 // The reason, for a circuit and a record's key.

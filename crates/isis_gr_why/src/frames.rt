@@ -38,7 +38,7 @@ ghost use Rattle.model.specs.Gateway.{roomOf};
 ghost use Rattle.model.specs.Numbers.{replyFlags};
 ghost use Rattle.model.specs.Receive.{rankOf};
 ghost use Rattle.model.specs.Step.{Call, At, Receive, step};
-ghost use Rattle.gateway.specs.Words.{gatewayOf};
+ghost use Rattle.own_words.specs.Words.{gatewayOf};
 ghost use Rattle.gateway.specs.Whole.{gatewayWords};
 ghost use Rattle.reasons.specs.Duty.{dutyIn};
 ghost use Rattle.reasons.specs.Why.{reasonOf, byDuty, byLine, noCsnps};

@@ -4,7 +4,7 @@ use adjacency::record::Adjacency;
 use adjacency::record::Key;
 use control::words::CONTROL_WORDS;
 use control::words::circuit_of;
-use gateway::asks::asks_level;
+use own_words::asks::asks_level;
 use room::place::found;
 use settings::circuit::Chosen;
 use settings::circuit::Circuit;
@@ -14,7 +14,7 @@ ghost use Prim.Native.Nat.{_<_, _≤_};
 ghost use lib.ListN.{length};
 ghost use Rattle.basics.specs.Mask.{circuits};
 ghost use Rattle.settings.specs.declared.circuit.Chosen.the-variants.{Known};
-ghost use Rattle.gateway.specs.Words.{gatewayOf};
+ghost use Rattle.own_words.specs.Words.{gatewayOf};
 ghost use Rattle.gateway.specs.Whole.{gatewayWords};
 ghost use Rattle.reasons.specs.Why.{standsOn, standing};
 

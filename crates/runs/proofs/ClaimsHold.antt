@@ -12,7 +12,7 @@ use Rattle.model.specs.Trace.{trace, leftBy, after}
 use Rattle.model.specs.Claim.{observedFrom, Agreeing}
 use Rattle.model.proofs.RefusalLaws.{refusals-keep}
 use Rattle.model.proofs.Isolation.{isolation}
-use Rattle.gateway.specs.Setup.{Begun, reportIn, startedIn}
+use Rattle.own_words.specs.Setup.{Begun, reportIn, startedIn}
 use Rattle.gateway.specs.Whole.{wholeOf}
 use Rattle.invariants.proofs.InvariantsHold.{invariants}
 use Rattle.runs.specs.Runs.{Lent, meaning, Made, Keeps, done, also, Begins, begins, turnsOf, none, more}

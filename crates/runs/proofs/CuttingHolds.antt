@@ -19,7 +19,7 @@ use Rattle.model.specs.Gateway.{Gateway, withUnfinished}
 use Rattle.chunks.specs.Chunks.{None, joined}
 use Rattle.model.specs.Step.{Call, At, Hand, Receive, Begin, End, step}
 use Rattle.model.specs.Trace.{Turn, trace, leftBy, after}
-use Rattle.gateway.specs.Words.{gatewayOf}
+use Rattle.own_words.specs.Words.{gatewayOf}
 use Rattle.gateway.specs.Whole.{unfinishedAt, wholeOf}
 use Rattle.invariants.proofs.CommonLaws.{known-stands}
 use Rattle.invariants.proofs.CuttingLaws.{any-cutting}

@@ -18,7 +18,7 @@ use Rattle.model.specs.Step.{Call, At, Hand, Receive, Begin, End}
 use Rattle.model.specs.Trace.{trace, after}
 use Rattle.model.specs.Refusals.{lentBy, drops}
 use Rattle.model.specs.Claim.{Neighbour, shared, observedFrom, Agreeing}
-use Rattle.gateway.specs.Words.{ownWords}
+use Rattle.own_words.specs.Words.{ownWords}
 use Rattle.invariants.specs.Invariants.{AllFit, Invariant}
 use Rattle.invariants.specs.Cutting.{Between}
 use Rattle.runs.specs.Runs.{Lent, meaning, Made, Ran, Begins, turnsOf, EveryCall}

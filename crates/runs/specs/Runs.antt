@@ -10,7 +10,7 @@ use Rattle.model.specs.Answers.{Answer}
 use Rattle.model.specs.Gateway.{Gateway, setup}
 use Rattle.model.specs.Step.{Call}
 use Rattle.model.specs.Trace.{Turn}
-use Rattle.gateway.specs.Setup.{Begun, reportOf}
+use Rattle.own_words.specs.Setup.{Begun, reportOf}
 use Rattle.gateway.specs.Whole.{wholeOf, DoesWith, SetsUpWhole}
 
 -- the lent memories

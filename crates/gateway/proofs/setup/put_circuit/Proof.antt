@@ -1,5 +1,5 @@
 -- Past the last circuit nothing is done.
-use Rattle.gateway.proofs.SetupLaws.{puts-none}
+use Rattle.own_words.proofs.SetupLaws.{puts-none}
 use borrow.Author.Needs.{needs}
 use Rattle.gateway.proofs.setup.put_circuit.Statement.{statement}
 use Rattle.gateway.proofs.setup.put_circuit.Tie as tie

@@ -1,6 +1,6 @@
 -- The invariant: the circuits before i are put.
 use Rattle.basics.specs.Mask.{circuits}
-use Rattle.gateway.proofs.SetupLaws.{PutUpTo, put-none, put-next, put-all}
+use Rattle.own_words.proofs.SetupLaws.{PutUpTo, put-none, put-next, put-all}
 use Rattle.isis_gr.specs.Settings.{circuitFrom, settingsFrom}
 use Rattle.isis_gr.proofs.SettingsLaws.{length-circuits, circuit-nth, put-as}
 use Prim.Native.Nat.{_-_, _≤_}

@@ -1,7 +1,7 @@
 -- Refusal 12, or the circuits and then the rest.
 use Rattle.control.specs.declared.setup.Basis.{Basis}
 use Rattle.basics.specs.Mask.{circuits}
-use Rattle.gateway.proofs.SetupLaws.{set-up-refused, set-up-done, counted-same}
+use Rattle.own_words.proofs.SetupLaws.{set-up-refused, set-up-done, counted-same}
 use Rattle.gateway.proofs.PieceLaws.{own-refused, own-started, starts-as}
 use Rattle.settings.proofs.SettingsLaws.{count-in-range}
 use Rattle.isis_gr.specs.Settings.{settingsFrom}

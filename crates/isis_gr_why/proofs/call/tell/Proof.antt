@@ -1,7 +1,7 @@
 -- The question decides; the memory after the call is that of its step.
 use Rattle.model.specs.Gateway.{Gateway}
 use Rattle.model.specs.Step.{step}
-use Rattle.gateway.specs.Words.{gatewayOf}
+use Rattle.own_words.specs.Words.{gatewayOf}
 use Rattle.reasons.specs.Why.{standing, notAdvertised, vanished, whyOf}
 use mathlib.Core.Path.{ap, _∙_}
 use borrow.Author.Needs.{needs}

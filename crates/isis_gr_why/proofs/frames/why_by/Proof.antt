@@ -2,7 +2,7 @@
 use Rattle.reasons.specs.Duty.{dutyIn}
 use Rattle.model.specs.Receive.{rankOf}
 use Rattle.model.specs.Gateway.{roomOf}
-use Rattle.gateway.specs.Words.{gatewayOf}
+use Rattle.own_words.specs.Words.{gatewayOf}
 use Rattle.isis_gr_why.proofs.SilentLaws.{by-line-fits}
 use borrow.Author.Needs.{needs}
 use Rattle.isis_gr_why.proofs.frames.why_by.Statement.{statement}

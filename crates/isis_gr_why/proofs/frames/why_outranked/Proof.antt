@@ -1,8 +1,8 @@
 -- No circuit, or the duty of its room.
 use Rattle.reasons.specs.declared.why.Duty.the-variants.{Ours}
 use Rattle.isis_gr_why.proofs.SilentLaws.{outranked-by, not-unknown}
-use Rattle.gateway.proofs.WordLaws.{choice}
-use Rattle.gateway.specs.Words.{gatewayOf}
+use Rattle.own_words.proofs.WordLaws.{choice}
+use Rattle.own_words.specs.Words.{gatewayOf}
 use Rattle.control.specs.Common.{InRange}
 use native.Mathlib.Omega.{arith}
 use mathlib.Core.Path.{subst, sym, _∙_}

@@ -3,7 +3,7 @@ use Rattle.isis_gr_why.proofs.ToldLaws.{silent-other, silent-refused, t
 use mathlib.Core.Path.{refl, sym, ap, _∙_}
 use Rattle.model.specs.Answers.{receivedOf}
 use Rattle.model.specs.Step.{step}
-use Rattle.gateway.specs.Words.{gatewayOf}
+use Rattle.own_words.specs.Words.{gatewayOf}
 use borrow.Author.Needs.{needs}
 use Rattle.isis_gr_why.proofs.frames.why_silent.Statement.{statement}
 use Rattle.isis_gr_why.proofs.frames.why_silent.Tie as tie

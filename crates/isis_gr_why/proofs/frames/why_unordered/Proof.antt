@@ -1,7 +1,7 @@
 -- CSNPs were ordered, or the line decides.
 use mathlib.Core.Path.{ap}
 use Rattle.model.specs.Numbers.{isOrdered}
-use Rattle.gateway.specs.Words.{gatewayOf}
+use Rattle.own_words.specs.Words.{gatewayOf}
 use Rattle.isis_gr_why.proofs.SilentLaws.{silent-ordered, silent-fits}
 use borrow.Author.Needs.{needs}
 use Rattle.isis_gr_why.proofs.frames.why_unordered.Statement.{statement}

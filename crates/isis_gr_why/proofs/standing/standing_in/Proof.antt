@@ -1,7 +1,7 @@
 -- The circuit, or none.
 use Rattle.isis_gr_why.proofs.StandingLaws.{standing-by, standing-none}
-use Rattle.gateway.proofs.WordLaws.{choice}
-use Rattle.gateway.specs.Words.{gatewayOf}
+use Rattle.own_words.proofs.WordLaws.{choice}
+use Rattle.own_words.specs.Words.{gatewayOf}
 use Rattle.control.specs.Common.{InRange}
 use mathlib.Core.Path.{subst, _∙_}
 use borrow.Author.Needs.{needs}

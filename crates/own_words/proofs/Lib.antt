@@ -1,0 +1,4 @@
+pub mod WordLaws
+pub mod FrameLaws
+pub mod CallLaws
+pub mod SetupLaws

@@ -1,0 +1,4 @@
+pub mod Words
+pub mod Frame
+pub mod Tick
+pub mod Setup
