@@ -128,7 +128,7 @@ typedef struct {
 
 /* Memory for the octets of one gateway's unfinished frames (document 02, W-205). The caller owns it, it may hold anything at first, and only
    isis_gr_add_chunk writes it; a daemon whose frames come whole needs none. The joined octets of circuit n stand from ISIS_GR_MOST_OCTETS * (n - 1) on, and
-   still after the end until the next chunk, so that a daemon can read there what it reads of an accepted hello itself. */
+   still after the end until the next chunk on that circuit, so that a daemon can read there what it reads of an accepted hello itself. */
 typedef struct {
     uint8_t octets[ISIS_GR_FRAME_OCTETS];
 } isis_gr_frames;

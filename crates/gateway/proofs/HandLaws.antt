@@ -8,7 +8,7 @@ use mathlib.Core.List.{List, [], append-nil}
 use lib.ListN.{length, take, drop}
 use lib.Seq.{take-take}
 use lib.Dec.{ltb}
-use borrow.Author.Tests.{ltb-true, ltb-false}
+use borrow.Author.Tests.{ltb-true, ltb-false, eqb-false}
 use borrow.Rule.Slice.PartMut.{putMid, put-same}
 use Rattle.basics.specs.Mask.{circuits}
 use Rattle.basics.specs.Lists.{part}
@@ -34,7 +34,7 @@ use Rattle.model.specs.Numbers.{refusalNo}
 use Rattle.model.specs.Answers.{Answer, Refused, Told, Done, handedOf}
 use Rattle.model.specs.Gateway.{Gateway, withFrames, withUnfinished, unfinishedOn}
 use Rattle.model.specs.Step.{Outcome, At, Receive, Piece, Begin, Chunk, End, Hand, refused, handed, chunked, ended, hand, handOn, lentTo, step}
-use Rattle.model.specs.Refusals.{dropsOn, drops}
+use Rattle.model.proofs.NumberLaws.{received-by}
 use Rattle.gateway.specs.declared.pieces.Taken.{Taken}
 use Rattle.gateway.specs.declared.pieces.Taken.the-variants.{Refused as RefusedTaken, Frame as FrameTaken}
 use Rattle.own_words.specs.Words.{gatewayOf}
@@ -57,6 +57,7 @@ refuses ws fs b n p x e =
       answer = sym (ap (λ (o : Outcome). o .answer) e);
       reply = sym (ap (λ (o : Outcome). o .reply) e);
       next = sym (ap (λ (o : Outcome). o .next) e);
+      elsewhere = λ i l w. refl;
       octets = λ y q. refl;
       own = λ y q. refl;
       kept = λ y q h. refl;
@@ -104,10 +105,6 @@ module _ (ws fs : List ℕ) (n : ℕ) (lo : 0 < n) (hi : n ≤ circuits) where
     unfolding step handOn hand
     end-is b = rw (known, frame-on) refl
 
-    drops-is : (b : List ℕ) → drops (wholeOf ws fs) (Hand n (End b)) ≡ dropsOn (End b) (Known s) (unfinishedAt ws fs (n - 1))
-    unfolding drops
-    drops-is b = rw (known, frame-on) refl
-
     -- ---- begin
 
     pub begins : length ws ≡ gatewayWords → (mac : ℕ) (t : List ℕ) → length t ≡ a + slotWords - a → pendingOf t ≡ Begun mac 0
@@ -120,6 +117,7 @@ module _ (ws fs : List ℕ) (n : ℕ) (lo : 0 < n) (hi : n ≤ circuits) where
           next =
               frame-put len t long fs (λ j lj ne. refl) ∙ ap (λ q. withUnfinished (wholeOf ws fs) n (meant (part f mostOctets fs) q)) p
               ∙ sym (ap (λ (o : Outcome). o .next) e);
+          elsewhere = λ i l w. refl;
           octets = λ y q. refl;
           own = λ y q. absurd (let z : _≡_ {A = ℕ} 0 1 = cc in omega arith);
           kept = λ y q h. absurd (let z : _≡_ {A = ℕ} 0 1 = cc in omega arith);
@@ -146,14 +144,16 @@ module _ (ws fs : List ℕ) (n : ℕ) (lo : 0 < n) (hi : n ≤ circuits) where
 
       chunk-joined : (v : Unfinished) → join (unfinishedAt ws fs (n - 1)) octets ≡ As v
           → wholeOf ws′ fs′ ≡ withUnfinished (wholeOf ws fs) n v
+          → ((j : ℕ) → j < circuits → j ≢ n - 1 → part (octetsPlace j) mostOctets fs′ ≡ part (octetsPlace j) mostOctets fs)
           → DoesWith (Hand n (Chunk octets)) (Told Done) ws fs ws′ fs′ []
       unfolding chunked
-      chunk-joined v e w =
+      chunk-joined v e w others =
           let s = chunk-is octets ∙ ap (chunked (wholeOf ws fs) n) e in
           record {
             answer = sym (ap (λ (o : Outcome). o .answer) s);
             reply = sym (ap (λ (o : Outcome). o .reply) s);
             next = w ∙ sym (ap (λ (o : Outcome). o .next) s);
+            elsewhere = λ j l h. others j l (λ z. let ne = eqb-false n (j + 1) h in ne (omega arith));
             octets = λ y q. absurd (let z : _≡_ {A = ℕ} 0 1 = cc in omega arith);
             own = λ y q. absurd (let z : _≡_ {A = ℕ} 0 1 = cc in omega arith);
             kept = λ y q h. absurd (let z : _≡_ {A = ℕ} 0 1 = cc in omega arith);
@@ -189,7 +189,8 @@ module _ (ws fs : List ℕ) (n : ℕ) (lo : 0 < n) (hi : n ≤ circuits) where
             (chunk-joined v e
             (frame-put len us′ lu fs′ octets-other
             ∙ ap (λ (o : List ℕ). withUnfinished (wholeOf ws fs) n (meant o (pendingOf us′))) octets-same
-            ∙ ap (withUnfinished (wholeOf ws fs) n) (m .next ∙ ap (after (unfinishedAt ws fs (n - 1))) e)))
+            ∙ ap (withUnfinished (wholeOf ws fs) n) (m .next ∙ ap (after (unfinishedAt ws fs (n - 1))) e))
+            octets-other)
 
         pub chunks : (r : Handed) → Adds octets (part a (a + slotWords - a) ws) (part f (f + mostOctets - f) fs) r us′ os′
             → DoesWith (Hand n (Chunk octets)) (handedOf r) ws fs ws′ fs′ []
@@ -223,7 +224,7 @@ module _ (ws : List ℕ) (n : ℕ) (lo : 0 < n) (hi : n ≤ circuits) (s : Circu
 
   pub takes-frame : length ws ≡ gatewayWords → (mac k : ℕ) (t : List ℕ) → k ≤ mostOctets → mac < 2 ^ 48 → pendingOf (part p (p + slotWords - p) ws) ≡ Begun mac k
       → length t ≡ p + slotWords - p → pendingOf t ≡ Idle → TakesFrame n ws (putMid p (p + slotWords - p) ws t) mac q (q + k)
-  unfolding ended dropsOn step
+  unfolding ended step
   takes-frame len mac k t fit fits e long idle =
       record {
         mac-fits = fits;
@@ -238,7 +239,9 @@ module _ (ws : List ℕ) (n : ℕ) (lo : 0 < n) (hi : n ≤ circuits) (s : Circu
             end-is ws fs n lo hi s (known fs) b ∙ ap (ended (wholeOf ws fs) n b) (frame-is fs (Begun mac k) e)
             ∙ ap (λ (o : List ℕ). step (withUnfinished (wholeOf ws fs) n None) (At n (Receive mac o b))) cut
             ∙ ap (λ (g : Gateway). step g (At n (Receive mac (part q (q + k - q) fs) b))) (sym left);
-        dropped = λ fs b. drops-is ws fs n lo hi s (known fs) b ∙ ap (dropsOn (End b) (Known s)) (frame-is fs (Begun mac k) e);
+        dropped = λ fs b x z.
+            received-by (withUnfinished (wholeOf ws fs) n None) n s (known fs) mac (take k (part q mostOctets fs)) b x
+            (sym (ap (λ (o : Outcome). o .answer) (end-is ws fs n lo hi s (known fs) b ∙ ap (ended (wholeOf ws fs) n b) (frame-is fs (Begun mac k) e))) ∙ z);
       }
 
 -- .. and what it then does
@@ -265,7 +268,8 @@ ends-does {n} {ws} {ws1} {ws′} {mac} {m} {start} {end} {a} {b′} fs b t e d =
       answer = x .answer ∙ sym (ap (λ (o : Outcome). o .answer) s);
       reply = x .reply ∙ sym (ap (λ (o : Outcome). o .reply) s);
       next = x .next ∙ sym (ap (λ (o : Outcome). o .next) s);
+      elsewhere = λ i l w. refl;
       octets = λ y z. refl;
       own = λ y z. x .own y z ∙ t .own;
-      kept = λ y z h. absurd (true≢false (sym (t .dropped fs b) ∙ h));
+      kept = λ y z h. absurd (true≢false (sym (t .dropped fs b y (ap (λ (o : Outcome). o .answer) s ∙ sym (x .answer) ∙ z)) ∙ h));
     }

@@ -90,6 +90,7 @@ lends ws t len lt c plain a b′ m fs =
       reply = m .reply ∙ sym (ap (λ (o : Outcome). o .reply) s);
       next =
           frames-stay ws t len lt fs ∙ ap (λ (g : Gateway). withFrames g (wholeOf ws fs .unfinished)) (m .next) ∙ sym (ap (λ (o : Outcome). o .next) s);
+      elsewhere = λ i l w. refl;
       octets = λ x e. refl;
       own = λ x e. ap (part 0 ownWords) (same x e);
       kept = λ x e h. same x e;
@@ -113,7 +114,7 @@ own-does {c} {a} {ws} {ws′} plain d =
       next =
           ap (λ (g : Gateway). withFrames g noFrames) (e .next ∙ ap (λ (o : Outcome). o .next) s)
           ∙ ap (withFrames (step (gatewayOf ws) c .next)) (sym (frames-kept (gatewayOf ws) c plain));
-      kept = λ x q. e .kept x q (drops-none (wholeOf ws []) c plain);
+      kept = λ x q. e .kept x q (drops-none c x plain);
     }
 
 -- with an equal call

@@ -5,6 +5,7 @@ use mathlib.Core.Bool.{true}
 use mathlib.Core.List.{List}
 use Rattle.basics.specs.Lists.{part}
 use Rattle.model.specs.Step.{At, Hand, Receive, End, refused, step}
+use Rattle.model.specs.Answers.{Refused as RefusedAnswer}
 use Rattle.model.specs.Refusals.{drops}
 use Rattle.gateway.specs.declared.pieces.Taken.{Taken}
 use Rattle.gateway.specs.declared.pieces.Taken.the-variants.{Refused, Frame}
@@ -18,7 +19,7 @@ pub record TakesFrame (n : ℕ) (ws ws′ : List ℕ) (mac start end : ℕ) : Ty
   pub high : end ≤ frameOctets
   pub own : part 0 ownWords ws′ ≡ part 0 ownWords ws
   pub ends : (fs b : List ℕ) → step (wholeOf ws fs) (Hand n (End b)) ≡ step (wholeOf ws′ fs) (At n (Receive mac (part start (end - start) fs) b))
-  pub dropped : (fs b : List ℕ) → drops (wholeOf ws fs) (Hand n (End b)) ≡ true
+  pub dropped : (fs b : List ℕ) (x : ℕ) → step (wholeOf ws fs) (Hand n (End b)) .answer ≡ RefusedAnswer x → drops (Hand n (End b)) x ≡ true
 
 abbrev pub Takes : ℕ → List ℕ → List ℕ → Taken → Type 0
 Takes n ws ws′ (Refused x) = (ws′ ≡ ws) × ((fs b : List ℕ) → step (wholeOf ws fs) (Hand n (End b)) ≡ refused (wholeOf ws fs) b x)

@@ -1,9 +1,10 @@
 -- The lent memories whole (house): after the gateway's own words two words for each circuit's unfinished frame (document 02, W-205), and in a second
 -- memory, which begins, chunks and ends alone take, 1,500 octets for each. And the promise of every call.
-use Prim.Native.Nat.{ℕ, _+_, _*_}
+use Prim.Native.Nat.{ℕ, _+_, _*_, _<_}
 use mathlib.Core.Path.{_≡_}
-use mathlib.Core.Bool.{false}
+use mathlib.Core.Bool.{Bool, false}
 use mathlib.Core.List.{List}
+use lib.Dec.{eqb}
 use Rattle.basics.specs.Mask.{circuits}
 use Rattle.basics.specs.Lists.{part, tabulate}
 use Rattle.chunks.specs.Chunks.{Unfinished, mostOctets}
@@ -13,7 +14,7 @@ use Rattle.model.specs.Answers.{Answer, Refused}
 use Rattle.control.specs.declared.setup.Basis.{Basis}
 use Rattle.timers.specs.Hellos.{Hellos}
 use Rattle.model.specs.Gateway.{Gateway, withFrames, noFrames, Setup}
-use Rattle.model.specs.Step.{Call, step}
+use Rattle.model.specs.Step.{Call, At, Over, Hand, step}
 use Rattle.model.specs.Refusals.{drops}
 use Rattle.own_words.specs.Words.{ownWords, gatewayOf}
 use Rattle.own_words.specs.Setup.{Refused as RefusedReport, reportOf, reportIn, startedIn, Begins}
@@ -40,15 +41,23 @@ wholeOf ws fs = withFrames (gatewayOf ws) (tabulate (unfinishedAt ws fs) circuit
 
 -- ---- what every call is to do
 
--- The call c on the words ws and the octets fs, a being its answer: answer, reply buffer and gateway at exit are those of its step. A refusal leaves
--- every octet and every word as it was, but that an end which receive refuses drops its frame: the gateway's own words stay then.
+-- whether the octets of circuit i (from 0) are the call's to write
+abbrev pub writesAt : Call → ℕ → Bool
+writesAt (At n l) i = false
+writesAt (Over w) i = false
+writesAt (Hand n p) i = eqb n (i + 1)
+
+-- The call c on the words ws and the octets fs, a being its answer: answer, reply buffer and gateway at exit are those of its step. The octets of other
+-- circuits stay, those of dropped frames too. A refusal leaves every octet and every word as it was, but that an end which receive refuses drops its frame:
+-- the gateway's own words stay then.
 pub record DoesWith (c : Call) (a : Answer) (ws fs ws′ fs′ b′ : List ℕ) : Type 0 where
   pub answer : a ≡ step (wholeOf ws fs) c .answer
   pub reply : b′ ≡ step (wholeOf ws fs) c .reply
   pub next : wholeOf ws′ fs′ ≡ step (wholeOf ws fs) c .next
+  pub elsewhere : (i : ℕ) → i < circuits → writesAt c i ≡ false → part (octetsPlace i) mostOctets fs′ ≡ part (octetsPlace i) mostOctets fs
   pub octets : (x : ℕ) → a ≡ Refused x → fs′ ≡ fs
   pub own : (x : ℕ) → a ≡ Refused x → part 0 ownWords ws′ ≡ part 0 ownWords ws
-  pub kept : (x : ℕ) → a ≡ Refused x → drops (wholeOf ws fs) c ≡ false → ws′ ≡ ws
+  pub kept : (x : ℕ) → a ≡ Refused x → drops c x ≡ false → ws′ ≡ ws
 
 -- a call that takes no octets: the same, whatever they are
 abbrev pub Does : Call → Answer → List ℕ → List ℕ → List ℕ → Type 0

@@ -42,8 +42,7 @@ module _ (g : Gateway) (us : List Unfinished) where
 pub frames-kept : (g : Gateway) (c : Call) → isHand c ≡ false → step g c .next .unfinished ≡ g .unfinished
 frames-kept g c e = ap (λ (o : Outcome). o .next .unfinished) (step-framed g (g .unfinished) c e)
 
-pub drops-none : (g : Gateway) (c : Call) → isHand c ≡ false → drops g c ≡ false
-unfolding drops
-drops-none g (At n l) e = refl
-drops-none g (Over w) e = refl
-drops-none g (Hand n p) e = absurd (true≢false e)
+pub drops-none : (c : Call) (x : ℕ) → isHand c ≡ false → drops c x ≡ false
+drops-none (At n l) x e = refl
+drops-none (Over w) x e = refl
+drops-none (Hand n p) x e = absurd (true≢false e)

@@ -1,5 +1,6 @@
 pub mod SampleRuns
 pub mod Lists
+pub mod NumberLaws
 pub mod RefusalLaws
 pub mod TimerEventLaws
 pub mod ButFor

@@ -1,7 +1,7 @@
 -- Demand 1, proved of the step: stage by stage, an answer that is a refusal comes with all as it was.
 use Prim.Native.Nat.{ℕ}
 use native.Mathlib.Omega.{arith}
-use mathlib.Core.Path.{_≡_, refl, sym, ap, _∙_}
+use mathlib.Core.Path.{_≡_, refl, ap, _∙_}
 use mathlib.Core.Bool.{Bool, true, false, cond}
 use mathlib.Core.List.{List, []}
 use Rattle.basics.proofs.BoolLaws.{by-test}
@@ -10,7 +10,7 @@ use Rattle.hello.specs.declared.read.Hello.{Hello}
 use Rattle.hello.specs.declared.read.Read.{Read}
 use Rattle.hello.specs.declared.read.Read.the-variants.{Refused as RefusedRead, Accepted as ReadAs}
 use Rattle.basics.specs.declared.refusal.Refusal.{Refusal}
-use Rattle.basics.specs.declared.refusal.Refusal.the-variants.{ReplyRoom, WrongSource, NoCircuit, ClockBack, NotRestarting}
+use Rattle.basics.specs.declared.refusal.Refusal.the-variants.{ReplyRoom, WrongSource, NoCircuit, ClockBack, NotRestarting, NotBegun}
 use Rattle.adjacency.specs.Step.{wrongSource}
 use Rattle.basics.specs.Levels.{hasLevel}
 use Rattle.adjacency.specs.declared.react.Reaction.{Reaction}
@@ -27,11 +27,13 @@ use Rattle.room.specs.Accept.{decided}
 use Rattle.timers.specs.Hellos.{Hellos}
 use Rattle.model.specs.Answers.{Refused, Told, Fact, TimersAnswer}
 use Rattle.chunks.specs.Chunks.{Unfinished, None, Frame, Joined, Refused as RefusedChunk, As, join}
-use Rattle.model.specs.Gateway.{Gateway, Room, withRooms, withCommon, renew, noRoom, roomOf, unfinishedOn, withFrames, withUnfinished}
+use Rattle.model.specs.Gateway.{Gateway, Room, withRooms, withCommon, renew, noRoom, roomOf, unfinishedOn, withUnfinished}
 use Rattle.model.specs.Receive.{Acted, refuse, hereOf, accepted, reacted, decidedIn, checked, readIn, isShort, receive}
-use Rattle.model.specs.Step.{Outcome, Local, Receive, Release, Clear, CsnpComplete, LookUp, LinkMetric, NextHello, Global, Tick, DatabaseComplete, Waiting, Piece, Begin, Chunk, End, At, Over, Hand, told, asksLevel, csnpComplete, lookUp, linkMetricOf, nextHello, act, lent, lift, on, at, chunked, ended, hand, handOn, lentTo, Judged, Refused as RefusedCall, Sweep, Tell, noneOf, quiet, isBack, tickOf, databaseOf, judge, carry, step}
-use Rattle.model.specs.Refusals.{leftOn, leftRefused, RefusalsKeep}
+use Rattle.model.specs.Step.{Outcome, Local, Receive, Release, Clear, CsnpComplete, LookUp, LinkMetric, NextHello, Global, Tick, DatabaseComplete, Waiting, Piece, Begin, Chunk, End, At, Over, Hand, told, asksLevel, csnpComplete, lookUp, linkMetricOf, nextHello, act, lent, lift, refused, on, at, chunked, ended, hand, handOn, lentTo, Judged, Refused as RefusedCall, Sweep, Tell, noneOf, quiet, isBack, tickOf, databaseOf, judge, carry, step}
+use Rattle.model.specs.Numbers.{refusalNo}
+use Rattle.model.specs.Refusals.{isOneOf, dropsTo, leftRefused, RefusalsKeep}
 use Rattle.model.proofs.Lists.{renew-numbered}
+use Rattle.model.proofs.NumberLaws.{received-by}
 
 -- ---- calls on a circuit
 
@@ -135,31 +137,43 @@ module _ (g : Gateway) where
 
 -- ---- a frame in chunks
 
--- no frame is begun, and none is left
-no-frame : (g : Gateway) (n : ℕ) → unfinishedOn g n ≡ None → g ≡ withUnfinished g n None
-no-frame g n e =
-    sym (ap (withFrames g)
-    (ap (renew (g .unfinished) n) (sym e) ∙ renew-numbered (g .unfinished) n None))
-
 chunk-stays : (g : Gateway) (n : ℕ) (j : Joined) → Stays g [] (chunked g n j)
 unfolding chunked
 chunk-stays g n (RefusedChunk x) = λ y e. (refl, refl)
 chunk-stays g n (As u) = λ y e. absurd (let z : _≡_ {A = ℕ} 0 1 = cc in omega arith)
 
-end-stays : (g : Gateway) (n : ℕ) (b : List ℕ) (u : Unfinished) → unfinishedOn g n ≡ u → Stays (withUnfinished g n None) b (ended g n b u)
-unfolding ended at
-end-stays g n b None q = λ x e. (no-frame g n q, refl)
-end-stays g n b (Frame mac octets) q = on-stays (withUnfinished g n None) n (Receive mac octets b) (circuitOf (g .common) n)
+-- of a refusal x: an end's goes by its number
+abbrev Leaves : Gateway → ℕ → Piece → Outcome → Type 0
+Leaves g n p o = (x : ℕ) → o .answer ≡ Refused x → (o .next ≡ leftRefused g (Hand n p) x) × (o .reply ≡ lentTo p)
 
-hand-stays : (g : Gateway) (n : ℕ) (p : Piece) (q : Chosen) → Stays (leftOn g n p q) (lentTo p) (handOn g n p q)
-unfolding handOn hand leftOn
-hand-stays g n p Unknown = λ x e. (refl, refl)
-hand-stays g n (Begin mac) (Known s) = λ x e. absurd (let z : _≡_ {A = ℕ} 0 1 = cc in omega arith)
-hand-stays g n (Chunk octets) (Known s) = chunk-stays g n (join (unfinishedOn g n) octets)
-hand-stays g n (End b) (Known s) = end-stays g n b (unfinishedOn g n) refl
+refused-leaves : (g : Gateway) (n : ℕ) (p : Piece) (r : Refusal) → dropsTo p (refusalNo r) ≡ false → Leaves g n p (refused g (lentTo p) r)
+refused-leaves g n p r d x e =
+    let z : refusalNo r ≡ x = cc in
+    (rw (← z, d) refl, refl)
+
+-- 1 drops none
+unknown-leaves : (g : Gateway) (n : ℕ) (p : Piece) → Leaves g n p (refused g (lentTo p) NoCircuit)
+unfolding isOneOf
+unknown-leaves g n (Begin mac) = refused-leaves g n (Begin mac) NoCircuit refl
+unknown-leaves g n (Chunk octets) = refused-leaves g n (Chunk octets) NoCircuit refl
+unknown-leaves g n (End b) = refused-leaves g n (End b) NoCircuit refl
+
+end-leaves : (g : Gateway) (n : ℕ) (s : Circuit) (b : List ℕ) (u : Unfinished) → circuitOf (g .common) n ≡ Known s → Leaves g n (End b) (ended g n b u)
+unfolding ended at isOneOf
+end-leaves g n s b None known = refused-leaves g n (End b) NotBegun refl
+end-leaves g n s b (Frame mac octets) known = λ x e.
+    let k = on-stays (withUnfinished g n None) n (Receive mac octets b) (circuitOf (g .common) n) x e in
+    (rw (received-by (withUnfinished g n None) n s known mac octets b x e) (k .0), k .1)
+
+hand-leaves : (g : Gateway) (n : ℕ) (p : Piece) (q : Chosen) → circuitOf (g .common) n ≡ q → Leaves g n p (handOn g n p q)
+unfolding handOn hand
+hand-leaves g n p Unknown known = unknown-leaves g n p
+hand-leaves g n (Begin mac) (Known s) known = λ x e. absurd (let z : _≡_ {A = ℕ} 0 1 = cc in omega arith)
+hand-leaves g n (Chunk octets) (Known s) known = chunk-stays g n (join (unfinishedOn g n) octets)
+hand-leaves g n (End b) (Known s) known = end-leaves g n s b (unfinishedOn g n) known
 
 pub refusals-keep : RefusalsKeep
-unfolding step at leftRefused
+unfolding step at
 refusals-keep g (At n l) x e = on-stays g n l (circuitOf (g .common) n) x e
 refusals-keep g (Over w) x e = judged g (g .common) w x e
-refusals-keep g (Hand n p) x e = hand-stays g n p (circuitOf (g .common) n) x e
+refusals-keep g (Hand n p) x e = hand-leaves g n p (circuitOf (g .common) n) refl x e

@@ -37,7 +37,7 @@ pub record Kept (m : Made) : Type 0 where
   pub reply : (n : ℕ) → m .answer ≡ Refused n → m .reply ≡ lentBy (m .call)
   pub octets : (n : ℕ) → m .answer ≡ Refused n → m .left .octets ≡ m .before .octets
   pub own : (n : ℕ) → m .answer ≡ Refused n → part 0 ownWords (m .left .words) ≡ part 0 ownWords (m .before .words)
-  pub words : (n : ℕ) → m .answer ≡ Refused n → drops (meaning (m .before)) (m .call) ≡ false → m .left .words ≡ m .before .words
+  pub words : (n : ℕ) → m .answer ≡ Refused n → drops (m .call) n ≡ false → m .left .words ≡ m .before .words
 
 abbrev pub CodeKeeps : Type 0
 CodeKeeps = (m left : Lent) (cs : List Call) (ms : List Made) → Ran m cs ms left → EveryCall Kept ms

@@ -22,7 +22,7 @@ impl Frames {
         Frames { octets }
     }
 
-    /// Its octets. Those of a frame that was ended stand until the next chunk.
+    /// Its octets. Those of a frame that was ended stand until the next chunk on its circuit.
     pub const fn octets(&self) -> &[u8; Frames::OCTETS] {
         &self.octets
     }
