@@ -77,7 +77,8 @@ module _ (b : Neighbour) (s₁ s₂ : Bool) (g₁ g₂ : Gateway) (n : Near b s�
   hand-kept i (Chunk octets) h (Known s) =
       rw (ap (λ (u : Unfinished). join u octets) (sym (n .unfinished i h))) (chunk-kept i (Chunk octets) h (join (unfinishedOn g₁ i) octets))
   hand-kept i (End buf) h (Known s) =
-      rw (sym (n .unfinished i h)) (end-kept i (End buf) h buf (unfinishedOn g₁ i))
+      subst (λ (u : Unfinished). Kept b s₁ s₂ (Hand i (End buf)) (ended g₁ i buf (unfinishedOn g₁ i)) (ended g₂ i buf u)) (n .unfinished i h)
+      (end-kept i (End buf) h buf (unfinishedOn g₁ i))
 
   -- ---- .. and on its circuit, in the first run alone: the promise for its LAN stands no more
 
@@ -88,6 +89,10 @@ module _ (b : Neighbour) (s₁ s₂ : Bool) (g₁ g₂ : Gateway) (n : Near b s�
   unfolding chunked
   chunk-near (RefusedChunk x) = same-near b s₁ s₂ g₁ g₂ n false s₂ never (λ h. h)
   chunk-near (As u) = own-frame false never u
+
+  no-promise : (i : ℕ) (p : Piece) (a : Answer) → eqb i (b .circuit) ≡ true → still b s₁ (Hand i p) a ≡ false
+  unfolding isThere
+  no-promise i p a e = rw e (and-false s₁)
 
   hand-near : (p : Piece) (q : Chosen) → Near b false s₂ (handOn g₁ (b .circuit) p q .next) g₂
   unfolding handOn hand ended at
@@ -121,4 +126,4 @@ module _ (b : Neighbour) (s₁ s₂ : Bool) (g₁ g₂ : Gateway) (n : Near b s�
       rw (eqb-true i (b .circuit) (and-left _ (isSent b l) e)) (its-on b s₁ s₂ g₁ g₂ n l its (circuitOf (g₁ .common) (b .circuit)) (n .lan₁))
   its-near (Over w) e = absurd (false≢true e)
   its-near (Hand i p) e =
-      rw (e, and-false s₁, eqb-true i (b .circuit) e) (hand-near p (circuitOf (g₁ .common) (b .circuit)))
+      rw (no-promise i p (step g₁ (Hand i p) .answer) e, eqb-true i (b .circuit) e) (hand-near p (circuitOf (g₁ .common) (b .circuit)))
