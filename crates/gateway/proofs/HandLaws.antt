@@ -30,7 +30,6 @@ use Rattle.settings.specs.declared.circuit.Chosen.the-variants.{Known, Unknown}
 use Rattle.settings.specs.declared.circuit.Circuit.{Circuit}
 use Rattle.control.specs.Common.{circuitOf, Chooses}
 use Rattle.control.specs.Words.{commonOf, controlWords}
-use Rattle.model.specs.Numbers.{refusalNo}
 use Rattle.model.specs.Answers.{Answer, Refused, Told, Done, handedOf}
 use Rattle.model.specs.Gateway.{Gateway, withFrames, withUnfinished, unfinishedOn}
 use Rattle.model.specs.Step.{Outcome, At, Receive, Piece, Begin, Chunk, End, Hand, refused, handed, chunked, ended, hand, handOn, lentTo, step}
@@ -51,7 +50,7 @@ chosen ws fs n r r′ c e = choice ws n r r′ c e
 
 -- a refusal that leaves all as it was
 refuses : (ws fs b : List ℕ) (n : ℕ) (p : Piece) (x : Refusal) → step (wholeOf ws fs) (Hand n p) ≡ refused (wholeOf ws fs) b x
-    → DoesWith (Hand n p) (Refused (refusalNo x)) ws fs ws fs b
+    → DoesWith (Hand n p) (Refused x) ws fs ws fs b
 refuses ws fs b n p x e =
     record {
       answer = sym (ap (λ (o : Outcome). o .answer) e);
@@ -67,7 +66,7 @@ unknown : (ws fs : List ℕ) (n : ℕ) (p : Piece) → circuitOf (wholeOf ws fs 
 unfolding step handOn
 unknown ws fs n p e = rw e refl
 
-pub no-circuit : (ws fs : List ℕ) (n : ℕ) (p : Piece) → circuitOf (wholeOf ws fs .common) n ≡ Unknown → DoesWith (Hand n p) (Refused (refusalNo NoCircuit)) ws fs ws fs (lentTo p)
+pub no-circuit : (ws fs : List ℕ) (n : ℕ) (p : Piece) → circuitOf (wholeOf ws fs .common) n ≡ Unknown → DoesWith (Hand n p) (Refused NoCircuit) ws fs ws fs (lentTo p)
 no-circuit ws fs n p e = refuses ws fs (lentTo p) n p NoCircuit (unknown ws fs n p e)
 
 -- ---- its frame
@@ -135,7 +134,7 @@ module _ (ws fs : List ℕ) (n : ℕ) (lo : 0 < n) (hi : n ≤ circuits) where
       -- refused: every word and octet is as it was
       chunk-refused : (x : Refusal) → join (unfinishedAt ws fs (n - 1)) octets ≡ RefusedChunk x
           → us′ ≡ part a (a + slotWords - a) ws → os′ ≡ part f (f + mostOctets - f) fs
-          → DoesWith (Hand n (Chunk octets)) (Refused (refusalNo x)) ws fs ws′ fs′ []
+          → DoesWith (Hand n (Chunk octets)) (Refused x) ws fs ws′ fs′ []
       unfolding chunked
       chunk-refused x e u o =
           let w : ws′ ≡ ws = ap (putMid a (a + slotWords - a) ws) u ∙ put-same a (a + slotWords - a) ws in
@@ -247,7 +246,7 @@ module _ (ws : List ℕ) (n : ℕ) (lo : 0 < n) (hi : n ≤ circuits) (s : Circu
 -- .. and what it then does
 
 pub ends-refused : {n : ℕ} {ws ws′ : List ℕ} {r : Taken} {x : Refusal} (fs b : List ℕ) → Takes n ws ws′ r → r ≡ RefusedTaken x
-    → DoesWith (Hand n (End b)) (Refused (refusalNo x)) ws fs ws′ fs b
+    → DoesWith (Hand n (End b)) (Refused x) ws fs ws′ fs b
 ends-refused {n} {ws} {ws′} {r} {x} fs b m e =
     let t : Takes n ws ws′ (RefusedTaken x) = rw e at m in
     rw (t .0) (refuses ws fs b n (End b) x (t .1 fs b))

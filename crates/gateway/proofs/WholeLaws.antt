@@ -9,6 +9,7 @@ use mathlib.Core.List.{List, [], _∷_}
 use lib.ListN.{length, take}
 use lib.Seq.{take-take}
 use borrow.Rule.Slice.PartMut.{putMid, put-same, mid-len}
+use Rattle.basics.specs.declared.refusal.Refusal.{Refusal}
 use Rattle.basics.specs.Mask.{circuits}
 use Rattle.basics.specs.Lists.{part}
 use Rattle.basics.proofs.ListLaws.{tabulate-same}
@@ -84,7 +85,7 @@ pub lends : (ws t : List ℕ) → length ws ≡ gatewayWords → length t ≡ le
     → Meets a (step (gatewayOf (part 0 ownWords ws)) c) (part 0 ownWords ws) t b′ → Does c a ws (putMid 0 ownWords ws t) b′
 lends ws t len lt c plain a b′ m fs =
     let s = step-whole ws fs c plain in
-    let same : (x : ℕ) → a ≡ Refused x → putMid 0 ownWords ws t ≡ ws = λ x e. ap (putMid 0 ownWords ws) (m .kept x e) ∙ put-same 0 ownWords ws in
+    let same : (x : Refusal) → a ≡ Refused x → putMid 0 ownWords ws t ≡ ws = λ x e. ap (putMid 0 ownWords ws) (m .kept x e) ∙ put-same 0 ownWords ws in
     record {
       answer = m .answer ∙ sym (ap (λ (o : Outcome). o .answer) s);
       reply = m .reply ∙ sym (ap (λ (o : Outcome). o .reply) s);

@@ -3,6 +3,7 @@ use Prim.Native.Nat.{ℕ, _-_, _^_, _<_, _≤_}
 use mathlib.Core.Path.{_≡_}
 use mathlib.Core.Bool.{true}
 use mathlib.Core.List.{List}
+use Rattle.basics.specs.declared.refusal.Refusal.{Refusal}
 use Rattle.basics.specs.Lists.{part}
 use Rattle.model.specs.Step.{At, Hand, Receive, End, refused, step}
 use Rattle.model.specs.Answers.{Refused as RefusedAnswer}
@@ -19,7 +20,7 @@ pub record TakesFrame (n : ℕ) (ws ws′ : List ℕ) (mac start end : ℕ) : Ty
   pub high : end ≤ frameOctets
   pub own : part 0 ownWords ws′ ≡ part 0 ownWords ws
   pub ends : (fs b : List ℕ) → step (wholeOf ws fs) (Hand n (End b)) ≡ step (wholeOf ws′ fs) (At n (Receive mac (part start (end - start) fs) b))
-  pub dropped : (fs b : List ℕ) (x : ℕ) → step (wholeOf ws fs) (Hand n (End b)) .answer ≡ RefusedAnswer x → drops (Hand n (End b)) x ≡ true
+  pub dropped : (fs b : List ℕ) (x : Refusal) → step (wholeOf ws fs) (Hand n (End b)) .answer ≡ RefusedAnswer x → drops (Hand n (End b)) x ≡ true
 
 abbrev pub Takes : ℕ → List ℕ → List ℕ → Taken → Type 0
 Takes n ws ws′ (Refused x) = (ws′ ≡ ws) × ((fs b : List ℕ) → step (wholeOf ws fs) (Hand n (End b)) ≡ refused (wholeOf ws fs) b x)

@@ -5,6 +5,7 @@ use mathlib.Core.Path.{_≡_}
 use mathlib.Core.Bool.{Bool, false}
 use mathlib.Core.List.{List}
 use lib.Dec.{eqb}
+use Rattle.basics.specs.declared.refusal.Refusal.{Refusal}
 use Rattle.basics.specs.Mask.{circuits}
 use Rattle.basics.specs.Lists.{part, tabulate}
 use Rattle.chunks.specs.Chunks.{Unfinished, mostOctets}
@@ -55,9 +56,9 @@ pub record DoesWith (c : Call) (a : Answer) (ws fs ws′ fs′ b′ : List ℕ) 
   pub reply : b′ ≡ step (wholeOf ws fs) c .reply
   pub next : wholeOf ws′ fs′ ≡ step (wholeOf ws fs) c .next
   pub elsewhere : (i : ℕ) → i < circuits → writesAt c i ≡ false → part (octetsPlace i) mostOctets fs′ ≡ part (octetsPlace i) mostOctets fs
-  pub octets : (x : ℕ) → a ≡ Refused x → fs′ ≡ fs
-  pub own : (x : ℕ) → a ≡ Refused x → part 0 ownWords ws′ ≡ part 0 ownWords ws
-  pub kept : (x : ℕ) → a ≡ Refused x → drops c x ≡ false → ws′ ≡ ws
+  pub octets : (x : Refusal) → a ≡ Refused x → fs′ ≡ fs
+  pub own : (x : Refusal) → a ≡ Refused x → part 0 ownWords ws′ ≡ part 0 ownWords ws
+  pub kept : (x : Refusal) → a ≡ Refused x → drops c x ≡ false → ws′ ≡ ws
 
 -- a call that takes no octets: the same, whatever they are
 abbrev pub Does : Call → Answer → List ℕ → List ℕ → List ℕ → Type 0

@@ -1,8 +1,8 @@
 -- The stages of reading a frame: what each finds, and what the next one gets. Each return of `read` cites one of these.
-use Prim.Native.Nat.{ℕ, _≤_, _%_}
+use Prim.Native.Nat.{ℕ, _+_, _≤_, _%_}
 use mathlib.Core.Path.{_≡_, refl, sym, ap, subst, _∙_}
 use mathlib.Core.List.{List}
-use mathlib.Core.Bool.{Bool, true, false, cond, not, _||_}
+use mathlib.Core.Bool.{Bool, true, false, not, _||_, true≢false}
 use native.Mathlib.Omega.{arith}
 use lib.ListN.{length}
 use lib.Dec.{ltb, eqb, lit≤}
@@ -19,7 +19,7 @@ use Rattle.restart_tlv.specs.Restart.{restartFault}
 use Rattle.hello.specs.Header.{layoutOf, notHello, badLength, pduLength}
 use Rattle.hello.specs.Reverse.{reverseFault, reverseIn, reverseRead}
 use Rattle.hello.specs.ThreeWay.{threeWayFault, threeWayIn, threeWayRead}
-use Rattle.hello.specs.Hello.{ofKind, earlier, faultOn, linkFault, linkOf, linkRead, ruleFault, helloOf, tlvsRead, pduRead}
+use Rattle.hello.specs.Hello.{ofKind, earlier, faultOn, linkFault, linkOf, linkRead, tlvFault, ruleFault, helloOf, refusedAt, tlvsRead, pduRead}
 use Rattle.hello.specs.declared.reverse.ReverseMetric.{ReverseMetric}
 use Rattle.hello.specs.declared.reverse.ReverseRead.the-variants.{Bad as BadReverse, Good as GoodReverse}
 use Rattle.hello.specs.declared.three_way.ThreeWay.{ThreeWay}
@@ -33,7 +33,9 @@ use Rattle.neighbours.specs.declared.lists.ListRead.the-variants.{Bad as BadLis
 use Rattle.hello.specs.declared.read.Link.{Link}
 use Rattle.hello.specs.declared.read.Link.the-variants.{Lan as LanLink, P2p as P2pLink}
 use Rattle.hello.specs.declared.read.LinkRead.the-variants.{Bad, Good}
+use Rattle.hello.specs.declared.read.Read.{Read}
 use Rattle.hello.specs.declared.read.Read.the-variants.{Refused, Accepted}
+use Rattle.basics.specs.declared.refusal.Refusal.{Refusal}
 use Rattle.basics.specs.declared.refusal.Refusal.the-variants.{BadTlv, TlvPastEnd}
 
 found-earlier : (a b : Found) → isFound (earlier a b) ≡ (isFound a || isFound b)
@@ -42,10 +44,11 @@ found-earlier Nothing b = refl
 found-earlier (At p) Nothing = refl
 found-earlier (At p) (At q) = refl
 
-found-cond : (b : Bool) (p : ℕ) (f : Found) → isFound (cond b (At p) f) ≡ (b || isFound f)
-unfolding isFound
-found-cond true p f = refl
-found-cond false p f = refl
+-- a place is found, or none
+pub at-nothing : (why : ℕ → Refusal) (f : Found) (r : Read) → isFound f ≡ false → refusedAt why f r ≡ r
+unfolding refusedAt isFound
+at-nothing why Nothing r e = refl
+at-nothing why (At p) r e = absurd (true≢false e)
 
 differ-link : (k : Link) → Good k ≡ Bad → ⊥
 differ-link k e = let z : _≡_ {A = ℕ} 0 1 = cc in omega arith
@@ -54,38 +57,37 @@ same-link : (a b : Link) → Good a ≡ Good b → a ≡ b
 same-link a b e = cc
 
 -- refusal 6, by its parts in the order of the code
-module _ (l : Layout) (mac : ℕ) (p : List ℕ) where
-  found-rule : isFound (ruleFault l p) ≡ (eqb (octet p 8 % 4) 0 || (isFound (restartFault (ofKind 211 l p)) || (isFound (reverseFault (ofKind 16 l p)) || isFound (linkFault l p))))
-  unfolding ruleFault
-  found-rule =
+module _ (l : Layout) (p : List ℕ) where
+  found-tlv : isFound (tlvFault l p) ≡ (isFound (restartFault (ofKind 211 l p)) || (isFound (reverseFault (ofKind 16 l p)) || isFound (linkFault l p)))
+  unfolding tlvFault
+  found-tlv =
       let r = restartFault (ofKind 211 l p) in
       let m = reverseFault (ofKind 16 l p) in
       let k = linkFault l p in
-      found-cond (eqb (octet p 8 % 4) 0) 8 (earlier r (earlier m k)) ∙ rw (found-earlier r (earlier m k), found-earlier m k)
+      found-earlier r (earlier m k) ∙ rw (found-earlier m k)
 
-  refused : isFound (ruleFault l p) ≡ true → tlvsRead l mac p ≡ Refused BadTlv
-  unfolding tlvsRead
-  refused e = unless-found (ruleFault l p) _ _ e
+  pub by-restart : isFound (restartFault (ofKind 211 l p)) ≡ true → isFound (tlvFault l p) ≡ true
+  by-restart e = found-tlv ∙ rw e
 
-  pub by-circuit : eqb (octet p 8 % 4) 0 ≡ true → tlvsRead l mac p ≡ Refused BadTlv
-  by-circuit e = refused (found-rule ∙ rw e)
+  pub by-reverse : isFound (reverseFault (ofKind 16 l p)) ≡ true → isFound (tlvFault l p) ≡ true
+  by-reverse e = found-tlv ∙ rw (e, or-true (isFound (restartFault (ofKind 211 l p))))
 
-  pub by-restart : isFound (restartFault (ofKind 211 l p)) ≡ true → tlvsRead l mac p ≡ Refused BadTlv
-  by-restart e = refused (found-rule ∙ rw e (or-true (eqb (octet p 8 % 4) 0)))
+  pub by-link : isFound (linkFault l p) ≡ true → isFound (tlvFault l p) ≡ true
+  by-link e = found-tlv ∙ rw (e, or-true (isFound (reverseFault (ofKind 16 l p))), or-true (isFound (restartFault (ofKind 211 l p))))
 
-  pub by-reverse : isFound (reverseFault (ofKind 16 l p)) ≡ true → tlvsRead l mac p ≡ Refused BadTlv
-  by-reverse e = refused (found-rule ∙ rw (e, or-true (isFound (restartFault (ofKind 211 l p))), or-true (eqb (octet p 8 % 4) 0)))
+module _ (l : Layout) (mac : ℕ) (p : List ℕ) where
+  pub by-circuit : eqb (octet p 8 % 4) 0 ≡ true → tlvsRead l mac p ≡ Refused (BadTlv 9)
+  unfolding tlvsRead ruleFault refusedAt
+  by-circuit e = rw e
 
-  pub by-link : isFound (linkFault l p) ≡ true → tlvsRead l mac p ≡ Refused BadTlv
-  by-link e =
-      refused
-      (found-rule
-      ∙ rw (e, or-true (isFound (reverseFault (ofKind 16 l p))), or-true (isFound (restartFault (ofKind 211 l p))), or-true (eqb (octet p 8 % 4) 0)))
+  -- the TLVs, where the circuit type passes
+  pub past-circuit : eqb (octet p 8 % 4) 0 ≡ false → tlvsRead l mac p ≡ refusedAt BadTlv (tlvFault l p) (Accepted (helloOf l mac p))
+  unfolding tlvsRead ruleFault
+  past-circuit e = rw e
 
   pub accepted : eqb (octet p 8 % 4) 0 ≡ false → isFound (restartFault (ofKind 211 l p)) ≡ false → isFound (reverseFault (ofKind 16 l p)) ≡ false
       → isFound (linkFault l p) ≡ false → tlvsRead l mac p ≡ Accepted (helloOf l mac p)
-  unfolding tlvsRead
-  accepted c r m k = unless-none (ruleFault l p) _ _ (found-rule ∙ rw (c, r, m, k))
+  accepted c r m k = past-circuit c ∙ at-nothing BadTlv (tlvFault l p) _ (found-tlv l p ∙ rw (r, m, k))
 
   pub link-is-bad : linkRead (l .kind) l mac p ≡ Bad → isFound (linkFault l p) ≡ true
   unfolding linkRead
@@ -96,13 +98,13 @@ module _ (l : Layout) (mac : ℕ) (p : List ℕ) where
   link-is-good k = unless-is-good Good Bad differ-link same-link (linkFault l p) (linkOf l mac p) k
 
   -- refusal 5, and what follows it
-  pub at-cut : (q : ℕ) → walkOf (tlvs p (l .header)) ≡ Cut q → pduRead l mac p ≡ Refused TlvPastEnd
-  unfolding pduRead
-  at-cut q e = unless-found (cutAt (tlvs p (l .header))) _ _ (walk-is-cut _ q e)
+  pub at-cut : (q : ℕ) → walkOf (tlvs p (l .header)) ≡ Cut q → pduRead l mac p ≡ Refused (TlvPastEnd (q + 1))
+  unfolding pduRead refusedAt
+  at-cut q e = rw (walk-is-cut _ q e)
 
   pub at-whole : (n : Counts) → walkOf (tlvs p (l .header)) ≡ Whole n → pduRead l mac p ≡ tlvsRead l mac p
   unfolding pduRead
-  at-whole n e = unless-none (cutAt (tlvs p (l .header))) _ _ (walk-is-whole _ n e .0)
+  at-whole n e = at-nothing TlvPastEnd (cutAt (tlvs p (l .header))) _ (walk-is-whole _ n e .0)
 
 -- the header of a layout that was chosen
 chosenHeader : Selected → ℕ
@@ -124,11 +126,12 @@ module _ (s : List ℕ) where
   unfolding notHello
   eight e = ltb-false (length s) 8 (neither (ltb (length s) 8) _ e .0)
 
-  -- the header lies within the lent octets and the PDU, and the PDU within the lent octets
+  -- the header lies within the lent octets and the PDU, the PDU within the lent octets, and it is no longer than 1,492
   pub record Lengths (h : ℕ) : Type 0 where
     pub header : h ≤ length s
     pub low : h ≤ pduLength s
     pub lent : pduLength s ≤ length s
+    pub high : pduLength s ≤ 1492
 
   pub lengths : (h : ℕ) → badLength s h ≡ false → Lengths h
   unfolding badLength
@@ -141,6 +144,7 @@ module _ (s : List ℕ) where
         header = ltb-false (length s) h (e₁ .0);
         low = ltb-false (pduLength s) h (e₃ .0);
         lent = ltb-false (length s) (pduLength s) (e₄ .0);
+        high = ltb-false 1492 (pduLength s) (e₄ .1);
       }
 
 -- the readings of the Reverse Metric and the three-way TLV taken apart

@@ -6,15 +6,16 @@ use mathlib.Core.Bool.{true}
 use mathlib.Core.List.{List}
 use lib.ListN.{take}
 use Rattle.basics.specs.Octets.{octet}
-use Rattle.tlv.specs.Tlv.{tlvs, unless, cutAt}
+use Rattle.tlv.specs.Tlv.{tlvs, cutAt}
 use Rattle.tlv.specs.declared.tlvs.Found.{Found}
 use Rattle.tlv.specs.declared.tlvs.Found.the-variants.{At, Nothing}
 use Rattle.basics.proofs.BoolLaws.{by-test}
 use Rattle.basics.specs.declared.kind.CircuitKind.{CircuitKind}
 use Rattle.basics.specs.declared.kind.CircuitKind.the-variants.{Lan, P2p}
 use Rattle.basics.specs.declared.refusal.Refusal.{Refusal}
+use Rattle.basics.specs.declared.refusal.Refusal.the-variants.{TlvPastEnd, BadTlv}
 use Rattle.hello.specs.Header.{layoutOf, sameKind, onCircuit, notHello, badLength, pduLength}
-use Rattle.hello.specs.Hello.{kindOf, linkOn, ruleFault, helloOf, tlvsRead, pduRead, layoutRead, helloRead}
+use Rattle.hello.specs.Hello.{kindOf, linkOn, ruleFault, helloOf, refusedAt, tlvsRead, pduRead, layoutRead, helloRead}
 use Rattle.hello.specs.declared.header.Layout.{Layout}
 use Rattle.hello.specs.declared.header.Selected.{Selected}
 use Rattle.hello.specs.declared.header.Selected.the-variants.{Fit, Unfit}
@@ -44,10 +45,10 @@ pub data Reads (P : Hello → Type 0) : Read → Type 0 where
   accepted : {h : Hello} → P h → Reads P (Accepted h)
 
 module _ (P : Hello → Type 0) where
-  reads-unless : (f : Found) (x y : Read) → Reads P x → Reads P y → Reads P (unless f x y)
-  unfolding unless
-  reads-unless Nothing x y p q = p
-  reads-unless (At i) x y p q = q
+  reads-past : (why : ℕ → Refusal) (f : Found) (x : Read) → Reads P x → Reads P (refusedAt why f x)
+  unfolding refusedAt
+  reads-past why Nothing x p = p
+  reads-past why (At i) x p = refused
 
   module _ (kind : CircuitKind) (mac : ℕ) (s : List ℕ) (holds : (l : Layout) → l .kind ≡ kind → P (helloOf l mac (take (pduLength s) s))) where
     reads-layout : (x : Selected) → ((l : Layout) → x ≡ Fit l → l .kind ≡ kind) → Reads P (layoutRead x mac s)
@@ -56,8 +57,8 @@ module _ (P : Hello → Type 0) where
     reads-layout (Fit l) fit =
         by-test (badLength s (l .header)) (λ a. rw a refused)
         (λ a. rw a
-        (reads-unless (cutAt (tlvs (take (pduLength s) s) (l .header))) _ _
-        (reads-unless (ruleFault l (take (pduLength s) s)) _ _ (accepted (holds l (fit l refl))) refused) refused))
+        (reads-past TlvPastEnd (cutAt (tlvs (take (pduLength s) s) (l .header))) _
+        (reads-past BadTlv (ruleFault l (take (pduLength s) s)) _ (accepted (holds l (fit l refl))))))
 
     pub reads-by : Reads P (helloRead kind mac s)
     unfolding helloRead

@@ -1,4 +1,5 @@
 pub mod ReadLaws
+pub mod FaultLaws
 pub mod HelloLaws
 pub mod KindLaws
 pub mod SampleRuns

@@ -14,7 +14,7 @@ use Rattle.neighbours.specs.Lists.{neighboursFault}
 use Rattle.hello.specs.Header.{lanLayout, p2pLayout}
 use Rattle.hello.specs.ThreeWay.{threeWayBad, threeWayLength}
 use Rattle.hello.specs.Reverse.{reverseBad}
-use Rattle.hello.specs.Hello.{faultOn, earlier, ruleFault}
+use Rattle.hello.specs.Hello.{faultOn, earlier, tlvFault, ruleFault}
 
 -- a P2P hello with this circuit type, and these TLVs
 abbrev p2p : ℕ → List ℕ → List ℕ
@@ -55,7 +55,7 @@ pub record Positions : Type 0 where
   pub lone : cutOnP2p (240 ∷ 1 ∷ 0 ∷ 211 ∷ []) ≡ At 23
 
 pub positions : Positions
-unfolding ruleFault earlier faultOn hasBits tlvs tlvsUp cutAt ofType loneFault needsNeighbor leastLength restartBad threeWayBad threeWayLength reverseBad neighboursFault
+unfolding ruleFault tlvFault earlier faultOn hasBits tlvs tlvsUp cutAt ofType loneFault needsNeighbor leastLength restartBad threeWayBad threeWayLength reverseBad neighboursFault
 positions =
     record {
       circuit = refl;

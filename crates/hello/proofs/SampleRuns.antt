@@ -5,14 +5,14 @@ use mathlib.Core.List.{List, [], _∷_}
 use lib.ListN.{length}
 use lib.Count.{ones, onesIn}
 use Rattle.basics.specs.Octets.{big, hasBits}
-use Rattle.tlv.specs.Tlv.{tlvs, tlvsUp, cutAt, ofType, loneFault, unless}
+use Rattle.tlv.specs.Tlv.{tlvs, tlvsUp, cutAt, ofType, loneFault}
 use Rattle.restart_tlv.specs.Flags.{counted, without, invalid, needsNeighbor, needsTime}
 use Rattle.restart_tlv.specs.Restart.{leastLength, restartBad, restartWith, timeOf, neighborOf}
 use Rattle.restart_tlv.specs.declared.reader.Neighbor.the-variants.{Unnamed}
 use Rattle.restart_tlv.specs.declared.reader.RestartTlv.the-variants.{Present}
 use Rattle.hello.specs.Header.{layoutOf, notHello, badLength}
 use Rattle.hello.specs.ThreeWay.{threeWayBad, threeWayLength, stateOf, identifiersOf}
-use Rattle.hello.specs.Hello.{faultOn, earlier, ruleFault, tlvsRead, pduRead, layoutRead, helloRead}
+use Rattle.hello.specs.Hello.{faultOn, earlier, tlvFault, ruleFault, refusedAt, tlvsRead, pduRead, layoutRead, helloRead}
 use Rattle.basics.specs.declared.kind.CircuitKind.the-variants.{P2p as P2pCircuit}
 use Rattle.hello.specs.declared.read.Read.{Read}
 use Rattle.hello.specs.declared.read.Read.the-variants.{Refused, Accepted}
@@ -32,11 +32,11 @@ helloWith v =
 abbrev reading : List ℕ → Read
 reading v = helloRead P2pCircuit 0x020000000001 (helloWith v)
 
--- length 0; 1 with RA; 2 with PR; 10: all refused 6. 3 with PR: accepted.
-pub c8 : (reading [] ≡ Refused BadTlv)
-    × (reading (2 ∷ []) ≡ Refused BadTlv)
-    × (reading (8 ∷ 1 ∷ []) ≡ Refused BadTlv)
-    × (reading (0 ∷ 0 ∷ 0 ∷ 0 ∷ 0 ∷ 0 ∷ 0 ∷ 0 ∷ 0 ∷ 0 ∷ []) ≡ Refused BadTlv)
+-- length 0; 1 with RA; 2 with PR; 10: all refused 6, at octet 24, where the Restart TLV starts. 3 with PR: accepted.
+pub c8 : (reading [] ≡ Refused (BadTlv 24))
+    × (reading (2 ∷ []) ≡ Refused (BadTlv 24))
+    × (reading (8 ∷ 1 ∷ []) ≡ Refused (BadTlv 24))
+    × (reading (0 ∷ 0 ∷ 0 ∷ 0 ∷ 0 ∷ 0 ∷ 0 ∷ 0 ∷ 0 ∷ 0 ∷ []) ≡ Refused (BadTlv 24))
     × (reading (8 ∷ 1 ∷ 44 ∷ [])
     ≡ Accepted
     (record {
@@ -46,5 +46,5 @@ pub c8 : (reading [] ≡ Refused BadTlv)
       reverse = NoMetric;
       link = P2p (record { state = Up; ids = NoIdentifiers });
     }))
-unfolding helloRead layoutOf notHello badLength layoutRead pduRead tlvsRead ruleFault earlier faultOn big hasBits tlvs tlvsUp cutAt ofType loneFault unless counted without invalid needsNeighbor needsTime leastLength restartBad restartWith timeOf neighborOf threeWayBad threeWayLength stateOf identifiersOf ones onesIn
+unfolding helloRead layoutOf notHello badLength layoutRead pduRead tlvsRead refusedAt ruleFault tlvFault earlier faultOn big hasBits tlvs tlvsUp cutAt ofType loneFault counted without invalid needsNeighbor needsTime leastLength restartBad restartWith timeOf neighborOf threeWayBad threeWayLength stateOf identifiersOf ones onesIn
 c8 = (refl, refl, refl, refl, refl)

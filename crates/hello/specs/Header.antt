@@ -1,6 +1,6 @@
 -- The fixed header of a hello (ISO/IEC 10589, 9.5 to 9.7; document 01, "Hello frames"), and refusals 3 and 4. Octet n of the
 -- documents stands at position n - 1.
-use Prim.Native.Nat.{ℕ, _%_}
+use Prim.Native.Nat.{ℕ, _%_, _≤_}
 use mathlib.Core.List.{List}
 use mathlib.Core.Bool.{Bool, true, false, not, cond, _||_}
 use lib.ListN.{length}
@@ -50,6 +50,10 @@ notHello s =
 -- octets 18 and 19
 abbrev pub pduLength : List ℕ → ℕ
 pduLength s = big 2 s 17
+
+-- the octets of a PDU that refusal 4 lets pass: its header up to octet 20, and no more than 1,492
+abbrev pub Sized : List ℕ → Type 0
+Sized p = (20 ≤ length p) × (length p ≤ 1492)
 
 -- refusal 4: under the fixed header; octet 2 not the header length; PDU Length below the header, above the lent octets or
 -- above 1,492

@@ -1,6 +1,7 @@
 -- A hello frame, read whole: the first refusal of 3 to 6 that holds, or the decoded hello (document 01, "Refusals by number",
 -- "Hello frames" and "TLVs read").
-use Prim.Native.Nat.{ℕ, min, _%_}
+use Prim.Native.Nat.{ℕ, min, _+_, _%_}
+use mathlib.Core.Path.{_≡_}
 use mathlib.Core.List.{List}
 use mathlib.Core.Bool.{cond}
 use lib.ListN.{length, take}
@@ -14,6 +15,7 @@ use Rattle.restart_tlv.specs.Restart.{restartFault, restartIn}
 use Rattle.hello.specs.ThreeWay.{threeWayFault, threeWayIn}
 use Rattle.hello.specs.Reverse.{reverseFault, reverseIn}
 use Rattle.neighbours.specs.Lists.{neighboursFault, listed}
+use Rattle.basics.specs.declared.refusal.Refusal.{Refusal}
 use Rattle.basics.specs.declared.refusal.Refusal.the-variants.{NotHello, BadLength, TlvPastEnd, BadTlv}
 use Rattle.basics.specs.declared.kind.CircuitKind.{CircuitKind}
 use Rattle.basics.specs.declared.kind.CircuitKind.the-variants.{Lan as LanCircuit, P2p as P2pCircuit}
@@ -46,11 +48,13 @@ earlier Nothing b = b
 earlier (At p) Nothing = At p
 earlier (At p) (At q) = At (min p q)
 
+-- the first TLV that breaks a rule, by its place and not by its rule
+unfoldable pub tlvFault : Layout → List ℕ → Found
+tlvFault l p = earlier (restartFault (ofKind 211 l p)) (earlier (reverseFault (ofKind 16 l p)) (linkFault l p))
+
 -- where the first rule is broken: the circuit type's low two bits are 0 (octet 9), or else the first TLV that breaks one
 unfoldable pub ruleFault : Layout → List ℕ → Found
-ruleFault l p =
-    cond (eqb (octet p 8 % 4) 0) (At 8)
-    (earlier (restartFault (ofKind 211 l p)) (earlier (reverseFault (ofKind 16 l p)) (linkFault l p)))
+ruleFault l p = cond (eqb (octet p 8 % 4) 0) (At 8) (tlvFault l p)
 
 -- priority (low seven bits of octet 20) and whether our MAC is listed; the three-way TLV
 abbrev pub linkOn : CircuitKind → Layout → ℕ → List ℕ → Link
@@ -79,12 +83,21 @@ helloOf l mac p =
       link = linkOf l mac p;
     }
 
+-- a refusal at a place, or else what is read. Document 02, W-206: refusals 5 and 6 bring the position of the octet there, counted from 1.
+unfoldable pub refusedAt : (ℕ → Refusal) → Found → Read → Read
+refusedAt why Nothing r = r
+refusedAt why (At p) r = Refused (why (p + 1))
+
+-- the refusal x is the one there, whatever would be read without it
+abbrev pub RefusesAt : (ℕ → Refusal) → Found → Refusal → Type 0
+RefusesAt why f x = (r : Read) → Refused x ≡ refusedAt why f r
+
 -- refusal 5, then refusal 6, of a PDU whose header passed
 unfoldable pub tlvsRead : Layout → ℕ → List ℕ → Read
-tlvsRead l mac p = unless (ruleFault l p) (Accepted (helloOf l mac p)) (Refused BadTlv)
+tlvsRead l mac p = refusedAt BadTlv (ruleFault l p) (Accepted (helloOf l mac p))
 
 unfoldable pub pduRead : Layout → ℕ → List ℕ → Read
-pduRead l mac p = unless (cutAt (tlvs p (l .header))) (tlvsRead l mac p) (Refused TlvPastEnd)
+pduRead l mac p = refusedAt TlvPastEnd (cutAt (tlvs p (l .header))) (tlvsRead l mac p)
 
 -- refusal 3's last test, then refusal 4. Lent octets past the PDU Length are never read.
 unfoldable pub layoutRead : Selected → ℕ → List ℕ → Read

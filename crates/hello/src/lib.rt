@@ -3,4 +3,5 @@
 pub mod header; // header.rt: the fixed header; refusals 3 and 4
 pub mod three_way; // three_way.rt: the three-way adjacency TLV
 pub mod reverse; // reverse.rt: the Reverse Metric TLV
+pub mod faults; // faults.rt: where a refusal stands
 pub mod read; // read.rt: a whole frame

@@ -1,4 +1,6 @@
 // A hello frame, read whole: a refusal of 3 to 6, the first that holds, or the decoded hello.
+use crate::faults::bad_tlv;
+use crate::faults::position_of;
 use crate::header::CIRCUIT_TYPE;
 use crate::header::HOLDING_TIME;
 use crate::header::Layout;
@@ -32,6 +34,7 @@ use tlv::tlvs::walked;
 ghost use mathlib.Core.Path.{_≡_};
 ghost use Prim.Native.Nat.{_≤_};
 ghost use lib.ListN.{length};
+ghost use Rattle.hello.specs.Header.{Sized};
 ghost use Rattle.tlv.specs.Tlv.{tlvs, countsOf};
 ghost use Rattle.hello.specs.Hello.{ofKind, linkRead, tlvsRead, pduRead, layoutRead, helloRead};
 ghost use Rattle.hello.specs.declared.header.Selected.the-variants.{Fit};
@@ -66,7 +69,7 @@ pub enum Read {
 }
 
 fn read_lan(pdu: &[u8], layout: Layout, count: usize, mac: u64) -> LinkRead
-    requires { ⌜ (20 ≤ length (now pdu)) × (count ≡ length (ofKind 6 layout (now pdu))) ⌝ }
+    requires { ⌜ Sized (now pdu) × (count ≡ length (ofKind 6 layout (now pdu))) ⌝ }
     ensures { λ r. ⌜ r ≡ linkRead CircuitKind.Lan layout mac (now (pdu .entry)) ⌝ }
 {
     let level = layout.level;
@@ -91,7 +94,7 @@ fn read_p2p(pdu: &[u8], layout: Layout, count: usize, mac: u64) -> LinkRead
 }
 
 fn read_link(pdu: &[u8], layout: Layout, counts: Counts, mac: u64) -> LinkRead
-    requires { ⌜ (20 ≤ length (now pdu)) × (counts ≡ countsOf (tlvs (now pdu) (layout .header))) ⌝ }
+    requires { ⌜ Sized (now pdu) × (counts ≡ countsOf (tlvs (now pdu) (layout .header))) ⌝ }
     ensures { λ r. ⌜ r ≡ linkRead (layout .kind) layout mac (now (pdu .entry)) ⌝ }
 {
     let kind = layout.kind;
@@ -104,21 +107,23 @@ fn read_link(pdu: &[u8], layout: Layout, counts: Counts, mac: u64) -> LinkRead
 // The TLVs, once they are known to end by the end of the PDU: refusal 6, or the hello. The lists of neighbours come first: they may be long, and
 // nothing else is held meanwhile.
 fn read_tlvs(pdu: &[u8], layout: Layout, counts: Counts, mac: u64) -> Read
-    requires { ⌜ (20 ≤ length (now pdu)) × (counts ≡ countsOf (tlvs (now pdu) (layout .header))) ⌝ }
+    requires { ⌜ Sized (now pdu) × (counts ≡ countsOf (tlvs (now pdu) (layout .header))) ⌝ }
     ensures { λ r. ⌜ r ≡ tlvsRead layout mac (now (pdu .entry)) ⌝ }
 {
     let from = layout.header;
     if pdu[CIRCUIT_TYPE] % 4 == 0 {
-        return Read::Refused(Refusal::BadTlv);
+        return Read::Refused(Refusal::BadTlv {
+            position: position_of(CIRCUIT_TYPE),
+        });
     }
     let LinkRead::Good(link) = read_link(pdu, layout, counts, mac) else {
-        return Read::Refused(Refusal::BadTlv);
+        return Read::Refused(bad_tlv(pdu, layout));
     };
     let RestartRead::Good(restart) = read_restart(pdu, from, counts.restart) else {
-        return Read::Refused(Refusal::BadTlv);
+        return Read::Refused(bad_tlv(pdu, layout));
     };
     let ReverseRead::Good(reverse) = read_reverse(pdu, from, counts.reverse) else {
-        return Read::Refused(Refusal::BadTlv);
+        return Read::Refused(bad_tlv(pdu, layout));
     };
     Read::Accepted(Hello {
         system: six(pdu, SOURCE_ID),
@@ -131,13 +136,16 @@ fn read_tlvs(pdu: &[u8], layout: Layout, counts: Counts, mac: u64) -> Read
 
 // Refusal 5, and what follows it.
 fn read_pdu(pdu: &[u8], layout: Layout, mac: u64) -> Read
-    requires { ⌜ 20 ≤ length (now pdu) ⌝ }
+    requires { ⌜ Sized (now pdu) ⌝ }
     ensures { λ r. ⌜ r ≡ pduRead layout mac (now (pdu .entry)) ⌝ }
 {
-    let Walk::Whole(counts) = walked(pdu, layout.header) else {
-        return Read::Refused(Refusal::TlvPastEnd);
-    };
-    read_tlvs(pdu, layout, counts, mac)
+    let walk = walked(pdu, layout.header);
+    match walk {
+        Walk::Cut(at) => Read::Refused(Refusal::TlvPastEnd {
+            position: position_of(at),
+        }),
+        Walk::Whole(counts) => read_tlvs(pdu, layout, counts, mac),
+    }
 }
 
 // Refusal 4, and what follows it.

@@ -5,15 +5,19 @@
 use basics::octets::has_bits;
 use basics::octets::three;
 use basics::octets::wide;
+use tlv::tlvs::Found;
 use tlv::tlvs::REVERSE_METRIC;
+use tlv::tlvs::find;
+use tlv::tlvs::find_after;
 use tlv::tlvs::is_repeated;
+use tlv::tlvs::value_at;
 use tlv::tlvs::value_of;
 ghost use mathlib.Core.Path.{_≡_};
 ghost use mathlib.Core.Bool.{cond};
 ghost use Prim.Native.Nat.{_≤_};
 ghost use lib.ListN.{length};
 ghost use Rattle.tlv.specs.Tlv.{tlvs, ofType};
-ghost use Rattle.hello.specs.Reverse.{reverseBad, reverseOf, reverseRead};
+ghost use Rattle.hello.specs.Reverse.{reverseBad, reverseOf, reverseFault, reverseRead};
 ghost use Rattle.hello.specs.declared.reverse.ReverseRead.the-variants.{Good, Bad};
 
 const TE_METRIC: u8 = 18;
@@ -80,4 +84,21 @@ pub fn read_reverse(pdu: &[u8], from: usize, count: usize) -> ReverseRead
         return check_reverse(value_of(pdu, from, REVERSE_METRIC));
     }
     ReverseRead::Good(ReverseMetric::Absent)
+}
+
+// The Reverse Metric TLV of a PDU that breaks its rule; where there are two or more, none does.
+pub fn reverse_fault(pdu: &[u8], from: usize) -> Found
+    ensures { λ r. ⌜ r ≡ reverseFault (ofType 16 (tlvs (now (pdu .entry)) from)) ⌝ }
+{
+    let found = find(pdu, from, REVERSE_METRIC);
+    let Found::At(at) = found else {
+        return Found::Nothing;
+    };
+    let Found::Nothing = find_after(pdu, at, REVERSE_METRIC) else {
+        return Found::Nothing;
+    };
+    if is_bad_reverse(value_at(pdu, at)) {
+        return Found::At(at);
+    }
+    Found::Nothing
 }

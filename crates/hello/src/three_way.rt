@@ -4,13 +4,17 @@
 //          state  own extended circuit ID  Neighbor System ID  Neighbor Extended Circuit ID
 use basics::octets::four;
 use basics::octets::six;
+use tlv::tlvs::Found;
 use tlv::tlvs::THREE_WAY;
+use tlv::tlvs::find;
+use tlv::tlvs::find_after;
+use tlv::tlvs::value_at;
 use tlv::tlvs::value_of;
 ghost use mathlib.Core.Path.{_≡_};
 ghost use mathlib.Core.Bool.{cond};
 ghost use lib.ListN.{length};
 ghost use Rattle.tlv.specs.Tlv.{tlvs, ofType};
-ghost use Rattle.hello.specs.ThreeWay.{threeWayLength, threeWayBad, stateOf, identifiersOf, threeWayOf, threeWayRead};
+ghost use Rattle.hello.specs.ThreeWay.{threeWayLength, threeWayBad, stateOf, identifiersOf, threeWayOf, threeWayFault, threeWayRead};
 ghost use Rattle.hello.specs.declared.three_way.ThreeWayRead.the-variants.{Good, Bad};
 
 // The neighbour's state of this adjacency.
@@ -114,4 +118,18 @@ pub fn read_three_way(pdu: &[u8], from: usize, count: usize) -> ThreeWayRead
         return check_three_way(value_of(pdu, from, THREE_WAY));
     }
     ThreeWayRead::Bad
+}
+
+// The first three-way TLV of a PDU that breaks a rule; the PDU's end, where there is none.
+pub fn three_way_fault(pdu: &[u8], from: usize) -> Found
+    ensures { λ r. ⌜ r ≡ threeWayFault (length (now (pdu .entry))) (ofType 240 (tlvs (now (pdu .entry)) from)) ⌝ }
+{
+    let found = find(pdu, from, THREE_WAY);
+    let Found::At(at) = found else {
+        return Found::At(pdu.len());
+    };
+    if is_bad_three_way(value_at(pdu, at)) {
+        return Found::At(at);
+    }
+    find_after(pdu, at, THREE_WAY)
 }

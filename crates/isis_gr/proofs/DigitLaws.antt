@@ -46,8 +46,8 @@ refusal-below NoCircuit = omega arith
 refusal-below ReplyRoom = omega arith
 refusal-below NotHello = omega arith
 refusal-below BadLength = omega arith
-refusal-below TlvPastEnd = omega arith
-refusal-below BadTlv = omega arith
+refusal-below (TlvPastEnd position) = omega arith
+refusal-below (BadTlv position) = omega arith
 refusal-below WrongSource = omega arith
 refusal-below WrongNeighbor = omega arith
 refusal-below NoRoom = omega arith
@@ -103,15 +103,15 @@ fact-code (Metric n) = omega arith
 fact-code (HelloFlags flags) = omega arith
 fact-code (Waits count some lowest) = omega arith
 
--- of every word; every refusal's number is below 256
-pub code : (a : Answer) → numberOf a < 256 → answerNo a % 256 ≡ numberOf a
-code (Refused n) h = omega arith
-code (Received f) h = omega arith
-code (Ticked lost hellos t) h = omega arith
-code (Told f) h = fact-code f
+-- of every word; a refusal's is its number alone
+pub code : (a : Answer) → answerNo a % 256 ≡ numberOf a
+code (Refused x) = omega (arith, refusal-below x)
+code (Received f) = omega arith
+code (Ticked lost hellos t) = omega arith
+code (Told f) = fact-code f
 
-pub code-refused : (x : Refusal) → answerNo (Refused (refusalNo x)) % 256 ≡ refusalNo x
-code-refused x = code (Refused (refusalNo x)) (refusal-below x)
+pub code-refused : (x : Refusal) → answerNo (Refused x) ≡ refusalNo x
+code-refused x = refl
 
 -- the timers' digits
 pub record Timed (word : ℕ) (t : TimersAnswer) : Type 0 where

@@ -11,6 +11,7 @@ use Rattle.basics.specs.declared.levels.Levels.{Levels}
 use Rattle.settings.specs.declared.mode.Mode.{Mode}
 use Rattle.settings.specs.declared.mode.Mode.the-variants.{Running, Restarting, Starting}
 use Rattle.model.specs.Answers.{Answer, Refused, Received, Ticked, Told, Fact, Done, Noticed, Looked, Metric, HelloFlags, Waits, TimersAnswer, ChangeAnswer, FrameAnswer, RecordAnswer}
+use Rattle.model.specs.Numbers.{refusalNo, positionNo}
 use Rattle.own_words.specs.Setup.{Report, Refused as RefusedReport, Begun}
 
 -- ---- the parts
@@ -38,19 +39,20 @@ factNo (Waits count some lowest) = 2 ^ 8 * count + 2 ^ 16 * lowest
 
 -- ---- the answers
 
--- "A refusal returns its number only"
+-- "A refusal returns its number only"; a position stands in the second word
 abbrev pub answerNo : Answer → ℕ
-answerNo (Refused n) = n
+answerNo (Refused x) = refusalNo x
 answerNo (Received f) = frameNo f
 answerNo (Ticked lost hellos t) = 2 ^ 8 * maskNo lost + 2 ^ 16 * maskNo (hellos .t1s) + 2 ^ 32 * timersNo t + 2 ^ 40 * hellos .flags
 answerNo (Told f) = factNo f
 
--- the second word of an accepted frame: the System ID of the frame's record, its level, its state before and after, whether it is advertised
+-- the record of an accepted frame: its System ID, its level, its state before and after, whether it is advertised
 abbrev pub changeNo : ChangeAnswer → ℕ
 changeNo x = x .system % 2 ^ 48 + 2 ^ 48 * (x .level % 4 + 4 * x .before + 16 * x .after + 64 * bitOf (x .advertised))
 
+-- a frame's second word: its record; of a refused one the position that the refusal brings, 0 where it brings none
 abbrev pub changedNo : Answer → ℕ
-changedNo (Refused n) = 0
+changedNo (Refused x) = positionNo x
 changedNo (Received f) = changeNo (f .change)
 changedNo (Ticked lost hellos t) = 0
 changedNo (Told f) = 0
@@ -77,7 +79,7 @@ recordWords r = r .expiry ∷ recordNo r ∷ []
 
 -- the two words of a record that was found; they stay as they were where none was
 abbrev pub foundWords : Answer → List ℕ → List ℕ
-foundWords (Refused n) ws = ws
+foundWords (Refused x) ws = ws
 foundWords (Received f) ws = ws
 foundWords (Ticked lost hellos t) ws = ws
 foundWords (Told Done) ws = ws

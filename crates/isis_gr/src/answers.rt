@@ -1,4 +1,4 @@
-// Each answer as one word; specs/Words.antt gives it, case by case. A refusal's word is its number.
+// Each answer as one word, a frame's as two; specs/Words.antt gives them, case by case. A refusal's word is its number.
 use crate::numbers::EIGHTH;
 use crate::numbers::FIFTH;
 use crate::numbers::FOURTH;
@@ -31,6 +31,7 @@ use model::answers::SetUp;
 use model::answers::Ticked;
 use model::answers::Waiting;
 use model::numbers::number_of;
+use model::numbers::position_of;
 ghost use mathlib.Core.Path.{_≡_};
 ghost use Prim.Native.Nat.{_≤_};
 ghost use lib.ListN.{length};
@@ -78,7 +79,7 @@ fn received_change(a: Received) -> u64
     ensures { λ r. ⌜ r ≡ changedNo (receivedOf a) ⌝ }
 {
     match a {
-        Received::Refused(_) => 0,
+        Received::Refused(x) => position_of(x) as u64,
         Received::Done(o) => {
             let change = o.change;
             change_word(change)

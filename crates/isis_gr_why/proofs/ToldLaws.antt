@@ -8,7 +8,6 @@ use borrow.Author.Tests.{eq-eqb, ne-eqb}
 use Rattle.basics.specs.declared.refusal.Refusal.{Refusal}
 use Rattle.model.specs.Answers.{Answer}
 use Rattle.model.specs.Gateway.{Gateway}
-use Rattle.model.specs.Numbers.{refusalNo}
 use Rattle.model.specs.Step.{Receive, Release, Clear, CsnpComplete, LookUp, LinkMetric, NextHello, Call, At, Over, Hand, Outcome}
 use Rattle.model.specs.declared.answers.Orders.{Orders}
 use Rattle.model.specs.declared.answers.Received.{Received}
@@ -62,7 +61,7 @@ module _ (made : Made) (n : ℕ) (a : Received) (e : made ≡ Frame n a) (mac : 
   unknown-accepted m o d = rw (told-frame .0, sym (told-frame .1), d) refl
 
   module _ (y : Refusal) (d : a ≡ RefusedFrame y) where
-    pub unknown-there : (m : ℕ) → n ≡ m → Refused (refusalNo y) ≡ unknown m c x
+    pub unknown-there : (m : ℕ) → n ≡ m → Refused y ≡ unknown m c x
     unfolding turnedAway
     unknown-there m q = rw (told-frame .0, sym (told-frame .1), d, eq-eqb n m q) refl
 
@@ -70,6 +69,6 @@ module _ (made : Made) (n : ℕ) (a : Received) (e : made ≡ Frame n a) (mac : 
     unfolding turnedAway
     unknown-elsewhere m q = rw (told-frame .0, sym (told-frame .1), d, ne-eqb n m q) refl
 
-    pub silent-refused : (g : Gateway) (o : Outcome) → o .answer ≡ x → Refused (refusalNo y) ≡ noCsnps g c o
+    pub silent-refused : (g : Gateway) (o : Outcome) → o .answer ≡ x → Refused y ≡ noCsnps g c o
     unfolding unordered
     silent-refused g o q = rw (told-frame .0) (rw (q, sym (told-frame .1), d) refl)

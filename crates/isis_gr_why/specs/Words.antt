@@ -5,6 +5,7 @@ use mathlib.Core.Bool.{Bool, true, false, cond, _&&_}
 use mathlib.Core.List.{List}
 use lib.Dec.{eqb, ltb}
 use Rattle.adjacency.specs.declared.record.Key.{Key}
+use Rattle.model.specs.Numbers.{refusalNo, positionNo}
 use Rattle.own_words.specs.Words.{gatewayOf}
 use Rattle.reasons.specs.Why.{Why, NotSo, Init, Suppressed, NoRecord, Refused, Expired, Released, Cleared, Fits, Outranked, callOf, whyOf}
 use Rattle.reasons.specs.declared.why.Call.{Call}
@@ -43,7 +44,7 @@ reasonNo NotSo = 0
 reasonNo Init = 1
 reasonNo Suppressed = 2
 reasonNo NoRecord = 3
-reasonNo (Refused n) = 4
+reasonNo (Refused x) = 4
 reasonNo Expired = 5
 reasonNo Released = 6
 reasonNo Cleared = 7
@@ -54,13 +55,13 @@ reasonNo (Outranked system priority mac) = 9
 abbrev pub unknownNo : ℕ
 unknownNo = 10
 
--- the refusal's number or the line stands in the second octet, and the System ID in the upper six; 0 where there is none
+-- the refusal's number or the line stands in the second octet, the refusal's position or the System ID in those above; 0 where there is none
 abbrev pub detailNo : Why → ℕ
 detailNo NotSo = 0
 detailNo Init = 0
 detailNo Suppressed = 0
 detailNo NoRecord = 0
-detailNo (Refused n) = 2 ^ 8 * n
+detailNo (Refused x) = 2 ^ 8 * refusalNo x + 2 ^ 16 * positionNo x
 detailNo Expired = 0
 detailNo Released = 0
 detailNo Cleared = 0
@@ -76,7 +77,7 @@ pairNo NotSo = 0
 pairNo Init = 0
 pairNo Suppressed = 0
 pairNo NoRecord = 0
-pairNo (Refused n) = 0
+pairNo (Refused x) = 0
 pairNo Expired = 0
 pairNo Released = 0
 pairNo Cleared = 0

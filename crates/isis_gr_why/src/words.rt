@@ -1,6 +1,7 @@
 // The reason as two words, and the numbers of questions and calls (specs/Words.antt).
 use adjacency::marks::Line;
 use model::numbers::number_of;
+use model::numbers::position_of;
 use reasons::why::Call;
 use reasons::why::Question;
 use reasons::why::Reason;
@@ -91,7 +92,7 @@ fn answer_word(why: Reason) -> u64
         Reason::Init => 1,
         Reason::Suppressed => 2,
         Reason::NoRecord => 3,
-        Reason::Refused(x) => 4 + SECOND * number_of(x) as u64,
+        Reason::Refused(x) => { 4 + (SECOND * number_of(x) as u64 + THIRD * position_of(x) as u64) }
         Reason::Expired => 5,
         Reason::Released => 6,
         Reason::Cleared => 7,

@@ -3,6 +3,7 @@ use mathlib.Core.Path.{_≡_, refl, ap}
 use mathlib.Core.Bool.{Bool, true, false, true≢false}
 use mathlib.Core.List.{List}
 use Prim.Native.Nat.{ℕ}
+use Rattle.basics.specs.declared.refusal.Refusal.{Refusal}
 use Rattle.settings.specs.declared.circuit.Chosen.{Chosen}
 use Rattle.settings.specs.declared.circuit.Chosen.the-variants.{Known, Unknown}
 use Rattle.chunks.specs.Chunks.{Unfinished}
@@ -42,7 +43,7 @@ module _ (g : Gateway) (us : List Unfinished) where
 pub frames-kept : (g : Gateway) (c : Call) → isHand c ≡ false → step g c .next .unfinished ≡ g .unfinished
 frames-kept g c e = ap (λ (o : Outcome). o .next .unfinished) (step-framed g (g .unfinished) c e)
 
-pub drops-none : (c : Call) (x : ℕ) → isHand c ≡ false → drops c x ≡ false
+pub drops-none : (c : Call) (x : Refusal) → isHand c ≡ false → drops c x ≡ false
 drops-none (At n l) x e = refl
 drops-none (Over w) x e = refl
 drops-none (Hand n p) x e = absurd (true≢false e)

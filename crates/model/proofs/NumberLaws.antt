@@ -9,12 +9,12 @@ use Rattle.basics.proofs.BoolLaws.{or-true}
 use Rattle.basics.specs.Levels.{hasLevel}
 use Rattle.basics.specs.declared.kind.CircuitKind.{CircuitKind}
 use Rattle.basics.specs.declared.refusal.Refusal.{Refusal}
-use Rattle.basics.specs.declared.refusal.Refusal.the-variants.{TooLong}
-use Rattle.tlv.specs.Tlv.{tlvs, cutAt, unless}
+use Rattle.basics.specs.declared.refusal.Refusal.the-variants.{TlvPastEnd, BadTlv, TooLong}
+use Rattle.tlv.specs.Tlv.{tlvs, cutAt}
 use Rattle.tlv.specs.declared.tlvs.Found.{Found}
 use Rattle.tlv.specs.declared.tlvs.Found.the-variants.{At as FoundAt, Nothing as NotFound}
 use Rattle.hello.specs.Header.{notHello, badLength}
-use Rattle.hello.specs.Hello.{ruleFault, tlvsRead, pduRead, layoutRead, helloRead}
+use Rattle.hello.specs.Hello.{ruleFault, refusedAt, tlvsRead, pduRead, layoutRead, helloRead}
 use Rattle.hello.specs.declared.header.Selected.{Selected}
 use Rattle.hello.specs.declared.header.Selected.the-variants.{Fit, Unfit}
 use Rattle.hello.specs.declared.read.Hello.{Hello}
@@ -49,14 +49,9 @@ cond-passes : {A : Type 0} (f : A → Bool) (t : Bool) (p q : A) → f p ≡ tru
 cond-passes f true p q x y = x
 cond-passes f false p q x y = y
 
-unless-passes : {A : Type 0} (f : A → Bool) (t : Found) (p q : A) → f p ≡ true → f q ≡ true → f (unless t p q) ≡ true
-unfolding unless
-unless-passes f NotFound p q x y = x
-unless-passes f (FoundAt n) p q x y = y
-
 -- an answer that, if it is a refusal, is by one of these numbers
 abbrev within : List ℕ → Answer → Bool
-within ns (Refused x) = isOneOf x ns
+within ns (Refused x) = isOneOf (refusalNo x) ns
 within ns (Received f) = true
 within ns (Ticked lost hellos t) = true
 within ns (Told f) = true
@@ -67,12 +62,12 @@ actedWithin ns a = within ns (a .answer)
 abbrev judgedWithin : Gateway → List ℕ → Judged → Bool
 judgedWithin g ns j = within ns (carry g j .answer)
 
-refused-within : (ns : List ℕ) (a : Answer) (x : ℕ) → within ns a ≡ true → a ≡ Refused x → isOneOf x ns ≡ true
+refused-within : (ns : List ℕ) (a : Answer) (x : Refusal) → within ns a ≡ true → a ≡ Refused x → isOneOf (refusalNo x) ns ≡ true
 refused-within ns a x w e = sym (ap (within ns) e) ∙ w
 
 within-more : (n : ℕ) (ns : List ℕ) (a : Answer) → within ns a ≡ true → within (n ∷ ns) a ≡ true
 unfolding isOneOf
-within-more n ns (Refused x) w = rw w (or-true (eqb x n))
+within-more n ns (Refused x) w = rw w (or-true (eqb (refusalNo x) n))
 within-more n ns (Received f) w = refl
 within-more n ns (Ticked lost hellos t) w = refl
 within-more n ns (Told f) w = refl
@@ -87,12 +82,17 @@ abbrev readWithin : Read → Bool
 readWithin (RefusedRead x) = isFrames x
 readWithin (ReadAs h) = true
 
+refused-passes : (why : ℕ → Refusal) (t : Found) (r : Read) → ((n : ℕ) → isFrames (why n) ≡ true) → readWithin r ≡ true → readWithin (refusedAt why t r) ≡ true
+unfolding refusedAt
+refused-passes why NotFound r x y = y
+refused-passes why (FoundAt n) r x y = x (n + 1)
+
 layout-within : (l : Selected) (mac : ℕ) (s : List ℕ) → readWithin (layoutRead l mac s) ≡ true
 unfolding layoutRead pduRead tlvsRead isOneOf
 layout-within Unfit mac s = refl
 layout-within (Fit l) mac s =
     cond-passes readWithin (badLength s (l .header)) _ _ refl
-    (unless-passes readWithin (cutAt (tlvs _ (l .header))) _ _ (unless-passes readWithin (ruleFault l _) _ _ refl refl) refl)
+    (refused-passes TlvPastEnd (cutAt (tlvs _ (l .header))) _ (λ n. refl) (refused-passes BadTlv (ruleFault l _) _ (λ n. refl) refl))
 
 read-within : (kind : CircuitKind) (mac : ℕ) (s : List ℕ) → readWithin (helloRead kind mac s) ≡ true
 unfolding helloRead isOneOf
@@ -189,7 +189,7 @@ module _ (g : Gateway) (n : ℕ) (s : Circuit) (known : circuitOf (g .common) n 
   frame-within = rw known (receive-within n s mac b (g .common) _ frame)
 
   -- "no circuit of that number" apart
-  pub received-by : (x : ℕ) → at g n (Receive mac frame b) .answer ≡ Refused x → isOneOf x frameNumbers ≡ true
+  pub received-by : (x : Refusal) → at g n (Receive mac frame b) .answer ≡ Refused x → isOneOf (refusalNo x) frameNumbers ≡ true
   received-by x e = refused-within frameNumbers (at g n (Receive mac frame b) .answer) x frame-within e
 
 ended-within : (g : Gateway) (n : ℕ) (s : Circuit) (b : List ℕ) (u : Unfinished) → circuitOf (g .common) n ≡ Known s

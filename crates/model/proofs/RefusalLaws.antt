@@ -30,7 +30,6 @@ use Rattle.chunks.specs.Chunks.{Unfinished, None, Frame, Joined, Refused as Ref
 use Rattle.model.specs.Gateway.{Gateway, Room, withRooms, withCommon, renew, noRoom, roomOf, unfinishedOn, withUnfinished}
 use Rattle.model.specs.Receive.{Acted, refuse, hereOf, accepted, reacted, decidedIn, checked, readIn, isShort, receive}
 use Rattle.model.specs.Step.{Outcome, Local, Receive, Release, Clear, CsnpComplete, LookUp, LinkMetric, NextHello, Global, Tick, DatabaseComplete, Waiting, Piece, Begin, Chunk, End, At, Over, Hand, told, asksLevel, csnpComplete, lookUp, linkMetricOf, nextHello, act, lent, lift, refused, on, at, chunked, ended, hand, handOn, lentTo, Judged, Refused as RefusedCall, Sweep, Tell, noneOf, quiet, isBack, tickOf, databaseOf, judge, carry, step}
-use Rattle.model.specs.Numbers.{refusalNo}
 use Rattle.model.specs.Refusals.{isOneOf, dropsTo, leftRefused, RefusalsKeep}
 use Rattle.model.proofs.Lists.{renew-numbered}
 use Rattle.model.proofs.NumberLaws.{received-by}
@@ -45,7 +44,7 @@ pub record Left (b : List ℕ) (c : Common) (r : Room) (a : Acted) : Type 0 wher
 
 module _ (b : List ℕ) (c : Common) (r : Room) where
   abbrev Keeps : Acted → Type 0
-  Keeps a = (x : ℕ) → a .answer ≡ Refused x → Left b c r a
+  Keeps a = (x : Refusal) → a .answer ≡ Refused x → Left b c r a
 
   refuse-keeps : (x : Refusal) → Keeps (refuse b x c r)
   unfolding refuse
@@ -92,7 +91,7 @@ act-keeps n s (NextHello level) c r =
 -- ---- every call
 
 abbrev Stays : Gateway → List ℕ → Outcome → Type 0
-Stays g b o = (x : ℕ) → o .answer ≡ Refused x → (o .next ≡ g) × (o .reply ≡ b)
+Stays g b o = (x : Refusal) → o .answer ≡ Refused x → (o .next ≡ g) × (o .reply ≡ b)
 
 on-stays : (g : Gateway) (n : ℕ) (l : Local) (q : Chosen) → Stays g (lent l) (on g n l q)
 unfolding on lift
@@ -144,11 +143,11 @@ chunk-stays g n (As u) = λ y e. absurd (let z : _≡_ {A = ℕ} 0 1 = cc in ome
 
 -- of a refusal x: an end's goes by its number
 abbrev Leaves : Gateway → ℕ → Piece → Outcome → Type 0
-Leaves g n p o = (x : ℕ) → o .answer ≡ Refused x → (o .next ≡ leftRefused g (Hand n p) x) × (o .reply ≡ lentTo p)
+Leaves g n p o = (x : Refusal) → o .answer ≡ Refused x → (o .next ≡ leftRefused g (Hand n p) x) × (o .reply ≡ lentTo p)
 
-refused-leaves : (g : Gateway) (n : ℕ) (p : Piece) (r : Refusal) → dropsTo p (refusalNo r) ≡ false → Leaves g n p (refused g (lentTo p) r)
+refused-leaves : (g : Gateway) (n : ℕ) (p : Piece) (r : Refusal) → dropsTo p r ≡ false → Leaves g n p (refused g (lentTo p) r)
 refused-leaves g n p r d x e =
-    let z : refusalNo r ≡ x = cc in
+    let z : r ≡ x = cc in
     (rw (← z, d) refl, refl)
 
 -- 1 drops none

@@ -10,7 +10,7 @@ use Rattle.hello.specs.ThreeWay.{threeWayBad, threeWayLength, stateOf, identifi
 use Rattle.hello.specs.Reverse.{reverseBad, reverseOf}
 use Rattle.neighbours.specs.Lists.{neighboursFault, listed, listRead}
 use Rattle.neighbours.specs.Neighbours.{listedTo}
-use Rattle.hello.specs.Hello.{faultOn, linkRead, earlier, ruleFault, tlvsRead, pduRead, layoutRead, helloRead}
+use Rattle.hello.specs.Hello.{faultOn, linkRead, earlier, tlvFault, ruleFault, refusedAt, tlvsRead, pduRead, layoutRead, helloRead}
 use Rattle.adjacency.specs.Step.{wrongSource, wrongId, wrongNeighbor, linkStep, keptUp, stepOf, rises}
 use Rattle.adjacency.specs.Marks.{planned, lineBy, lineOf}
 use Rattle.adjacency.specs.React.{dataBy, acceptedBy, lineIn, reactOf}
@@ -45,8 +45,8 @@ use Rattle.model.specs.SampleLevels.{numbersFrom, SampleLevels}
 use Rattle.model.specs.SamplePieces.{cut, handing, callsCut, seenEnds, inTurn, SamplePieces}
 
 rows : SampleRuns × SampleCalls × SampleStarts × SampleLevels × SamplePieces
-unfolding ones big hasBits octetsOf tlvs tlvsUp cutAt ofType loneFault unless counted without invalid needsNeighbor needsTime leastLength restartBad restartWith timeOf neighborOf restartOctets layoutOf notHello badLength threeWayBad threeWayLength stateOf identifiersOf reverseBad reverseOf faultOn earlier ruleFault tlvsRead pduRead layoutRead helloRead wrongSource wrongId wrongNeighbor linkStep keptUp stepOf planned lineBy lineOf dataBy acceptedBy lineIn reactOf csnpsOf sameKey find has full crowded replace insert put sweep firstState emptyRoom heldTo bitsOf acknowledges heardTlv heardOf startEntry due helloDue tickT1 done satisfied acknowledged heardT1 freedBy startTimer startT2s anyT2 anyAfter cancelT2 cancelBoth expireT2 expireBoth spfDue lowerT3 heardT3 expiresT3 expiredT3 withT1s withT2s withT3 countRuns lowestRuns countTrue firstPair anyShared serving servingWith servedAt noT1 atT1 tickT1s expireT2s waits cancelT2s tickT3 finish closed settled toT3 heardIn overloadOf overloadDue outcomeWith outcomeOf ordered tickHellos overloaded freedWith heardOrders ordering beginHello begins begin begunBy rises anyTrue headBy startT1 startHellos started every some circuitOk lengthsOk settingsOk enabledLevels circuitOf setupCommon keyOn ifRoom decided kept written csnpsIn numbered renew recordAt newGateway setup refuse accepted reacted decidedIn checked readIn receive csnpComplete lookUp linkMetricOf nextHello act lift on at noneOf tickOf databaseOf judge carry chunked ended hand handOn join step trace leftBy callsOf seenBy neighboursFault listed listRead listedTo linkRead outranks heardWithoutTlv stopT1 again noted helloFlags noticeT2 noticeBoth over csnpIn noticeT2s numbersFrom cut handing callsCut seenEnds inTurn
-rows = ((refl, refl, (refl, refl), refl, (refl, refl, refl)), (refl, refl, refl, refl, refl, (refl, refl), (refl, refl)), ((refl, refl), refl, refl, refl, refl, refl, refl, refl, refl, refl, refl, refl, refl), ((refl, refl, refl), refl, refl, (refl, refl), refl, refl, (refl, refl), refl), (refl, (refl, refl, refl), (refl, refl), (refl, refl, refl), refl, refl))
+unfolding ones big hasBits octetsOf tlvs tlvsUp cutAt ofType loneFault unless counted without invalid needsNeighbor needsTime leastLength restartBad restartWith timeOf neighborOf restartOctets layoutOf notHello badLength threeWayBad threeWayLength stateOf identifiersOf reverseBad reverseOf faultOn earlier tlvFault ruleFault refusedAt tlvsRead pduRead layoutRead helloRead wrongSource wrongId wrongNeighbor linkStep keptUp stepOf planned lineBy lineOf dataBy acceptedBy lineIn reactOf csnpsOf sameKey find has full crowded replace insert put sweep firstState emptyRoom heldTo bitsOf acknowledges heardTlv heardOf startEntry due helloDue tickT1 done satisfied acknowledged heardT1 freedBy startTimer startT2s anyT2 anyAfter cancelT2 cancelBoth expireT2 expireBoth spfDue lowerT3 heardT3 expiresT3 expiredT3 withT1s withT2s withT3 countRuns lowestRuns countTrue firstPair anyShared serving servingWith servedAt noT1 atT1 tickT1s expireT2s waits cancelT2s tickT3 finish closed settled toT3 heardIn overloadOf overloadDue outcomeWith outcomeOf ordered tickHellos overloaded freedWith heardOrders ordering beginHello begins begin begunBy rises anyTrue headBy startT1 startHellos started every some circuitOk lengthsOk settingsOk enabledLevels circuitOf setupCommon keyOn ifRoom decided kept written csnpsIn numbered renew recordAt newGateway setup refuse accepted reacted decidedIn checked readIn receive csnpComplete lookUp linkMetricOf nextHello act lift on at noneOf tickOf databaseOf judge carry chunked ended hand handOn join step trace leftBy callsOf seenBy neighboursFault listed listRead listedTo linkRead outranks heardWithoutTlv stopT1 again noted helloFlags noticeT2 noticeBoth over csnpIn noticeT2s numbersFrom cut handing callsCut seenEnds inTurn
+rows = ((refl, refl, (refl, refl, refl), refl, (refl, refl, refl)), (refl, refl, refl, refl, refl, (refl, refl), (refl, refl)), ((refl, refl), refl, refl, refl, refl, refl, refl, refl, refl, refl, refl, refl, refl), ((refl, refl, refl), refl, refl, (refl, refl), refl, refl, (refl, refl), refl), (refl, (refl, refl, refl), (refl, refl), (refl, refl, refl), refl, refl))
 
 pub sample-runs : SampleRuns
 sample-runs = rows .0

@@ -3,6 +3,7 @@
 use Prim.Native.Nat.{ℕ}
 use mathlib.Core.Bool.{Bool, true, false}
 use mathlib.Core.List.{List}
+use Rattle.basics.specs.declared.refusal.Refusal.{Refusal}
 use Rattle.basics.specs.Mask.{circuits, bitsOf}
 use Rattle.hello.specs.declared.reverse.ReverseMetric.{ReverseMetric}
 use Rattle.hello.specs.declared.reverse.ReverseMetric.the-variants.{Absent as NoReverse, Present as Reverse}
@@ -22,7 +23,7 @@ use Rattle.timers.specs.Hellos.{Hellos, hellosOf}
 use Rattle.timers.specs.declared.outcome.Overload.the-variants.{Quiet}
 use Rattle.timers.specs.declared.outcome.TimerOutcome.{TimerOutcome}
 use Rattle.timers.specs.declared.outcome.TimerOutcome.the-variants.{Idle, Goes, Ended}
-use Rattle.model.specs.Numbers.{refusalNo, replyFlags, replyTime, someWaits, lowestNo, levelsNo, isOrdered, csnpsNo, freedNo, helloNo, overloadNo, restartNo, markNo, phaseNo, stateNo}
+use Rattle.model.specs.Numbers.{refusalNo, positionNo, replyFlags, replyTime, someWaits, lowestNo, levelsNo, isOrdered, csnpsNo, freedNo, helloNo, overloadNo, restartNo, markNo, phaseNo, stateNo}
 use Rattle.model.specs.declared.answers.Change.{Change}
 use Rattle.model.specs.declared.answers.Orders.{Orders}
 use Rattle.model.specs.declared.answers.Received.{Received as ReceivedCode}
@@ -92,19 +93,25 @@ pub data Fact : Type 0 where
   HelloFlags : (flags : ℕ) → Fact
   Waits : (count : ℕ) (some : Bool) (lowest : ℕ) → Fact
 
--- "A refusal returns its number only". Of a tick, lost: the circuits that lost a record, circuit 1 first; and the hellos that are ordered.
+-- "A refusal returns its number only", and for 5 and 6 (document 02, W-206) the position. Of a tick, lost: the circuits that lost a record, circuit 1 first; and the hellos that are ordered.
 pub data Answer : Type 0 where
-  Refused : (number : ℕ) → Answer
+  Refused : Refusal → Answer
   Received : FrameAnswer → Answer
   Ticked : (lost : List Bool) → Hellos → TimersAnswer → Answer
   Told : Fact → Answer
 
--- the number of a refusal; 0 where the call was done
+-- the number of a refusal, and its position; 0 where the call was done
 abbrev pub numberOf : Answer → ℕ
-numberOf (Refused n) = n
+numberOf (Refused x) = refusalNo x
 numberOf (Received f) = 0
 numberOf (Ticked lost hellos t) = 0
 numberOf (Told f) = 0
+
+abbrev pub positionOf : Answer → ℕ
+positionOf (Refused x) = positionNo x
+positionOf (Received f) = 0
+positionOf (Ticked lost hellos t) = 0
+positionOf (Told f) = 0
 
 -- ---- the parts, of the code's
 
@@ -205,37 +212,37 @@ abbrev pub lostBits : ℕ → List Bool
 lostBits m = bitsOf circuits m
 
 abbrev pub receivedOf : ReceivedCode → Answer
-receivedOf (RefusedFrame x) = Refused (refusalNo x)
+receivedOf (RefusedFrame x) = Refused x
 receivedOf (DoneFrame o) = Received (frameAnswer o)
 
 abbrev pub tickedOf : TickedCode → Answer
-tickedOf (RefusedTick x) = Refused (refusalNo x)
+tickedOf (RefusedTick x) = Refused x
 tickedOf (DoneTick lost hellos o) = Ticked (lostBits lost) (hellosOf hellos) (timersAnswer o)
 
 abbrev pub releasedOf : Released → Answer
-releasedOf (RefusedRelease x) = Refused (refusalNo x)
+releasedOf (RefusedRelease x) = Refused x
 releasedOf DoneRelease = Told Done
 
 -- of a begin or a chunk
 abbrev pub handedOf : Handed → Answer
-handedOf (RefusedPiece x) = Refused (refusalNo x)
+handedOf (RefusedPiece x) = Refused x
 handedOf DonePiece = Told Done
 
 abbrev pub noticedOf : NoticedCode → Answer
-noticedOf (RefusedNotice x) = Refused (refusalNo x)
+noticedOf (RefusedNotice x) = Refused x
 noticedOf (DoneNotice o) = Told (Noticed (timersAnswer o))
 
 abbrev pub lookedOf : LookedCode → Answer
-lookedOf (RefusedLook x) = Refused (refusalNo x)
+lookedOf (RefusedLook x) = Refused x
 lookedOf NoRecord = Told (Looked noRecord)
 lookedOf (Found s shown) = Told (Looked (stateAnswer s shown))
 
 abbrev pub metricOf : MetricCode → Answer
-metricOf (RefusedMetric x) = Refused (refusalNo x)
+metricOf (RefusedMetric x) = Refused x
 metricOf (Link n) = Told (Metric n)
 
 abbrev pub flagsOf : NextFlags → Answer
-flagsOf (RefusedFlags x) = Refused (refusalNo x)
+flagsOf (RefusedFlags x) = Refused x
 flagsOf (Next f) = Told (HelloFlags (f .bits))
 
 abbrev pub waitingOf : Waiting → Answer

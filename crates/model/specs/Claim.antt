@@ -14,6 +14,7 @@ use Rattle.settings.specs.declared.setup.Settings.{Settings}
 use Rattle.control.specs.Common.{circuitOf}
 use Rattle.settings.specs.declared.circuit.Chosen.{Chosen}
 use Rattle.settings.specs.declared.circuit.Chosen.the-variants.{Known, Unknown}
+use Rattle.model.specs.Numbers.{refusalNo}
 use Rattle.model.specs.Answers.{Answer, Refused, Received, Ticked, Told, Done, FrameAnswer}
 use Rattle.model.specs.Gateway.{Gateway, Started, setup, renew, recordAt, unfinishedOn}
 use Rattle.model.specs.Step.{Local, Receive, Release, Clear, CsnpComplete, LookUp, LinkMetric, NextHello, Call, At, Over, Hand, Outcome}
@@ -64,7 +65,7 @@ isThere b (Over w) = false
 isThere b (Hand n p) = eqb n (b .circuit)
 
 unfoldable pub isNine : Answer → Bool
-isNine (Refused n) = eqb n 9
+isNine (Refused x) = eqb (refusalNo x) 9
 isNine (Received f) = false
 isNine (Ticked lost hellos t) = false
 isNine (Told f) = false

@@ -39,8 +39,8 @@ refusalNo NoCircuit = 1
 refusalNo ReplyRoom = 2
 refusalNo NotHello = 3
 refusalNo BadLength = 4
-refusalNo TlvPastEnd = 5
-refusalNo BadTlv = 6
+refusalNo (TlvPastEnd position) = 5
+refusalNo (BadTlv position) = 6
 refusalNo WrongSource = 7
 refusalNo WrongNeighbor = 8
 refusalNo NoRoom = 9
@@ -49,6 +49,23 @@ refusalNo NotRestarting = 11
 refusalNo BadSetting = 12
 refusalNo NotBegun = 13
 refusalNo TooLong = 14
+
+-- document 02, W-206: the position that refusals 5 and 6 bring, counted in octets from 1; 0 where a refusal brings none
+abbrev pub positionNo : Refusal → ℕ
+positionNo NoCircuit = 0
+positionNo ReplyRoom = 0
+positionNo NotHello = 0
+positionNo BadLength = 0
+positionNo (TlvPastEnd position) = position
+positionNo (BadTlv position) = position
+positionNo WrongSource = 0
+positionNo WrongNeighbor = 0
+positionNo NoRoom = 0
+positionNo ClockBack = 0
+positionNo NotRestarting = 0
+positionNo BadSetting = 0
+positionNo NotBegun = 0
+positionNo TooLong = 0
 
 -- the flags of the reply, "RA or PA alone" (2, 16), 0 without one; and its Remaining Time
 abbrev pub replyFlags : Acknowledgement → ℕ

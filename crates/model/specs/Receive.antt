@@ -35,7 +35,6 @@ use Rattle.room.specs.Table.{find}
 use Rattle.room.specs.Accept.{decided, kept, written, csnpsIn}
 use Rattle.model.specs.declared.answers.Change.{Change}
 use Rattle.model.specs.declared.answers.Orders.{Orders}
-use Rattle.model.specs.Numbers.{refusalNo}
 use Rattle.model.specs.Answers.{Answer, Refused, Received, frameAnswer, changeOf}
 use Rattle.model.specs.Gateway.{Room, withSlots}
 
@@ -46,9 +45,9 @@ pub record Acted : Type 0 where
   pub common : Common
   pub room : Room
 
--- a refusal returns its number only, and leaves the common part, the room and the lent buffer as they were
+-- a refusal leaves the common part, the room and the lent buffer as they were
 unfoldable pub refuse : List ℕ → Refusal → Common → Room → Acted
-refuse b x c r = record { answer = Refused (refusalNo x); reply = b; common = c; room = r }
+refuse b x c r = record { answer = Refused x; reply = b; common = c; room = r }
 
 -- ---- an accepted frame
 

@@ -5,7 +5,9 @@ use mathlib.Core.Path.{_≡_}
 use mathlib.Core.Bool.{Bool, true, false, cond, _||_}
 use mathlib.Core.List.{List, [], _∷_}
 use lib.Dec.{eqb}
+use Rattle.basics.specs.declared.refusal.Refusal.{Refusal}
 use Rattle.chunks.specs.Chunks.{None}
+use Rattle.model.specs.Numbers.{refusalNo}
 use Rattle.model.specs.Answers.{Refused}
 use Rattle.model.specs.Gateway.{Gateway, withUnfinished}
 use Rattle.model.specs.Step.{Local, Receive, Release, Clear, CsnpComplete, LookUp, LinkMetric, NextHello, Global, Tick, DatabaseComplete, Waiting, Piece, Begin, Chunk, End, Call, At, Over, Hand, lent, lentTo, step}
@@ -47,7 +49,7 @@ isOneOf x [] = false
 isOneOf x (n ∷ ns) = eqb x n || isOneOf x ns
 
 abbrev pub RefusesByNumber : Type 0
-RefusesByNumber = (g : Gateway) (c : Call) (x : ℕ) → step g c .answer ≡ Refused x → isOneOf x (numbersOf c) ≡ true
+RefusesByNumber = (g : Gateway) (c : Call) (x : Refusal) → step g c .answer ≡ Refused x → isOneOf (refusalNo x) (numbersOf c) ≡ true
 
 -- ---- what a refusal leaves
 
@@ -58,21 +60,21 @@ lentBy (Over w) = []
 lentBy (Hand n p) = lentTo p
 
 -- an unfinished frame is dropped by "an end, even one that receive refuses": by 2 to 9, and neither by 1 nor by 13
-abbrev pub dropsTo : Piece → ℕ → Bool
+abbrev pub dropsTo : Piece → Refusal → Bool
 dropsTo (Begin mac) x = false
 dropsTo (Chunk octets) x = false
-dropsTo (End b) x = isOneOf x frameNumbers
+dropsTo (End b) x = isOneOf (refusalNo x) frameNumbers
 
-abbrev pub drops : Call → ℕ → Bool
+abbrev pub drops : Call → Refusal → Bool
 drops (At n l) x = false
 drops (Over w) x = false
 drops (Hand n p) x = dropsTo p x
 
 -- the gateway that the refusal x of a call leaves
-abbrev pub leftRefused : Gateway → Call → ℕ → Gateway
+abbrev pub leftRefused : Gateway → Call → Refusal → Gateway
 leftRefused g (At n l) x = g
 leftRefused g (Over w) x = g
 leftRefused g (Hand n p) x = cond (dropsTo p x) (withUnfinished g n None) g
 
 abbrev pub RefusalsKeep : Type 0
-RefusalsKeep = (g : Gateway) (c : Call) (x : ℕ) → step g c .answer ≡ Refused x → (step g c .next ≡ leftRefused g c x) × (step g c .reply ≡ lentBy c)
+RefusalsKeep = (g : Gateway) (c : Call) (x : Refusal) → step g c .answer ≡ Refused x → (step g c .next ≡ leftRefused g c x) × (step g c .reply ≡ lentBy c)

@@ -18,7 +18,8 @@ use Rattle.adjacency.specs.declared.record.State.the-variants.{Init, Up}
 use Rattle.timer_parts.specs.declared.t3.T3.{T3}
 use Rattle.timer_parts.specs.declared.t3.T3.the-variants.{Runs}
 use Rattle.settings.specs.declared.mode.Mode.the-variants.{Running, Restarting}
-use Rattle.model.specs.Answers.{Answer, Refused, Received, Told, Metric}
+use Rattle.basics.specs.declared.refusal.Refusal.the-variants.{BadTlv}
+use Rattle.model.specs.Answers.{Answer, Refused, Received, Told, Metric, numberOf}
 use Rattle.model.specs.Gateway.{Gateway, setup, recordAt}
 use Rattle.model.specs.Step.{Outcome, LinkMetric, At, step}
 use Rattle.model.specs.Trace.{after}
@@ -119,16 +120,18 @@ goodValue = 8 ∷ 0x01 ∷ 0x2C ∷ []
 abbrev pub trial : Gateway → List ℕ → Outcome
 trial g v = step g (receiving (hello 0 v))
 
--- Each value is tried on the gateway g, at clock 83, with the record UP and expiry 110. What is refused leaves g as it was.
+-- Each value is tried on the gateway g, at clock 83, with the record UP and expiry 110. What is refused, 6, brings the octet where the Restart TLV
+-- starts, 24, and leaves g as it was.
 abbrev pub C8On : Gateway → Type 0
 C8On g =
     (map (λ v. seen (trial g v)) (badValues ++ goodValue ∷ [])
-    ≡ saw (up 110 Clear) lentOctets (Refused 6)
-    ∷ saw (up 110 Clear) lentOctets (Refused 6)
-    ∷ saw (up 110 Clear) lentOctets (Refused 6)
-    ∷ saw (up 110 Clear) lentOctets (Refused 6)
+    ≡ saw (up 110 Clear) lentOctets (Refused (BadTlv 24))
+    ∷ saw (up 110 Clear) lentOctets (Refused (BadTlv 24))
+    ∷ saw (up 110 Clear) lentOctets (Refused (BadTlv 24))
+    ∷ saw (up 110 Clear) lentOctets (Refused (BadTlv 24))
     ∷ saw (up 383 Planned) (octets 0x10 0x01 0x2C) (received 16 300 0 2 2)
     ∷ [])
+    × (map (λ v. numberOf (trial g v .answer)) badValues ≡ replicate 4 6)
     × (map (λ v. trial g v .next) badValues ≡ replicate 4 g)
 
 abbrev pub C8 : Type 0

@@ -29,7 +29,7 @@ use Rattle.control.specs.Common.{Common, withClock, withTimers, circuitOf}
 use Rattle.settings.specs.declared.circuit.Chosen.{Chosen}
 use Rattle.settings.specs.declared.circuit.Chosen.the-variants.{Known, Unknown}
 use Rattle.adjacency.specs.Keys.{keyOn}
-use Rattle.model.specs.Numbers.{refusalNo, someWaits, lowestNo}
+use Rattle.model.specs.Numbers.{someWaits, lowestNo}
 use Rattle.model.specs.Answers.{Answer, Refused as RefusedAnswer, Ticked, Told, Fact, Done, Noticed, Looked, Metric, HelloFlags, Waits, TimersAnswer, timersAnswer, recordAnswer}
 use Rattle.model.specs.Gateway.{Room, Gateway, withSlots, withRooms, withCommon, roomOf, renew, unfinishedOn, withUnfinished}
 use Rattle.model.specs.Receive.{Acted, refuse, receive}
@@ -141,7 +141,7 @@ lift g n f =
     record { answer = a .answer; reply = a .reply; next = withRooms (withCommon g (a .common)) (renew (g .rooms) n (a .room)) }
 
 abbrev pub refused : Gateway → List ℕ → Refusal → Outcome
-refused g b x = record { answer = RefusedAnswer (refusalNo x); reply = b; next = g }
+refused g b x = record { answer = RefusedAnswer x; reply = b; next = g }
 
 -- 1: "no circuit of that number"
 unfoldable pub on : Gateway → ℕ → Local → Chosen → Outcome

@@ -10,7 +10,7 @@ ghost use mathlib.Core.Bool.{_||_};
 ghost use lib.ListN.{length};
 ghost use Rattle.tlv.specs.Tlv.{tlvs, ofType, valueAt, nextAt};
 ghost use Rattle.neighbours.specs.Neighbours.{listedIn};
-ghost use Rattle.neighbours.specs.Lists.{listRead};
+ghost use Rattle.neighbours.specs.Lists.{neighboursFault, listRead};
 
 // What reading them gives: a length is no multiple of 6, or whether a MAC is listed.
 pub enum ListRead {
@@ -78,4 +78,23 @@ pub fn read_lists(pdu: &[u8], from: usize, count: usize, mac: u64) -> ListRead
         return read_lone(pdu, from, mac);
     }
     read_each(pdu, from, count, mac)
+}
+
+// The first list of a PDU whose length is no multiple of 6.
+pub fn lists_fault(pdu: &[u8], from: usize) -> Found
+    ensures { λ r. ⌜ r ≡ neighboursFault (ofType 6 (tlvs (now (pdu .entry)) from)) ⌝ }
+{
+    let mut at = from;
+    while at < pdu.len() {
+        let found = find(pdu, at, IS_NEIGHBOURS);
+        let Found::At(p) = found else {
+            return Found::Nothing;
+        };
+        let v = value_at(pdu, p);
+        if v.len() % 6 != 0 {
+            return Found::At(p);
+        }
+        at = p + 2 + v.len();
+    }
+    Found::Nothing
 }

@@ -40,7 +40,7 @@ use Rattle.control.specs.Common.{Common}
 use Rattle.control.proofs.CommonLaws.{circuits-length}
 use Rattle.control.specs.Timing.{CommonSettles, CommonTicks}
 use Rattle.adjacency.specs.Keys.{keyOn}
-use Rattle.model.specs.Numbers.{refusalNo, someWaits, lowestNo}
+use Rattle.model.specs.Numbers.{someWaits, lowestNo}
 use Rattle.model.specs.Answers.{Answer, Refused, Ticked, Told, Fact, Done, Noticed, Looked, Metric, HelloFlags, Waits, timersAnswer, recordAnswer, lostBits}
 use Rattle.model.specs.Gateway.{Gateway, Room, withSlots, withRooms, withCommon, noRoom, renew, roomOf}
 use Rattle.model.specs.Receive.{Acted, refuse}
@@ -206,7 +206,7 @@ module _ (ws : List ℕ) where
       is-some : noneOf (cs .circuits) ≡ false
       is-some = some-length (cs .circuits) (omega (arith, circuits-length (part 0 controlWords ws)))
 
-      pub tick-back : (c : ℕ) → c ≡ cs .clock → clock < c → Meets (Refused (refusalNo ClockBack)) (step gw (Over (Tick clock))) ws ws []
+      pub tick-back : (c : ℕ) → c ≡ cs .clock → clock < c → Meets (Refused ClockBack) (step gw (Over (Tick clock))) ws ws []
       unfolding step judge tickOf carry gatewayOf
       tick-back c e lt =
           rw (is-some, lt-ltb clock (cs .clock) (rw (← e) lt)) (record { answer = refl; reply = refl; next = refl; kept = λ x y. refl })
@@ -244,7 +244,7 @@ module _ (ws : List ℕ) where
     abbrev call : Call
     call = Over (DatabaseComplete level)
 
-    pub database-off : hasLevel l level ≡ false → Meets (Refused (refusalNo NoCircuit)) (step gw call) ws ws []
+    pub database-off : hasLevel l level ≡ false → Meets (Refused NoCircuit) (step gw call) ws ws []
     unfolding step judge databaseOf carry gatewayOf
     database-off e = rw (← le, e) (record { answer = refl; reply = refl; next = refl; kept = λ x y. refl })
 
@@ -256,7 +256,7 @@ module _ (ws : List ℕ) where
           let h : hasLevel (enabledLevels (gw .common .circuits)) level ≡ true = rw (← common-at ws, ← le) on in
           ap (carry gw) (rw h e)
 
-      pub database-outside : isRunning (cs .timers .mode) ≡ true → Meets (Refused (refusalNo NotRestarting)) (step gw call) ws ws []
+      pub database-outside : isRunning (cs .timers .mode) ≡ true → Meets (Refused NotRestarting) (step gw call) ws ws []
       unfolding carry
       database-outside m =
           let q : isRunning (gw .common .timers .mode) ≡ true = rw (← common-at ws) m in

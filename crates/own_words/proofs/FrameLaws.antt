@@ -42,7 +42,6 @@ use Rattle.room.specs.declared.accept.Decision.{Decision}
 use Rattle.room.specs.AcceptWords.{Did, Accepts}
 use Rattle.model.specs.declared.answers.Change.{Change}
 use Rattle.model.specs.declared.answers.Orders.{Orders}
-use Rattle.model.specs.Numbers.{refusalNo}
 use Rattle.model.specs.Answers.{Refused, Received, frameAnswer, changeOf}
 use Rattle.model.specs.Gateway.{Gateway, Room, withRooms, withCommon, renew, roomOf}
 use Rattle.model.specs.Receive.{refuse, hereOf, rankOf, hasRisen, saidOf, t1Of, ordersOf, accepted, reacted, decidedIn, checked, readIn, receive}
@@ -120,7 +119,7 @@ module _ (ws : List ℕ) (n : ℕ) (s : Circuit) (mac : ℕ) (h : Hello) (b : Li
         ∙ ap (decided (hereOf (g .common) s) k h) (room-of ws n lo hi)
 
     pub left : (x : Refusal) (t b′ : List ℕ) (d : Decision) → d .reaction ≡ RefusedReaction x → Accepts here key h (part a (a + roomWords - a) ws) b t b′ d
-        → Meets (Refused (refusalNo x)) (lift g n (decidedIn n s mac b h)) ws (putMid a (a + roomWords - a) ws t) b′
+        → Meets (Refused x) (lift g n (decidedIn n s mac b h)) ws (putMid a (a + roomWords - a) ws t) b′
     left x t b′ d e l =
         let did : Did key (h .system) (part a (a + roomWords - a) ws) b t b′ (RefusedReaction x) = rw e at (l .did) in
         let w : putMid a (a + roomWords - a) ws t ≡ ws = ap (putMid a (a + roomWords - a) ws) (did .0) ∙ put-same a (a + roomWords - a) ws in

@@ -22,7 +22,6 @@ use Rattle.settings.specs.declared.circuit.Chosen.{Chosen}
 use Rattle.settings.specs.declared.circuit.Chosen.the-variants.{Known, Unknown}
 use Rattle.basics.proofs.PartLaws.{length-back, part-same, outside}
 use Rattle.settings.specs.declared.circuit.Circuit.{Circuit}
-use Rattle.model.specs.Numbers.{refusalNo}
 use Rattle.model.specs.Answers.{Answer, Refused}
 use Rattle.model.specs.Gateway.{Gateway, Room, withRooms, withCommon, noRoom, numbered, renew, roomOf}
 use Rattle.model.specs.Receive.{Acted, refuse}
@@ -145,14 +144,14 @@ pub along : {a : Answer} {o o′ : Outcome} {ws ws′ b′ : List ℕ} → o ≡
 along e m = rw (← e) m
 
 -- a refusal, of the whole gateway and of a call on a circuit
-pub refuses-all : (ws b : List ℕ) (x : Refusal) → Meets (Refused (refusalNo x)) (refused (gatewayOf ws) b x) ws ws b
+pub refuses-all : (ws b : List ℕ) (x : Refusal) → Meets (Refused x) (refused (gatewayOf ws) b x) ws ws b
 refuses-all ws b x = record { answer = refl; reply = refl; next = refl; kept = λ y e. refl }
 
 module _ (ws : List ℕ) (n : ℕ) where
   abbrev g : Gateway
   g = gatewayOf ws
 
-  pub refuses : (b : List ℕ) (x : Refusal) → Meets (Refused (refusalNo x)) (lift g n (refuse b x)) ws ws b
+  pub refuses : (b : List ℕ) (x : Refusal) → Meets (Refused x) (lift g n (refuse b x)) ws ws b
   unfolding lift refuse
   refuses b x =
       let q = same-room (g .rooms) n in

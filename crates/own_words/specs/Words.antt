@@ -3,6 +3,7 @@
 use Prim.Native.Nat.{ℕ, _+_, _-_, _*_}
 use mathlib.Core.Path.{_≡_}
 use mathlib.Core.List.{List}
+use Rattle.basics.specs.declared.refusal.Refusal.{Refusal}
 use Rattle.basics.specs.Mask.{circuits}
 use Rattle.basics.specs.Lists.{part, tabulate}
 use Rattle.slots.specs.Slots.{tableOf, roomWords}
@@ -36,4 +37,4 @@ pub record Meets (a : Answer) (o : Outcome) (ws ws′ b′ : List ℕ) : Type 0 
   pub answer : a ≡ o .answer
   pub reply : b′ ≡ o .reply
   pub next : gatewayOf ws′ ≡ o .next
-  pub kept : (x : ℕ) → a ≡ Refused x → ws′ ≡ ws
+  pub kept : (x : Refusal) → a ≡ Refused x → ws′ ≡ ws

@@ -117,7 +117,7 @@ pub record Took (g : Gateway) (n mac : ℕ) (frame b : List ℕ) (f : FrameAnswe
 
 -- a receive answers a refusal or an accepted frame
 pub data Said : Answer → Type 0 where
-  refusing : {x : ℕ} → Said (RefusedAnswer x)
+  refusing : {x : Refusal} → Said (RefusedAnswer x)
   receiving : {f : FrameAnswer} → Said (Received f)
 
 abbrev outcomeOf : Gateway → ℕ → Acted → Outcome

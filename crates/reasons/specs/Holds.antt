@@ -7,6 +7,7 @@ use mathlib.Core.List.{List}
 use mathlib.Core.Logic.{_⊎_}
 use lib.Dec.{eqb}
 use lib.ListN.{getD}
+use Rattle.basics.specs.declared.refusal.Refusal.{Refusal}
 use Rattle.basics.specs.declared.kind.CircuitKind.the-variants.{Lan}
 use Rattle.hello.specs.Hello.{helloRead}
 use Rattle.hello.specs.declared.read.Hello.{Hello}
@@ -80,7 +81,7 @@ Unshown g c n k Init = phaseOf (leaves g c n k) ≡ InitPhase
 Unshown g c n k Suppressed = (phaseOf (leaves g c n k) ≡ UpPhase) × (suppressedOf (leaves g c n k) ≡ true)
 Unshown g c n k (Refused x) = (leaves g c n k ≡ Absent) × (receivesAt n c ≡ true) × (step g c .answer ≡ RefusedAnswer x)
 Unshown g c n k NoRecord =
-    (leaves g c n k ≡ Absent) × ((x : ℕ) → receivesAt n c ≡ true → step g c .answer ≡ RefusedAnswer x → ⊥)
+    (leaves g c n k ≡ Absent) × ((x : Refusal) → receivesAt n c ≡ true → step g c .answer ≡ RefusedAnswer x → ⊥)
 Unshown g c n k Expired = ⊥
 Unshown g c n k Released = ⊥
 Unshown g c n k Cleared = ⊥

@@ -4,6 +4,7 @@ use Prim.Native.Nat.{ℕ, _+_}
 use mathlib.Core.Path.{_≡_}
 use mathlib.Core.List.{List, [], _∷_, _++_, map}
 use lib.ListN.{set}
+use Rattle.basics.specs.declared.refusal.Refusal.the-variants.{NoCircuit, BadTlv}
 use Rattle.settings.specs.declared.mode.Mode.the-variants.{Running}
 use Rattle.adjacency.specs.declared.record.Key.{Key}
 use Rattle.model.specs.Gateway.{Gateway, setup}
@@ -33,7 +34,7 @@ announcing = receive (hello 0 (8 ∷ 0x01 ∷ 0x2C ∷ []))
 abbrev pub unshown : Gateway → ℕ → List Call → List Why
 unshown g n cs = map (λ c. whyOf NotAdvertised g c n key) cs
 
--- It stands UP: a hello; one with three-way Down, without and with SA (4): INIT comes first; SA while UP; a hello refused 6, which leaves it UP; a tick
+-- It stands UP: a hello; one with three-way Down, without and with SA (4): INIT comes first; SA while UP; a hello refused 6, at octet 24, which leaves it UP; a tick
 -- at its expiry, 83 + 27. No record stands on circuit 2, which is not there: a receive there, refused 1, and one refused on circuit 1.
 abbrev pub Unshowns : Type 0
 Unshowns =
@@ -41,15 +42,15 @@ Unshowns =
     (λ g.
     (unshown g 1 (flagged 0 0 ∷ flagged 2 0 ∷ flagged 2 4 ∷ flagged 0 4 ∷ receive bad ∷ Over (Tick 110) ∷ [])
     ≡ NotSo ∷ Init ∷ Init ∷ Suppressed ∷ NotSo ∷ NoRecord ∷ [])
-    × (unshown g 2 (receiveOn 2 11 good ∷ receive bad ∷ []) ≡ Refused 1 ∷ NoRecord ∷ []))
+    × (unshown g 2 (receiveOn 2 11 good ∷ receive bad ∷ []) ≡ Refused NoCircuit ∷ NoRecord ∷ []))
 
--- None stands: a hello refused 6; the same on circuit 2, refused 1 there; a tick refused 10; calls that leave all as it is
+-- None stands: a hello refused 6, at octet 24; the same on circuit 2, refused 1 there; a tick refused 10; calls that leave all as it is
 abbrev pub Unknowns : Type 0
 Unknowns =
     OnEmpty
     (λ g.
     unshown g 1 (receive bad ∷ receiveOn 2 11 bad ∷ Over (Tick 79) ∷ At 1 (LookUp key) ∷ At 1 LinkMetric ∷ At 1 (NextHello 1) ∷ Over Waiting ∷ [])
-    ≡ Refused 6 ∷ NoRecord ∷ NoRecord ∷ NoRecord ∷ NoRecord ∷ NoRecord ∷ NoRecord ∷ [])
+    ≡ Refused (BadTlv 24) ∷ NoRecord ∷ NoRecord ∷ NoRecord ∷ NoRecord ∷ NoRecord ∷ NoRecord ∷ [])
 
 -- ---- vanished
 
@@ -73,13 +74,13 @@ Goings =
 abbrev pub silent : Gateway → List Call → List Why
 silent g cs = map (λ c. whyOf NoCsnps g c 9 nobody) cs
 
--- RR while UP: ordered. RR of no record: line 2. PR: line 3. Flags clear after PR: line 4, and else line 5. Refused 6, and 1 on circuit 2. A tick.
+-- RR while UP: ordered. RR of no record: line 2. PR: line 3. Flags clear after PR: line 4, and else line 5. Refused 6, at octet 24, and 1 on circuit 2. A tick.
 abbrev pub Lines : Type 0
 Lines =
     OnSample
     (λ g.
     (silent g (flagged 0 1 ∷ announcing ∷ flagged 0 0 ∷ receive bad ∷ receiveOn 2 11 good ∷ Over (Tick 110) ∷ [])
-    ≡ NotSo ∷ Fits 3 ∷ Fits 5 ∷ Refused 6 ∷ Refused 1 ∷ NotSo ∷ [])
+    ≡ NotSo ∷ Fits 3 ∷ Fits 5 ∷ Refused (BadTlv 24) ∷ Refused NoCircuit ∷ NotSo ∷ [])
     × (silent (after g (announcing ∷ [])) (flagged 0 0 ∷ []) ≡ Fits 4 ∷ []))
     × OnEmpty (λ g. silent g (flagged 2 1 ∷ []) ≡ Fits 2 ∷ [])
 

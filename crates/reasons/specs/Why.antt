@@ -3,6 +3,7 @@ use Prim.Native.Nat.{ℕ}
 use mathlib.Core.Bool.{cond}
 use mathlib.Core.List.{List}
 use lib.Dec.{eqb}
+use Rattle.basics.specs.declared.refusal.Refusal.{Refusal}
 use Rattle.hello.specs.Hello.{helloRead}
 use Rattle.hello.specs.declared.read.Read.{Read}
 use Rattle.hello.specs.declared.read.Read.the-variants.{Refused as RefusedRead, Accepted as ReadAs}
@@ -18,7 +19,6 @@ use Rattle.settings.specs.declared.circuit.Chosen.{Chosen}
 use Rattle.settings.specs.declared.circuit.Chosen.the-variants.{Known, Unknown}
 use Rattle.settings.specs.declared.circuit.Circuit.{Circuit}
 use Rattle.control.specs.Common.{circuitOf}
-use Rattle.model.specs.Numbers.{refusalNo}
 use Rattle.model.specs.Answers.{Answer, Refused as RefusedAnswer, Received, Ticked, Told}
 use Rattle.model.specs.Gateway.{Gateway, roomOf, recordAt}
 use Rattle.model.specs.Receive.{hereOf, rankOf}
@@ -40,7 +40,7 @@ pub data Why : Type 0 where
   Init : Why
   Suppressed : Why
   NoRecord : Why
-  Refused : (number : ℕ) → Why
+  Refused : Refusal → Why
   Expired : Why
   Released : Why
   Cleared : Why
@@ -183,7 +183,7 @@ reasonOf NotSoCode = NotSo
 reasonOf InitCode = Init
 reasonOf SuppressedCode = Suppressed
 reasonOf NoRecordCode = NoRecord
-reasonOf (RefusedCode x) = Refused (refusalNo x)
+reasonOf (RefusedCode x) = Refused x
 reasonOf ExpiredCode = Expired
 reasonOf ReleasedCode = Released
 reasonOf ClearedCode = Cleared

@@ -5,14 +5,18 @@
 use crate::flags::Flags;
 use basics::octets::six;
 use basics::octets::two;
+use tlv::tlvs::Found;
 use tlv::tlvs::RESTART;
+use tlv::tlvs::find;
+use tlv::tlvs::find_after;
+use tlv::tlvs::value_at;
 use tlv::tlvs::value_of;
 ghost use mathlib.Core.Path.{_≡_};
 ghost use Prim.Native.Nat.{_≤_};
 ghost use lib.ListN.{length};
 ghost use mathlib.Core.Bool.{false, cond};
 ghost use Rattle.tlv.specs.Tlv.{tlvs, ofType};
-ghost use Rattle.restart_tlv.specs.Restart.{leastLength, restartBad, restartOf, timeOf, neighborOf, restartRead};
+ghost use Rattle.restart_tlv.specs.Restart.{leastLength, restartBad, restartOf, timeOf, neighborOf, restartFault, restartRead};
 ghost use Rattle.restart_tlv.specs.declared.reader.RestartRead.the-variants.{Good, Bad};
 
 // Whom the TLV names.
@@ -121,4 +125,18 @@ pub fn read_restart(pdu: &[u8], from: usize, count: usize) -> RestartRead
         return check_restart(value_of(pdu, from, RESTART));
     }
     RestartRead::Bad
+}
+
+// The first Restart TLV of a PDU that breaks a rule: its own, or that there is at most one.
+pub fn restart_fault(pdu: &[u8], from: usize) -> Found
+    ensures { λ r. ⌜ r ≡ restartFault (ofType 211 (tlvs (now (pdu .entry)) from)) ⌝ }
+{
+    let found = find(pdu, from, RESTART);
+    let Found::At(at) = found else {
+        return Found::Nothing;
+    };
+    if is_bad_restart(value_at(pdu, at)) {
+        return Found::At(at);
+    }
+    find_after(pdu, at, RESTART)
 }

@@ -5,6 +5,7 @@ use mathlib.Core.Path.{_≡_}
 use mathlib.Core.Bool.{false}
 use mathlib.Core.List.{List, [], _∷_, _++_}
 use lib.ListN.{length}
+use Rattle.basics.specs.declared.refusal.Refusal.{Refusal}
 use Rattle.settings.specs.declared.circuit.Chosen.the-variants.{Known}
 use Rattle.settings.specs.declared.circuit.Circuit.{Circuit}
 use Rattle.settings.specs.declared.mode.Mode.the-variants.{Running}
@@ -34,10 +35,10 @@ CodeFollows = (m left : Lent) (cs : List Call) (ms : List Made) → Ran m cs ms 
 -- Demand 1: a refused call leaves every octet of the lent buffer and of unfinished frames, and every word, but that an end which receive refuses drops its
 -- frame: the gateway's own words stay then.
 pub record Kept (m : Made) : Type 0 where
-  pub reply : (n : ℕ) → m .answer ≡ Refused n → m .reply ≡ lentBy (m .call)
-  pub octets : (n : ℕ) → m .answer ≡ Refused n → m .left .octets ≡ m .before .octets
-  pub own : (n : ℕ) → m .answer ≡ Refused n → part 0 ownWords (m .left .words) ≡ part 0 ownWords (m .before .words)
-  pub words : (n : ℕ) → m .answer ≡ Refused n → drops (m .call) n ≡ false → m .left .words ≡ m .before .words
+  pub reply : (x : Refusal) → m .answer ≡ Refused x → m .reply ≡ lentBy (m .call)
+  pub octets : (x : Refusal) → m .answer ≡ Refused x → m .left .octets ≡ m .before .octets
+  pub own : (x : Refusal) → m .answer ≡ Refused x → part 0 ownWords (m .left .words) ≡ part 0 ownWords (m .before .words)
+  pub words : (x : Refusal) → m .answer ≡ Refused x → drops (m .call) x ≡ false → m .left .words ≡ m .before .words
 
 abbrev pub CodeKeeps : Type 0
 CodeKeeps = (m left : Lent) (cs : List Call) (ms : List Made) → Ran m cs ms left → EveryCall Kept ms

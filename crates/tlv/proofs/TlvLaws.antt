@@ -7,10 +7,10 @@ use native.Mathlib.Omega.{arith}
 use lib.ListN.{length, drop, length-drop}
 use lib.Seq.{length-take-le}
 use lib.Dec.{leb, ltb, eqb}
-use borrow.Author.Tests.{le-leb, lt-leb, lt-ltb, le-ltb, eq-eqb, ne-eqb}
+use borrow.Author.Tests.{le-leb, lt-leb, lt-ltb, le-ltb, ltb-true, eq-eqb, ne-eqb}
 use Rattle.basics.specs.Octets.{octet}
 use Rattle.basics.proofs.BoolLaws.{by-test}
-use Rattle.tlv.specs.Tlv.{Tlvs, done, cut, one, tlvsUp, tlvs, nextAt, valueAt, cutAt, countsOf, walkAs, walkOf, ofType, Tlv, firstValue, several, FoundAt, loneFault, isFound, unless}
+use Rattle.tlv.specs.Tlv.{Tlvs, done, cut, one, tlvsUp, tlvs, nextAt, valueAt, cutAt, countsOf, walkAs, walkOf, ofType, Tlv, firstAt, firstValue, several, FoundAt, Finds, loneFault, isFound, unless}
 use Rattle.tlv.specs.declared.tlvs.Counts.{Counts}
 use Rattle.tlv.specs.declared.tlvs.Walk.the-variants.{Whole, Cut}
 use Rattle.tlv.specs.declared.tlvs.Found.{Found}
@@ -137,13 +137,94 @@ module _ {s : List ℕ} {from k p : ℕ} {v : List ℕ} (f : FoundAt s from k p)
   pub turn-list : ofType k (tlvs s from) ≡ record { at = p; value = v } ∷ ofType k (tlvs s (p + 2 + length v))
   turn-list = rw (f .same, f .here, value-ends, e)
 
--- what two searches in a row tell
-module _ (s : List ℕ) (from k : ℕ) where
-  pub repeats-not : (p : ℕ) → FoundAt s from k p → ofType k (tlvs s (nextAt s p)) ≡ [] → several (ofType k (tlvs s from)) ≡ false
-  repeats-not p f e = rw (f .same, f .here, e)
+-- what a search found is the first
+pub is-first : (s : List ℕ) (from k : ℕ) (r : Found) → Finds s from k r → r ≡ firstAt (ofType k (tlvs s from))
+is-first s from k Nothing f = rw f
+is-first s from k (At p) f = rw (f .same, f .here)
 
-  pub repeats : (p q : ℕ) → FoundAt s from k p → FoundAt s (nextAt s p) k q → several (ofType k (tlvs s from)) ≡ true
-  repeats p q f g = rw (f .same, f .here, g .same, g .here)
+-- what one search, and the next one after it, tell
+several-by : (t : Tlv) (ts : List Tlv) → several (t ∷ ts) ≡ isFound (firstAt ts)
+unfolding isFound
+several-by t [] = refl
+several-by t (u ∷ ts) = refl
+
+module _ (s : List ℕ) (from k p : ℕ) (f : FoundAt s from k p) where
+  pub found-list : ofType k (tlvs s from) ≡ record { at = p; value = valueAt s p } ∷ ofType k (tlvs s (nextAt s p))
+  found-list = f .same ∙ f .here
+
+  pub repeats : (r : Found) → r ≡ firstAt (ofType k (tlvs s (nextAt s p))) → several (ofType k (tlvs s from)) ≡ isFound r
+  repeats r e = ap several found-list ∙ several-by (record { at = p; value = valueAt s p }) (ofType k (tlvs s (nextAt s p))) ∙ ap isFound (sym e)
+
+  module _ (rule : List ℕ → Bool) where
+    pub lone-first : rule (valueAt s p) ≡ true → loneFault rule (ofType k (tlvs s from)) ≡ At p
+    unfolding loneFault
+    lone-first e = rw (found-list, e)
+
+    pub lone-second : rule (valueAt s p) ≡ false → loneFault rule (ofType k (tlvs s from)) ≡ firstAt (ofType k (tlvs s (nextAt s p)))
+    unfolding loneFault
+    lone-second e = rw (found-list, e)
+
+pub lone-none : (rule : List ℕ → Bool) (ts : List Tlv) → ts ≡ [] → loneFault rule ts ≡ Nothing
+unfolding loneFault
+lone-none rule ts e = rw e
+
+-- ---- places
+
+-- a place that was found is no further than n
+pub data Within (n : ℕ) : Found → Type 0 where
+  nowhere : Within n Nothing
+  place : {p : ℕ} → p ≤ n → Within n (At p)
+
+-- each of some TLVs stands before n
+pub data Standing (n : ℕ) : List Tlv → Type 0 where
+  no-more : Standing n []
+  stands : {t : Tlv} {ts : List Tlv} → t .at < n → Standing n ts → Standing n (t ∷ ts)
+
+stands-if : (n : ℕ) (b : Bool) (t : Tlv) (ts : List Tlv) → t .at < n → Standing n ts → Standing n (cond b (t ∷ ts) ts)
+stands-if n true t ts l h = stands l h
+stands-if n false t ts l h = h
+
+standing-up : (n k : ℕ) (s : List ℕ) (at : ℕ) → Standing (length s) (ofType k (tlvsUp n s at))
+unfolding tlvsUp ofType
+standing-up zero k s at = no-more
+standing-up (suc n) k s at =
+    let rest = standing-up n k s (nextAt s at) in
+    by-test (ltb at (length s))
+    (λ t. by-test (leb (nextAt s at) (length s)) (λ u. rw (t, u) (stands-if (length s) (eqb (octet s at) k) _ _ (ltb-true _ _ t) rest)) (λ u. rw (t, u) no-more))
+    (λ t. rw t no-more)
+
+-- every TLV stands in its PDU
+pub standing : (k : ℕ) (s : List ℕ) (at : ℕ) → Standing (length s) (ofType k (tlvs s at))
+unfolding tlvs
+standing k s at = standing-up (length s - at) k s at
+
+cut-up : (n : ℕ) (s : List ℕ) (at : ℕ) → Within (length s) (cutAt (tlvsUp n s at))
+unfolding tlvsUp cutAt
+cut-up zero s at = nowhere
+cut-up (suc n) s at =
+    let rest = cut-up n s (nextAt s at) in
+    by-test (ltb at (length s))
+    (λ t. let l : at < length s = ltb-true _ _ t in by-test (leb (nextAt s at) (length s)) (λ u. rw (t, u) rest) (λ u. rw (t, u) (place {p = at} (omega arith))))
+    (λ t. rw t nowhere)
+
+-- and so does the one that passes its end
+pub cut-within : (s : List ℕ) (at : ℕ) → Within (length s) (cutAt (tlvs s at))
+unfolding tlvs
+cut-within s at = cut-up (length s - at) s at
+
+first-within : (n : ℕ) (ts : List Tlv) → Standing n ts → Within n (firstAt ts)
+first-within n [] no-more = nowhere
+first-within n (t ∷ ts) (stands l h) = place {p = t .at} (omega arith)
+
+pub lone-within : (n : ℕ) (rule : List ℕ → Bool) (ts : List Tlv) → Standing n ts → Within n (loneFault rule ts)
+unfolding loneFault
+lone-within n rule [] no-more = nowhere
+lone-within n rule (t ∷ ts) (stands l h) =
+    by-test (rule (t .value)) (λ e. rw e (place {p = t .at} (omega arith))) (λ e. rw e (first-within n ts h))
+
+pub is-within : (n : ℕ) (f : Found) (q : ℕ) → Within n f → f ≡ At q → q ≤ n
+is-within n Nothing q nowhere e = absurd (let z : _≡_ {A = ℕ} 0 1 = cc in omega arith)
+is-within n (At p) q (place l) e = let z : p ≡ q = cc in rw (← z) l
 
 -- what is read of a type goes by how many there are: none, one or more
 abbrev pub byCount : {A : Type 0} → ℕ → A → A → A → A
@@ -208,12 +289,11 @@ pub walk-whole : (t : Tlvs) (n : Counts) → cutAt t ≡ Nothing → n ≡ count
 unfolding walkOf
 walk-whole t n e q = rw (e, q)
 
-walk-as-cut : (f : Found) (n : Counts) (q : ℕ) → walkAs f n ≡ Cut q → isFound f ≡ true
-unfolding isFound
+walk-as-cut : (f : Found) (n : Counts) (q : ℕ) → walkAs f n ≡ Cut q → f ≡ At q
 walk-as-cut Nothing n q e = let z : _≡_ {A = ℕ} 0 1 = cc in absurd (omega arith)
-walk-as-cut (At p) n q e = refl
+walk-as-cut (At p) n q e = cc
 
-pub walk-is-cut : (t : Tlvs) (q : ℕ) → walkOf t ≡ Cut q → isFound (cutAt t) ≡ true
+pub walk-is-cut : (t : Tlvs) (q : ℕ) → walkOf t ≡ Cut q → cutAt t ≡ At q
 unfolding walkOf
 walk-is-cut t q e = walk-as-cut (cutAt t) (countsOf t) q e
 

@@ -4,7 +4,7 @@ use basics::octets::wide;
 ghost use mathlib.Core.Path.{_≡_};
 ghost use Prim.Native.Nat.{_≤_};
 ghost use lib.ListN.{length};
-ghost use Rattle.tlv.specs.Tlv.{tlvs, walkOf, ofType, firstValue, valueAt, nextAt, several, Finds};
+ghost use Rattle.tlv.specs.Tlv.{tlvs, walkOf, ofType, firstAt, firstValue, valueAt, nextAt, several, Finds};
 
 // Where a TLV's type octet stands.
 pub enum Found {
@@ -101,6 +101,14 @@ pub fn find(pdu: &[u8], from: usize, kind: u8) -> Found
     Found::Nothing
 }
 
+// The first TLV of a type after the one at a position.
+pub fn find_after(pdu: &[u8], at: usize, kind: u8) -> Found
+    requires { ⌜ nextAt (now pdu) at ≤ length (now pdu) ⌝ }
+    ensures { λ r. ⌜ r ≡ firstAt (ofType kind (tlvs (now (pdu .entry)) (nextAt (now (pdu .entry)) at))) ⌝ }
+{
+    find(pdu, at + 2 + wide(pdu[at + 1]), kind)
+}
+
 // The value of the TLV at a position, as a part of the PDU.
 pub fn value_at(pdu: &[u8], at: usize) -> &[u8]
     requires { ⌜ nextAt (now pdu) at ≤ length (now pdu) ⌝ }
@@ -131,8 +139,7 @@ pub fn is_repeated(pdu: &[u8], from: usize, kind: u8) -> bool
     let Found::At(at) = first else {
         return false;
     };
-    let second = find(pdu, at + 2 + wide(pdu[at + 1]), kind);
-    let Found::At(_) = second else {
+    let Found::At(_) = find_after(pdu, at, kind) else {
         return false;
     };
     true

@@ -29,8 +29,20 @@ cast-result c = search needs
 mul-result : tie.Need-mul-result
 mul-result c = search needs
 
+position-of-requires : tie.Need-position-of-requires
+position-of-requires c κs = search needs
+
+cast-result-2 : tie.Need-cast-result-2
+cast-result-2 c = search needs
+
+mul-result-2 : tie.Need-mul-result-2
+mul-result-2 c = search needs
+
 add-result : tie.Need-add-result
 add-result c = search needs
+
+add-result-2 : tie.Need-add-result-2
+add-result-2 c = search needs
 
 enum-told-5 : tie.Need-enum-told-5
 enum-told-5 c = search needs
@@ -47,23 +59,23 @@ enum-known-why-2 c = search needs
 line-number-requires : tie.Need-line-number-requires
 line-number-requires c κs = search needs
 
-cast-result-2 : tie.Need-cast-result-2
-cast-result-2 c = search needs
-
-mul-result-2 : tie.Need-mul-result-2
-mul-result-2 c = search needs
-
-add-result-2 : tie.Need-add-result-2
-add-result-2 c = search needs
-
-enum-known-why-3 : tie.Need-enum-known-why-3
-enum-known-why-3 c = search needs
+cast-result-3 : tie.Need-cast-result-3
+cast-result-3 c = search needs
 
 mul-result-3 : tie.Need-mul-result-3
 mul-result-3 c = search needs
 
 add-result-3 : tie.Need-add-result-3
 add-result-3 c = search needs
+
+enum-known-why-3 : tie.Need-enum-known-why-3
+enum-known-why-3 c = search needs
+
+mul-result-4 : tie.Need-mul-result-4
+mul-result-4 c = search needs
+
+add-result-4 : tie.Need-add-result-4
+add-result-4 c = search needs
 
 returns : tie.Need-returns
 returns c = rw (c .enum-told .given .1) refl
@@ -78,7 +90,7 @@ returns-4 : tie.Need-returns-4
 returns-4 c = rw (c .enum-told4 .given .1) refl
 
 returns-5 : tie.Need-returns-5
-returns-5 c = rw (c .before .before .why .given .1) (ap (λ (n : ℕ). 4 + 256 * n) (c .number-of .ensures))
+returns-5 c = rw (c .before .before .before .why .given .1, c .before .number-of .ensures, c .position-of .ensures) refl
 
 returns-6 : tie.Need-returns-6
 returns-6 c = rw (c .enum-told5 .given .1) refl
@@ -107,18 +119,22 @@ answer-word-spec =
     number-of-requires
     cast-result
     mul-result
+    position-of-requires
+    cast-result-2
+    mul-result-2
     add-result
+    add-result-2
     enum-told-5
     enum-told-6
     enum-told-7
     enum-known-why-2
     line-number-requires
-    cast-result-2
-    mul-result-2
-    add-result-2
-    enum-known-why-3
+    cast-result-3
     mul-result-3
     add-result-3
+    enum-known-why-3
+    mul-result-4
+    add-result-4
     returns
     returns-2
     returns-3
