@@ -1,4 +1,4 @@
-// What is printed of a frame: `NAME refused N`, or `NAME LAYOUT SYSTEM hold TIME ..; restart ..; metric ..`.
+// What is printed of a frame: `NAME refused N`, for 5 and 6 with ` at` and the position, or `NAME LAYOUT SYSTEM hold TIME ..; restart ..; metric ..`.
 use basics::kind::CircuitKind;
 use hello::read::Hello;
 use hello::read::Link;
@@ -10,6 +10,7 @@ use hello::three_way::ThreeWay;
 use hello::three_way::ThreeWayState;
 use libc::STDOUT_FILENO;
 use model::numbers::number_of;
+use model::numbers::position_of;
 use restart_tlv::flags::Flags;
 use restart_tlv::reader::Neighbor;
 use restart_tlv::reader::RestartTlv;
@@ -198,6 +199,15 @@ fn accepted(hello: Hello) {
     metric(reverse);
 }
 
+// The position that a refusal brings, where it brings one.
+fn place(position: u16) {
+    if position == 0 {
+        return;
+    }
+    text(b" at ");
+    number(position as u64);
+}
+
 // One frame, and what became of it.
 pub fn show_frame(name: &[u8], kind: CircuitKind, frame: &[u8]) {
     text(name);
@@ -206,6 +216,7 @@ pub fn show_frame(name: &[u8], kind: CircuitKind, frame: &[u8]) {
         Read::Refused(why) => {
             text(b" refused ");
             number(number_of(why) as u64);
+            place(position_of(why));
         }
         Read::Accepted(hello) => accepted(hello),
     }

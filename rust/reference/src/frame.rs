@@ -12,13 +12,14 @@
 
 use crate::refusal::Refusal;
 use crate::settings::{Kind, Level, Mac, SystemId};
-use crate::tlvs::{RestartTlv, Reverse, ThreeWay, ThreeWayState};
+use crate::tlvs::{Broken, RestartTlv, Reverse, ThreeWay, ThreeWayState};
 
 /// The greatest PDU Length that is accepted.
 const MAX_PDU_LENGTH: usize = 1_492;
 const COMMON_HEADER: usize = 8;
 const LAN_HEADER: usize = 27;
 const P2P_HEADER: usize = 20;
+const CIRCUIT_TYPE: usize = 8;
 
 const IS_NEIGHBOURS: u8 = 6;
 const REVERSE_METRIC: u8 = 16;
@@ -84,57 +85,79 @@ impl Layout {
     }
 }
 
-/// How often a TLV type came, with its value if once.
+/// What came of a type that is read where it came once alone.
 #[derive(Clone, Copy)]
-enum Found<'a> {
+enum Lone<T> {
     Never,
-    Once(&'a [u8]),
+    Once(T),
     More,
 }
 
-impl<'a> Found<'a> {
-    fn add(&mut self, value: &'a [u8]) {
-        *self = match self {
-            Found::Never => Found::Once(value),
-            Found::Once(_) | Found::More => Found::More,
-        };
-    }
-}
-
-/// What the walk over the TLVs finds.
-struct Walk<'a> {
-    restart: Found<'a>,
-    three_way: Found<'a>,
-    reverse: Found<'a>,
+/// What the walk over the TLVs finds. Positions count from 0.
+struct Walk {
+    restart: Option<RestartTlv>,
+    three_way: Option<ThreeWay>,
+    /// The type 16 TLV: where it stands, and what it says.
+    reverse: Lone<(usize, Result<Option<Reverse>, Broken>)>,
     /// A type 6 TLV lists our MAC.
     listed: bool,
-    /// A type 6 TLV has a length that is no multiple of 6.
-    ragged: bool,
+    /// Where the first TLV stands that breaks a rule, type 16 apart: whether one of those does is known at the end.
+    broken: Option<usize>,
 }
 
-impl<'a> Walk<'a> {
-    /// One pass to the end; refuses (5) a TLV that passes it. The rules are looked at afterwards, since 5 comes before 6.
-    fn over(mut rest: &'a [u8], mac: &Mac) -> Result<Walk<'a>, Refusal> {
-        let mut walk = Walk { restart: Found::Never, three_way: Found::Never, reverse: Found::Never, listed: false, ragged: false };
-        while let [kind, after @ ..] = rest {
-            let [length, after @ ..] = after else { return Err(Refusal::TlvPastEnd) };
-            let Some((value, next)) = after.split_at_checked(usize::from(*length)) else {
-                return Err(Refusal::TlvPastEnd);
-            };
-            match *kind {
-                RESTART => walk.restart.add(value),
-                THREE_WAY => walk.three_way.add(value),
-                REVERSE_METRIC => walk.reverse.add(value),
-                IS_NEIGHBOURS => {
+impl Walk {
+    fn breaks(&mut self, at: usize) {
+        self.broken.get_or_insert(at);
+    }
+
+    /// The TLV of a type that may come once: `before`, or what it says; none where it broke a rule.
+    fn once<T>(&mut self, before: Option<T>, at: usize, decoded: Result<T, Broken>) -> Option<T> {
+        match (before, decoded) {
+            (None, Ok(tlv)) => Some(tlv),
+            (before, _) => {
+                self.breaks(at);
+                before
+            }
+        }
+    }
+
+    /// One pass over the PDU; refuses (5) a TLV that passes its end, which comes before any rule (6).
+    fn over(pdu: &[u8], layout: Layout, mac: &Mac) -> Result<Walk, Refusal> {
+        let mut walk = Walk { restart: None, three_way: None, reverse: Lone::Never, listed: false, broken: None };
+        let mut at = layout.header();
+        while at < pdu.len() {
+            let past_end = Refusal::TlvPastEnd { position: at + 1 };
+            let [kind, length, after @ ..] = &pdu[at..] else { return Err(past_end) };
+            let Some(value) = after.get(..usize::from(*length)) else { return Err(past_end) };
+            match (*kind, layout) {
+                (RESTART, _) => walk.restart = walk.once(walk.restart, at, RestartTlv::decode(value)),
+                (THREE_WAY, Layout::PointToPoint) => walk.three_way = walk.once(walk.three_way, at, ThreeWay::decode(value)),
+                (REVERSE_METRIC, _) => {
+                    walk.reverse = match walk.reverse {
+                        Lone::Never => Lone::Once((at, Reverse::decode(value))),
+                        Lone::Once(_) | Lone::More => Lone::More,
+                    };
+                }
+                (IS_NEIGHBOURS, Layout::Lan(_)) => {
                     let sixes = value.chunks_exact(mac.len());
-                    walk.ragged |= !sixes.remainder().is_empty();
+                    if !sixes.remainder().is_empty() {
+                        walk.breaks(at);
+                    }
                     walk.listed = walk.listed || sixes.into_iter().any(|six| six == mac);
                 }
                 _ => {}
             }
-            rest = next;
+            at += 2 + value.len();
         }
         Ok(walk)
+    }
+
+    /// Where the first TLV stands that breaks a rule.
+    fn first_broken(&self) -> Option<usize> {
+        match self.reverse {
+            Lone::Once((at, Err(Broken))) => Some(self.broken.map_or(at, |other| other.min(at))),
+            _ => self.broken,
+        }
     }
 }
 
@@ -153,32 +176,28 @@ pub(crate) fn read_hello(frame: &[u8], kind: Kind, mac: &Mac) -> Result<Hello, R
         return Err(Refusal::HeaderLength);
     }
 
-    let walk = Walk::over(&frame[header..length], mac)?;
-    if frame[8] & 3 == 0 {
-        return Err(Refusal::TlvRule);
+    let pdu = &frame[..length];
+    let walk = Walk::over(pdu, layout, mac)?;
+    if pdu[CIRCUIT_TYPE] & 3 == 0 {
+        return Err(Refusal::TlvRule { position: CIRCUIT_TYPE + 1 });
     }
-    let restart = match walk.restart {
-        Found::Never => RestartTlv::Absent,
-        Found::Once(value) => RestartTlv::decode(value)?,
-        Found::More => return Err(Refusal::TlvRule),
-    };
-    let reverse = match walk.reverse {
-        Found::Once(value) => Reverse::decode(value)?,
-        Found::Never | Found::More => None,
-    };
-    let link = match layout {
-        Layout::Lan(_) if walk.ragged => return Err(Refusal::TlvRule),
-        Layout::Lan(level) => Link::Lan { level, priority: frame[19] & 0x7f, listed: walk.listed },
-        Layout::PointToPoint => match walk.three_way {
-            Found::Once(value) => Link::PointToPoint(ThreeWay::decode(value)?),
-            Found::Never | Found::More => return Err(Refusal::TlvRule),
-        },
+    if let Some(at) = walk.first_broken() {
+        return Err(Refusal::TlvRule { position: at + 1 });
+    }
+    let link = match (layout, walk.three_way) {
+        (Layout::Lan(level), _) => Link::Lan { level, priority: frame[19] & 0x7f, listed: walk.listed },
+        (Layout::PointToPoint, Some(three_way)) => Link::PointToPoint(three_way),
+        // none is bad, so it is missing
+        (Layout::PointToPoint, None) => return Err(Refusal::TlvRule { position: pdu.len() + 1 }),
     };
     Ok(Hello {
         source: [frame[9], frame[10], frame[11], frame[12], frame[13], frame[14]],
         hold: u16::from_be_bytes([frame[15], frame[16]]),
-        restart,
-        reverse,
+        restart: walk.restart.unwrap_or(RestartTlv::Absent),
+        reverse: match walk.reverse {
+            Lone::Once((_, Ok(reverse))) => reverse,
+            _ => None,
+        },
         link,
     })
 }

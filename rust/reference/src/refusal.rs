@@ -1,4 +1,4 @@
-//! Why a call was refused (document 01, "Refusals by number"; document 02, W-205).
+//! Why a call was refused (document 01, "Refusals by number"; document 02, W-205 and W-206).
 
 /// A refusal. Those of one call are checked in the order of their numbers, but that 13 and 14 come right after 1.
 #[derive(Clone, Copy, Debug, PartialEq, Eq)]
@@ -12,9 +12,16 @@ pub enum Refusal {
     /// No. 4: a length of the header is wrong.
     HeaderLength,
     /// No. 5: a TLV passes the PDU Length.
-    TlvPastEnd,
+    TlvPastEnd {
+        /// Its type octet, counted from 1.
+        position: usize,
+    },
     /// No. 6: a rule of "TLVs read" is broken, or the circuit type is 0.
-    TlvRule,
+    TlvRule {
+        /// The type octet of the first TLV that breaks one, counted from 1; 9 for the circuit type; the PDU Length plus 1 for a three-way TLV that
+        /// is missing.
+        position: usize,
+    },
     /// No. 7: the LAN level is not enabled, or the source is ourselves.
     NotForUs,
     /// No. 8: the three-way TLV names another system or circuit.
@@ -41,8 +48,8 @@ impl Refusal {
             Refusal::ReplyRoom => 2,
             Refusal::NotAHello => 3,
             Refusal::HeaderLength => 4,
-            Refusal::TlvPastEnd => 5,
-            Refusal::TlvRule => 6,
+            Refusal::TlvPastEnd { .. } => 5,
+            Refusal::TlvRule { .. } => 6,
             Refusal::NotForUs => 7,
             Refusal::OtherNeighbour => 8,
             Refusal::RoomFull => 9,
@@ -51,6 +58,14 @@ impl Refusal {
             Refusal::Setting => 12,
             Refusal::NotBegun => 13,
             Refusal::TooLong => 14,
+        }
+    }
+
+    /// The position that it brings, if it is one of those that do.
+    pub fn position(self) -> Option<usize> {
+        match self {
+            Refusal::TlvPastEnd { position } | Refusal::TlvRule { position } => Some(position),
+            _ => None,
         }
     }
 }

@@ -1,7 +1,10 @@
 //! The values of the TLVs that are read (document 01, "TLVs read").
 
-use crate::refusal::Refusal;
 use crate::settings::SystemId;
+
+/// A rule of "TLVs read" is broken.
+#[derive(Clone, Copy, Debug, PartialEq, Eq)]
+pub(crate) struct Broken;
 
 /// The flags octet of a Restart TLV; RFC 8706, 3.2. The reserved bits mean nothing.
 #[derive(Clone, Copy, Debug, PartialEq, Eq)]
@@ -68,8 +71,8 @@ pub(crate) enum RestartTlv {
 
 impl RestartTlv {
     /// Length 1 to 9; at least 3 with PR; 9 with RA or PA (house). The lengths go by the octet as it came.
-    pub(crate) fn decode(value: &[u8]) -> Result<RestartTlv, Refusal> {
-        let [octet, fields @ ..] = value else { return Err(Refusal::TlvRule) };
+    pub(crate) fn decode(value: &[u8]) -> Result<RestartTlv, Broken> {
+        let [octet, fields @ ..] = value else { return Err(Broken) };
         let flags = Flags(*octet);
         let needed = if flags.has(Flags::RA) || flags.has(Flags::PA) {
             9
@@ -79,7 +82,7 @@ impl RestartTlv {
             1
         };
         if value.len() < needed || value.len() > 9 {
-            return Err(Refusal::TlvRule);
+            return Err(Broken);
         }
         let flags = flags.in_force();
         if !flags.valid_together() {
@@ -124,18 +127,18 @@ pub(crate) struct ThreeWay {
 
 impl ThreeWay {
     /// Length 1, 5, 11 or 15; state 0, 1 or 2.
-    pub(crate) fn decode(value: &[u8]) -> Result<ThreeWay, Refusal> {
+    pub(crate) fn decode(value: &[u8]) -> Result<ThreeWay, Broken> {
         let (state, neighbour, circuit) = match *value {
             [state] | [state, _, _, _, _] => (state, None, None),
             [state, _, _, _, _, a, b, c, d, e, f] => (state, Some([a, b, c, d, e, f]), None),
             [state, _, _, _, _, a, b, c, d, e, f, i, j, k, l] => (state, Some([a, b, c, d, e, f]), Some(u32::from_be_bytes([i, j, k, l]))),
-            _ => return Err(Refusal::TlvRule),
+            _ => return Err(Broken),
         };
         let state = match state {
             0 => ThreeWayState::Up,
             1 => ThreeWayState::Initializing,
             2 => ThreeWayState::Down,
-            _ => return Err(Refusal::TlvRule),
+            _ => return Err(Broken),
         };
         Ok(ThreeWay { state, neighbour, circuit })
     }
@@ -168,10 +171,10 @@ impl Reverse {
 
     /// Length at least 5, of which the sub-TLV length is the rest. None where the whole TLV must be ignored, because it
     /// holds the Traffic Engineering Metric more than once (RFC 8500, 2).
-    pub(crate) fn decode(value: &[u8]) -> Result<Option<Reverse>, Refusal> {
-        let [flags, high, middle, low, length, inner @ ..] = value else { return Err(Refusal::TlvRule) };
+    pub(crate) fn decode(value: &[u8]) -> Result<Option<Reverse>, Broken> {
+        let [flags, high, middle, low, length, inner @ ..] = value else { return Err(Broken) };
         if usize::from(*length) != inner.len() {
-            return Err(Refusal::TlvRule);
+            return Err(Broken);
         }
         if te_metrics(inner) > 1 {
             return Ok(None);

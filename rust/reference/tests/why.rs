@@ -83,7 +83,7 @@ fn a_receive_refused_on_the_asked_circuit_is_named_whatever_key_its_frame_had() 
     let mut run = Run::running(&[p2p(), lan()]);
     let third = Asked { system: THIRD, mac: THIRD_MAC, ..peer_on(1) };
     assert_eq!(not_advertised(&mut run, &no_hello()), Reason::Refused(Refusal::NotAHello));
-    assert_eq!(of_frame(&mut run, Question::NotAdvertised, 1, &Hello::p2p(3), third), Reason::Refused(Refusal::TlvRule));
+    assert_eq!(of_frame(&mut run, Question::NotAdvertised, 1, &Hello::p2p(3), third), Reason::Refused(Refusal::TlvRule { position: 21 }));
     run.accept(&Hello::p2p(DOWN));
     let other = Hello::p2p(DOWN).from(THIRD);
     assert_eq!(of_octets(&mut run, Question::NotAdvertised, 1, THIRD_MAC, &other.octets(), third), Reason::Refused(Refusal::RoomFull));
