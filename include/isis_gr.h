@@ -14,7 +14,7 @@
  *   until its end.
  * Separate gateways may be used by separate threads at one time; one gateway by one at a time.
  *
- * A refusal leaves the gateway and the reply buffer as they were, and the other fields of its answer 0; an end that is refused 2 to 9 drops its
+ * A refusal leaves the gateway and the reply buffer as they were, and the other fields of its answer 0, but for the position of 5 and 6; an end that is refused 2 to 9 drops its
  * unfinished frame, and leaves all else so. Circuits are numbered from 1 to 8. A mask over circuits has bit 0 for circuit 1; a mask of levels has bit 0
  * for level 1 (ISIS_GR_LEVEL_..). A mask of hellos has two bits for each circuit, 0 and 1 for circuit 1: on a LAN the hello of level 1 and that of
  * level 2, on P2P the one hello and no other (RFC 8706, 3.3.3; isis_gr_hello_ordered reads it). An argument `level` is the level's number, 1 or 2, and
@@ -34,11 +34,11 @@ extern "C" {
 #endif
 
 #define ISIS_GR_VERSION_MAJOR 0
-#define ISIS_GR_VERSION_MINOR 12
+#define ISIS_GR_VERSION_MINOR 13
 
 /* The layout of settings, answers and a gateway's memory between this header and the archive; it rises whenever one of them changes. The code below is
    compiled into the caller, so set up hands it on: an archive of another layout refuses 12 (isis_gr_fault: ISIS_GR_SETTING_VERSION). */
-#define ISIS_GR_LAYOUT 9u
+#define ISIS_GR_LAYOUT 10u
 
 #define ISIS_GR_GATEWAY_WORDS 656 /* equal to isis_gr_gateway_words(): compare the two at start-up */
 #define ISIS_GR_FRAME_OCTETS 12000 /* equal to isis_gr_frame_octets(): likewise */
@@ -54,8 +54,8 @@ extern "C" {
 #define ISIS_GR_REFUSED_REPLY_ROOM 2u      /* reply buffer under 11 octets */
 #define ISIS_GR_REFUSED_NOT_HELLO 3u       /* not a hello that fits the circuit */
 #define ISIS_GR_REFUSED_BAD_LENGTH 4u      /* header length or PDU Length */
-#define ISIS_GR_REFUSED_TLV_PAST_END 5u    /* a TLV passes the PDU Length */
-#define ISIS_GR_REFUSED_BAD_TLV 6u         /* a rule of a TLV broken, or the circuit type is 0 */
+#define ISIS_GR_REFUSED_TLV_PAST_END 5u    /* a TLV passes the PDU Length; with a position */
+#define ISIS_GR_REFUSED_BAD_TLV 6u         /* a rule of a TLV broken, or the circuit type is 0; with a position */
 #define ISIS_GR_REFUSED_WRONG_SOURCE 7u    /* level not enabled, or our own System ID */
 #define ISIS_GR_REFUSED_WRONG_NEIGHBOR 8u  /* P2P: the three-way TLV names another */
 #define ISIS_GR_REFUSED_NO_ROOM 9u         /* the circuit's room is full */
@@ -195,6 +195,9 @@ typedef struct {
 
 typedef struct {
     uint32_t code;
+    uint16_t position;  /* refused 5 or 6 (document 02, W-206): where, in octets of the frame counted from 1. 5: the type octet of the TLV that passes the
+                           PDU Length. 6: 9, where the circuit type's low two bits are 0; else the type octet of the first TLV in the frame that breaks a
+                           rule, of one that came twice the second; else, the three-way TLV being missing, the PDU Length plus 1. 0 with any other code */
     uint8_t reply;      /* ISIS_GR_REPLY_..: the Restart TLV of 11 octets in the reply buffer goes into a hello now (RFC 8706, 3.2.1; PA: 3.2.3) */
     uint16_t remaining; /* its Remaining Time */
     uint8_t csnps;      /* mask of levels: send a complete set of CSNPs there and set SRM flags (RFC 8706, 3.2.1) */
@@ -260,6 +263,7 @@ typedef struct {
 typedef struct {
     uint8_t reason;       /* ISIS_GR_REASON_.. */
     uint8_t refused;      /* refused: the refusal's number, ISIS_GR_REFUSED_.. */
+    uint16_t position;    /* refused 5 or 6: where, as of isis_gr_received */
     uint8_t line;         /* line: 2 to 5 */
     uint8_t system_id[6]; /* outranked: the router with the greatest pair (priority, MAC) of those that have the duty before us; of several System IDs
                              with that pair the lowest */
@@ -271,7 +275,7 @@ typedef struct {
 
 typedef struct {
     uint64_t answer;
-    uint64_t change;
+    uint64_t change; /* the frame's record; of a refused frame the position */
 } isis_gr_raw_received;
 
 uint32_t isis_gr_raw_gateway_words(void);
@@ -355,9 +359,12 @@ static inline isis_gr_timers isis_gr_get_timers(uint64_t word) {
 
 static inline isis_gr_received isis_gr_get_received(isis_gr_raw_received words) {
     uint64_t word = words.answer;
+    uint64_t change;
     isis_gr_received r;
     size_t i;
     r.code = (uint32_t)(word & 255u);
+    r.position = r.code == ISIS_GR_OK ? 0u : (uint16_t)words.change;
+    change = r.code == ISIS_GR_OK ? words.change : 0u;
     r.reply = (uint8_t)(word >> 8);
     r.csnps = (uint8_t)(word >> 16);
     r.t1_end = (uint8_t)(word >> 24);
@@ -365,12 +372,12 @@ static inline isis_gr_received isis_gr_get_received(isis_gr_raw_received words) 
     r.remaining = (uint16_t)(word >> 40);
     r.hello_flags = (uint8_t)(word >> 56);
     for (i = 0; i < 6; i++) {
-        r.system_id[i] = (uint8_t)(words.change >> (40 - 8 * i));
+        r.system_id[i] = (uint8_t)(change >> (40 - 8 * i));
     }
-    r.level = (uint8_t)(words.change >> 48 & 3u);
-    r.before = (uint8_t)(words.change >> 50 & 3u);
-    r.after = (uint8_t)(words.change >> 52 & 3u);
-    r.advertised = (uint8_t)(words.change >> 54 & 1u);
+    r.level = (uint8_t)(change >> 48 & 3u);
+    r.before = (uint8_t)(change >> 50 & 3u);
+    r.after = (uint8_t)(change >> 52 & 3u);
+    r.advertised = (uint8_t)(change >> 54 & 1u);
     return r;
 }
 
@@ -572,14 +579,17 @@ static inline isis_gr_reason isis_gr_why(const isis_gr_gateway *before, isis_gr_
                                                lends ? call->source : none, lends ? call->frame : NULL, lends ? call->frame_len : 0,
                                                lends ? call->reply : NULL, lends ? call->reply_len : 0, circuit, level, system_id, mac ? mac : none);
     uint8_t detail = (uint8_t)(words.answer >> 8);
+    uint64_t system;
     isis_gr_reason r;
     size_t i;
     r.reason = (uint8_t)words.answer;
     r.refused = r.reason == ISIS_GR_REASON_REFUSED ? detail : 0;
+    r.position = r.reason == ISIS_GR_REASON_REFUSED ? (uint16_t)(words.answer >> 16) : 0u;
+    system = r.reason == ISIS_GR_REASON_OUTRANKED ? words.answer >> 16 : 0u;
     r.line = r.reason == ISIS_GR_REASON_LINE ? detail : 0;
     r.priority = (uint8_t)(words.pair >> 48);
     for (i = 0; i < 6; i++) {
-        r.system_id[i] = (uint8_t)(words.answer >> (56 - 8 * i));
+        r.system_id[i] = (uint8_t)(system >> (40 - 8 * i));
         r.mac[i] = (uint8_t)(words.pair >> (40 - 8 * i));
     }
     return r;

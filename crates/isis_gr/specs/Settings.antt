@@ -70,7 +70,7 @@ settingsKnown s = modeKnown (octet s 15) && every (circuitKnown s) (take (octet 
 -- The version of the octets' and the words' layout, which rises whenever one of them does: a caller's object hands its own on, since the header
 -- packs the octets and takes the words apart in the caller.
 abbrev pub layout : ℕ
-layout = 9
+layout = 10
 
 -- document 01, "Refusals by number", 12: another version, and a number that is not known, is a setting out of range
 unfoldable pub setupFrom : ℕ → List ℕ → Setup

@@ -22,7 +22,7 @@ ghost use Rattle.isis_gr.specs.Settings.{settingsOctets, circuitPlaces, 
 pub const SETTINGS_OCTETS: usize = FIRST_CIRCUIT + CIRCUIT_OCTETS * CIRCUITS;
 
 // The version of the layout of these octets and of the answers' words.
-pub const LAYOUT: u32 = 9;
+pub const LAYOUT: u32 = 10;
 
 // Where the settings stand.
 const SYSTEM: usize = 0;

@@ -11,6 +11,7 @@ use model::answers::Metric;
 use model::answers::Orders;
 use model::answers::Received;
 use model::numbers::number_of;
+use model::numbers::position_of;
 use restart_tlv::writer::Ack;
 
 // Octets, as they are.
@@ -56,10 +57,16 @@ pub fn number_cell(n: u64, width: usize) {
     spaces(digits(n), width);
 }
 
-// A refusal's number.
+// A refusal's number, and the position that it brings, where it brings one.
 pub fn refusal(why: Refusal) {
+    let position = position_of(why);
     text(b"refused ");
     number(number_of(why) as u64);
+    if position == 0 {
+        return;
+    }
+    text(b" at ");
+    number(position as u64);
 }
 
 fn mark(m: Mark) {

@@ -6,6 +6,7 @@ use crate::frames::{mac, system, Meant, MACS, SYSTEMS};
 use crate::levels::ByLevel;
 use crate::marks::{self, is_up, Took};
 use crate::memory;
+use crate::places;
 use crate::proved::Proved;
 use crate::random::Random;
 use crate::reference::Reference;
@@ -244,6 +245,9 @@ impl Pair {
             Err(why) => {
                 assert!(outcome.reply.iter().all(|octet| *octet == UNTOUCHED), "a refusal wrote the reply");
                 refused(c, call, why);
+                if let Call::Receive(_, _, frame, ..) = counted {
+                    places::count(c, frame, why);
+                }
             }
             Ok(answer) => self.count(c, counted, answer, stood),
         }

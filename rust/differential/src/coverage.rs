@@ -2,6 +2,7 @@
 use crate::chunks;
 use crate::levels;
 use crate::marks;
+use crate::places;
 use crate::why;
 use std::collections::BTreeMap;
 
@@ -101,6 +102,7 @@ fn branches() -> Vec<String> {
     all.extend(levels::branches());
     all.extend(why::branches());
     all.extend(chunks::branches());
+    all.extend(places::branches());
     all
 }
 

@@ -76,7 +76,8 @@ fn restart(r: &mut Random, out: &mut Vec<u8>) -> Option<(u8, u16, bool)> {
     Some((flags, time, named == OWN)).filter(|_| len >= least && len <= 9)
 }
 
-fn reverse(r: &mut Random, out: &mut Vec<u8>) {
+/// Whether its length is one short, so that the octets behind it are read as another TLV.
+fn reverse(r: &mut Random, out: &mut Vec<u8>) -> bool {
     let offset = r.pick(&[0u32, 5, 10, 63, 16_777_214, 16_777_215]).to_be_bytes();
     let subs: &[u8] = match r.below(6) {
         0 => &[18, 1, 7],
@@ -85,10 +86,12 @@ fn reverse(r: &mut Random, out: &mut Vec<u8>) {
         _ => &[],
     };
     let len = 5 + subs.len() as u8;
-    out.extend([16, if r.chance(3) { len - 1 } else { len }, r.pick(&[0, 1, 2, 3, 255])]);
+    let short = r.chance(3);
+    out.extend([16, len - u8::from(short), r.pick(&[0, 1, 2, 3, 255])]);
     out.extend(&offset[1..]);
     out.push(if r.chance(3) { 1 } else { subs.len() as u8 });
     out.extend(subs);
+    short
 }
 
 /// Whether it shows us Up, names another system, and another circuit.
@@ -109,7 +112,8 @@ fn neighbours(r: &mut Random, own: Mac, out: &mut Vec<u8>) -> bool {
     let at = r.below(count + 1);
     let listed = r.chance(75);
     let len = (6 * (count + u64::from(listed))) as u8;
-    out.extend([6, if r.chance(2) { len.saturating_sub(1) } else { len }]);
+    let told = if r.chance(2) { len.saturating_sub(1) } else { len };
+    out.extend([6, told]);
     let first = out.len();
     for i in 0..=count {
         if listed && i == at {
@@ -119,7 +123,24 @@ fn neighbours(r: &mut Random, own: Mac, out: &mut Vec<u8>) -> bool {
             out.extend([own[0], own[1], own[2], own[3], own[4], r.octet()]);
         }
     }
+    out.truncate(first + usize::from(told));
     out[first..].chunks(6).any(|mac| mac == own)
+}
+
+/// Puts the TLVs that start at these places into another order, every second time.
+fn reorder(r: &mut Random, out: &mut Vec<u8>, starts: &[usize]) {
+    if starts.is_empty() || r.chance(50) {
+        return;
+    }
+    let ends = starts[1..].iter().copied().chain([out.len()]);
+    let mut parts: Vec<Vec<u8>> = starts.iter().zip(ends).map(|(start, end)| out[*start..end].to_vec()).collect();
+    let by = r.below(parts.len() as u64) as usize;
+    parts.rotate_left(by);
+    if r.chance(50) {
+        parts.reverse();
+    }
+    out.truncate(starts[0]);
+    out.extend(parts.concat());
 }
 
 /// A frame for a circuit; usually of its kind, sometimes of the other.
@@ -143,29 +164,42 @@ pub fn frame(r: &mut Random, circuit: &CircuitSettings) -> (Vec<u8>, Meant) {
     let mut restarts = None;
     let mut once = 0;
     let (mut shows_up, mut wrong_system, mut wrong_circuit) = (false, false, false);
+    let (mut starts, mut damaged) = (Vec::new(), false);
     for _ in 0..r.below(2) {
+        starts.push(out.len());
         out.extend([r.pick(&[1u8, 129, 132, 229]), 2, 0, 0]);
     }
     if p2p {
         if !r.chance(2) {
+            starts.push(out.len());
             (shows_up, wrong_system, wrong_circuit) = three_way(r, circuit, &mut out);
+        }
+        if r.chance(2) {
+            starts.push(out.len());
+            three_way(r, circuit, &mut out);
+            damaged = true;
         }
     } else {
         for _ in 0..r.below(3) {
+            starts.push(out.len());
             shows_up |= neighbours(r, circuit.mac, &mut out);
         }
     }
     for _ in 0..if r.chance(3) { 2 } else { 1 } {
         let before = out.len();
+        starts.push(before);
         let found = restart(r, &mut out);
         if out.len() != before {
             restarts = found;
             once += 1;
         }
     }
+    let mut short = false;
     for _ in 0..r.pick(&[0, 0, 0, 1, 1, 2]) {
-        reverse(r, &mut out);
+        starts.push(out.len());
+        short |= reverse(r, &mut out);
     }
+    reorder(r, &mut out, &starts);
     let length = out.len() as u16;
     let told = match r.below(100) {
         0 => length + 1,
@@ -174,7 +208,7 @@ pub fn frame(r: &mut Random, circuit: &CircuitSettings) -> (Vec<u8>, Meant) {
         _ => length,
     };
     out[17..19].copy_from_slice(&told.to_be_bytes());
-    let mut damaged = told != length || once > 1;
+    damaged |= told != length || once > 1 || short;
     for _ in 0..r.below(4) {
         if r.chance(10) {
             out.push(r.octet());

@@ -12,6 +12,7 @@ pub mod isolation;
 pub mod levels;
 pub mod marks;
 pub mod memory;
+pub mod places;
 pub mod proved;
 pub mod radio;
 pub mod random;

@@ -1,5 +1,5 @@
 //! The archive's words as they are, apart from the wrapper's reading of them: what include/isis_gr.h says of every word is checked on random calls. A refusal
-//! tells nothing but its number and changes no word, but that an end may drop its frame; a call that asks changes none either; a number is one that the
+//! tells nothing but its number, 5 and 6 a position too, and changes no word, but that an end may drop its frame; a call that asks changes none either; a number is one that the
 //! header knows; bits without a meaning are 0; what is not told is not written. Of why: the gateway before the call is not written, and a number that is
 //! none changes nothing.
 use crate::calls::{call, is_piece, mode, question, settings, Call, Now};
@@ -61,7 +61,9 @@ pub fn tell(words: &mut Words, octets: &mut Octets, call: &Call) -> Told {
             _ => (1..=11).contains(&told.code()),
         };
         assert!(known, "an unknown code");
-        assert_eq!((told.answer >> 8, told.change, told.record), (0, 0, [BLANK; 2]), "a refusal tells nothing else");
+        assert_eq!((told.answer >> 8, told.record), (0, [BLANK; 2]), "a refusal tells nothing else");
+        let position = if [5, 6].contains(&told.code()) { 9..=1_493 } else { 0..=0 };
+        assert!(position.contains(&told.change), "refusals 5 and 6 bring a position, and no other");
         assert!(is_untouched(&told.reply), "a refusal wrote the reply");
     }
     told
@@ -173,16 +175,24 @@ fn call_number(call: &Call) -> u8 {
 
 /// The reason that words tell, as the header says it.
 fn read(ReasonWords { answer, pair }: ReasonWords) -> Reason {
-    let (number, detail, system) = (bits(answer, 0, 8), bits(answer, 8, 8), bits(answer, 16, 48));
+    let (number, detail, rest) = (bits(answer, 0, 8), bits(answer, 8, 8), bits(answer, 16, 48));
     assert!(detail == 0 || number == 4 || number == 8, "a number or a line of no refusal and no line");
-    assert!((system, pair) == (0, 0) || number == 9, "a router that has no duty");
+    assert!(pair == 0 || number == 9, "a router that has no duty");
+    match (number, detail) {
+        (4, 5 | 6) => assert!((9..=1_493).contains(&rest), "a position"),
+        (9, _) => {}
+        _ => assert_eq!(rest, 0, "a position of another refusal, or a router that has no duty"),
+    }
     let octets = |n: u64| -> [u8; 6] { std::array::from_fn(|at| (n >> (40 - 8 * at)) as u8) };
     match number {
         0 => Reason::NotSo,
         1 => Reason::Init,
         2 => Reason::Suppressed,
         3 => Reason::NoRecord,
-        4 => Reason::Refused(Refusal::of_number(detail as u32).filter(|refusal| refusal.number() <= 9).expect("a refusal of a frame")),
+        4 => {
+            let refusal = Refusal::of_number(detail as u32, rest as u16);
+            Reason::Refused(refusal.filter(|refusal| refusal.number() <= 9).expect("a refusal of a frame"))
+        }
         5 => Reason::Expired,
         6 => Reason::Released,
         7 => Reason::Cleared,
@@ -190,7 +200,7 @@ fn read(ReasonWords { answer, pair }: ReasonWords) -> Reason {
         9 => {
             assert!(bits(pair, 48, 16) < 128, "a priority, and nothing above it");
             let mac = isis_gr::Mac(octets(bits(pair, 0, 48)));
-            Reason::Outranked { system: isis_gr::SystemId(octets(system)), priority: bits(pair, 48, 8) as u8, mac }
+            Reason::Outranked { system: isis_gr::SystemId(octets(rest)), priority: bits(pair, 48, 8) as u8, mac }
         }
         _ => panic!("reason {number}"),
     }

@@ -6,18 +6,19 @@
 
 include!(concat!(env!("OUT_DIR"), "/sizes.rs"));
 
-/// The two words of a frame's answer: what receive answers, and what became of the frame's record.
+/// The two words of a frame's answer: what receive answers, and what became of the frame's record; of a refused frame the position that refusals 5 and 6
+/// bring, else 0.
 #[repr(C)]
 #[derive(Clone, Copy, PartialEq, Eq, Debug)]
 pub struct ReceivedWords {
     /// The answer.
     pub answer: u64,
-    /// The record.
+    /// The record, or the position.
     pub change: u64,
 }
 
-/// The two words of a reason: `answer` has its number in the lowest octet, the refusal's number or the line in the next, and the System ID of the router
-/// that has the duty in the upper six; `pair` has that router's MAC in the lower six octets, and its priority in the next.
+/// The two words of a reason: `answer` has its number in the lowest octet, the refusal's number or the line in the next, and in the upper six the refusal's
+/// position or the System ID of the router that has the duty; `pair` has that router's MAC in the lower six octets, and its priority in the next.
 #[repr(C)]
 #[derive(Clone, Copy, PartialEq, Eq, Debug)]
 pub struct ReasonWords {

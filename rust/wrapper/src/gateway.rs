@@ -1,10 +1,11 @@
 //! The gateway and its calls.
-use crate::answers::{Received, Refusal, Ticked, Timers, Waiting};
+use crate::answers::{Received, Ticked, Timers, Waiting};
 use crate::ffi;
 use crate::frames::Frames;
 use crate::hellos::{Flags, HelloOrders, Hellos};
 use crate::names::{Circuit, Level, Mac, SystemId};
 use crate::record::Record;
+use crate::refusals::Refusal;
 use crate::settings::{SettingError, Settings};
 use crate::why::{Call, Key, Question, Reason, Why};
 
@@ -70,10 +71,12 @@ impl Gateway {
     }
 
     /// Takes one hello frame from a source MAC, from the frame's first octet, 0x83, on (after the LLC's FE FE 03; padding behind the PDU may be
-    /// lent too). A reply, where one is due, is the first 11 octets of `reply`; else the buffer is untouched. Refused 1 to 9.
+    /// lent too). A reply, where one is due, is the first 11 octets of `reply`; else the buffer is untouched. Refused 1 to 9; 5 and 6 bring the position of
+    /// what is wrong, which [`Refusal::in_frame`] says in words.
     pub fn receive(&mut self, circuit: Circuit, from: Mac, frame: &[u8], reply: &mut [u8]) -> Result<Received, Refusal> {
         let words = ffi::receive(&mut self.words, circuit.number(), &from.0, frame, reply);
-        Refusal::unless(words.answer, Received::of_words(words.answer, words.change))
+        Refusal::check(words.answer, words.change)?;
+        Ok(Received::of_words(words.answer, words.change))
     }
 
     /// Begins a frame that comes in chunks (document 02, W-205), from a source MAC. Each circuit has its own unfinished frame: one that was begun
@@ -109,7 +112,8 @@ impl Gateway {
     /// begin and the clock and mode of now. Refused 1, 13, or as `receive` is, 2 to 9; the frame is dropped but with 1 and 13.
     pub fn end_frame(&mut self, frames: &Frames, circuit: Circuit, reply: &mut [u8]) -> Result<Received, Refusal> {
         let words = ffi::end_frame(&mut self.words, frames.octets(), circuit.number(), reply);
-        Refusal::unless(words.answer, Received::of_words(words.answer, words.change))
+        Refusal::check(words.answer, words.change)?;
+        Ok(Received::of_words(words.answer, words.change))
     }
 
     /// The clock in seconds. Refused 10 where it is lower than the held one.

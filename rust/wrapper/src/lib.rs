@@ -1,7 +1,8 @@
 //! Restart signaling (RFC 8706) and reverse metric (RFC 8500) for an IS-IS router.
 //!
 //! A safe wrapper of `libisis_gr.a`, for frames in chunks `libisis_gr_chunks.a`, and for [`Gateway::why`] `libisis_gr_why.a`, whose every call is proved
-//! against its definition. It adds no rule: each method hands its arguments on and names what comes back. There is no I/O, no allocation and no clock
+//! against its definition. It adds no rule: each method hands its arguments on and names what comes back ([`Refusal::in_frame`] reads a refused frame again, to
+//! say in words what the archive found). There is no I/O, no allocation and no clock
 //! inside: hello frames and clock ticks go in; records, Restart TLVs, orders (actions that the caller must take) and link metrics come out.
 //!
 //! A gateway is memory of its owner's. [`Gateway::new`] is a constant, so that a `static` holds it and no stack has to:
@@ -34,20 +35,24 @@
 #![deny(unsafe_op_in_unsafe_fn)]
 
 mod answers;
+mod faults;
 mod ffi;
 mod frames;
 mod gateway;
 mod hellos;
 mod names;
 mod record;
+mod refusals;
 mod settings;
 mod why;
 
-pub use answers::{Ack, Freed, Overload, Received, Refusal, Reply, Ticked, Timers, Waiting};
+pub use answers::{Ack, Freed, Overload, Received, Reply, Ticked, Timers, Waiting};
+pub use faults::InFrame;
 pub use frames::Frames;
 pub use gateway::{Gateway, REPLY_OCTETS};
 pub use hellos::{Flags, HelloOrders, Hellos};
 pub use names::{Circuit, Circuits, Level, Levels, Mac, SystemId};
 pub use record::{Change, Mark, Phase, Record, ReverseMetric, Standing};
+pub use refusals::Refusal;
 pub use settings::{CircuitSettings, Kind, Mode, SettingError, Settings};
 pub use why::{Call, Key, Line, Question, Reason, Why};

@@ -1,7 +1,7 @@
 //! Why a neighbour is not advertised, why it vanished, why no CSNPs were ordered (document 02, W-204).
-use crate::answers::Refusal;
 use crate::gateway::NO_LEVEL;
 use crate::names::{Circuit, Level, Mac, SystemId};
+use crate::refusals::Refusal;
 use core::fmt;
 
 /// What is asked.
@@ -255,7 +255,7 @@ impl Reason {
             1 => Reason::Init,
             2 => Reason::Suppressed,
             3 => Reason::NoRecord,
-            4 => Reason::Refused(Refusal::of_number(u32::from(detail)).expect("a number of the table")),
+            4 => Reason::Refused(Refusal::of_number(u32::from(detail), (answer >> 16) as u16).expect("a number of the table")),
             5 => Reason::Expired,
             6 => Reason::Released,
             7 => Reason::Cleared,

@@ -18,27 +18,42 @@ fn in_c(name: &str) -> String {
     words.collect::<String>().to_uppercase()
 }
 
+/// All of them, by number, with a position of 37 where they have one.
+fn all() -> Vec<Refusal> {
+    (1..).map_while(|number| Refusal::of_number(number, 37)).collect()
+}
+
 #[test]
 fn the_table_is_the_headers() {
     let texts = header_texts();
-    assert_eq!((texts.len(), texts[0]), (Refusal::ALL.len() + 1, "done"));
-    for (number, refusal) in (1..).zip(Refusal::ALL) {
+    assert_eq!((texts.len(), texts[0]), (all().len() + 1, "done"));
+    for (number, refusal) in (1..).zip(all()) {
         assert_eq!(refusal.number(), number);
         assert_eq!(refusal.text(), texts[number as usize]);
         let line = format!("#define ISIS_GR_REFUSED_{} {number}u", in_c(refusal.name()));
         assert!(HEADER.lines().any(|found| found.starts_with(&line)), "{line}");
-        assert_eq!(format!("{refusal:?}"), refusal.name());
-        assert_eq!(refusal.to_string(), format!("{number} ({})", refusal.text()));
+        let (debug, display) = match refusal.position() {
+            Some(position) => (format!(" {{ position: {position} }}"), format!(", at octet {position}")),
+            None => Default::default(),
+        };
+        assert_eq!(format!("{refusal:?}"), refusal.name().to_owned() + &debug);
+        assert_eq!(refusal.to_string(), format!("{number} ({}){display}", refusal.text()));
+    }
+}
+
+#[test]
+fn refusals_5_and_6_alone_bring_a_position() {
+    for refusal in all() {
+        assert_eq!(refusal.position(), [5, 6].contains(&refusal.number()).then_some(37));
+        assert_eq!(Refusal::of_number(refusal.number(), 38) == Some(refusal), refusal.position().is_none());
     }
 }
 
 #[test]
 fn a_number_finds_its_refusal_and_no_other_number_does() {
-    for refusal in Refusal::ALL {
-        assert_eq!(Refusal::of_number(refusal.number()), Some(*refusal));
-    }
+    assert!(all().iter().map(|refusal| refusal.number()).eq(1..=14));
     for number in [0, 15, 255, 256, u32::MAX] {
-        assert_eq!(Refusal::of_number(number), None);
+        assert_eq!(Refusal::of_number(number, 37), None);
     }
 }
 

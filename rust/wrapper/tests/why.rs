@@ -90,11 +90,11 @@ fn not_advertised_suppressed() {
 #[test]
 fn not_advertised_refused() {
     let mut g = gateway(Mode::Running);
-    let sentence = "not advertised: the frame was refused 6 (a TLV breaks its rule, or the circuit type is 0)";
+    let sentence = "not advertised: the frame was refused 6 (a TLV breaks its rule, or the circuit type is 0), at octet 21";
     let refused = p2p_hello(3, 0); // a three-way state that is none
-    reads(not_advertised(&mut g, P2P, &refused, p2p_key()), Reason::Refused(Refusal::BadTlv), sentence);
+    reads(not_advertised(&mut g, P2P, &refused, p2p_key()), Reason::Refused(Refusal::BadTlv { position: 21 }), sentence);
     let whoever = Key::P2p(router(9));
-    reads(not_advertised(&mut g, P2P, &refused, whoever), Reason::Refused(Refusal::BadTlv), sentence); // whatever key its frame had
+    reads(not_advertised(&mut g, P2P, &refused, whoever), Reason::Refused(Refusal::BadTlv { position: 21 }), sentence); // whatever key its frame had
     let absent = not_advertised(&mut g, circuit(3), &p2p_hello(DOWN, 0), p2p_key());
     reads(
         absent,
@@ -194,10 +194,10 @@ fn a_frame_lets_no_record_vanish() {
 #[test]
 fn no_csnps_refused() {
     let mut g = gateway(Mode::Running);
-    let sentence = "no CSNPs ordered: the frame was refused 5 (a TLV passes the PDU Length)";
+    let sentence = "no CSNPs ordered: the frame was refused 5 (a TLV passes the PDU Length), at octet 21";
     let mut frame = p2p_hello(DOWN, RR);
     frame[21] = 200;
-    reads(no_csnps(&mut g, P2P, PEER_MAC, &frame), Reason::Refused(Refusal::TlvPastEnd), sentence);
+    reads(no_csnps(&mut g, P2P, PEER_MAC, &frame), Reason::Refused(Refusal::TlvPastEnd { position: 21 }), sentence);
     assert_eq!(no_csnps(&mut g, circuit(3), PEER_MAC, &frame).reason, Reason::Refused(Refusal::NoCircuit));
 }
 
