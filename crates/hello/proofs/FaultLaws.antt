@@ -6,7 +6,7 @@ use mathlib.Core.Bool.{true, false, cond}
 use native.Mathlib.Omega.{arith}
 use lib.ListN.{length}
 use Rattle.basics.proofs.BoolLaws.{by-test}
-use Rattle.tlv.specs.Tlv.{Tlv, tlvs, ofType, nextAt, valueAt, firstAt, loneFault, FoundAt}
+use Rattle.tlv.specs.Tlv.{Tlv, tlvs, ofType, nextAt, valueAt, firstAt, loneFault, FoundAt, isFound}
 use Rattle.tlv.specs.declared.tlvs.Found.{Found}
 use Rattle.tlv.specs.declared.tlvs.Found.the-variants.{At, Nothing}
 use Rattle.tlv.proofs.TlvLaws.{found-list, Within, nowhere, place, Standing, no-more, stands, standing, lone-within}
@@ -17,8 +17,13 @@ use Rattle.basics.specs.declared.kind.CircuitKind.the-variants.{Lan, P2p}
 use Rattle.hello.specs.declared.header.Layout.{Layout}
 use Rattle.hello.specs.Reverse.{reverseBad, reverseFault}
 use Rattle.hello.specs.ThreeWay.{threeWayBad, threeWayFault}
-use Rattle.hello.specs.Hello.{ofKind, earlier, faultOn, tlvFault, refusedAt, RefusesAt}
+use Rattle.hello.specs.Header.{layoutOf}
+use Rattle.hello.specs.Hello.{ofKind, earlier, faultOn, tlvFault, faultBy, faultIn, refusedAt, RefusesAt}
+use Rattle.hello.specs.declared.header.Selected.{Selected}
+use Rattle.hello.specs.declared.header.Selected.the-variants.{Fit, Unfit}
+use Rattle.basics.specs.Octets.{octet}
 use Rattle.basics.specs.declared.refusal.Refusal.{Refusal}
+use Rattle.basics.specs.declared.refusal.Refusal.the-variants.{BadTlv}
 
 -- ---- what is found
 
@@ -109,3 +114,20 @@ tlv-within l p =
 pub refuses-at : (why : ℕ → Refusal) (f : Found) (p : ℕ) (x : Refusal) → f ≡ At p → x ≡ why (p + 1) → RefusesAt why f x
 unfolding refusedAt
 refuses-at why f p x e q r = rw (e, q)
+
+-- the layout that a PDU chooses is the one that it was read by
+module _ (l : Layout) (p : List ℕ) (e : layoutOf (octet p 4) ≡ Fit l) where
+  fault-in : faultIn p ≡ tlvFault l p
+  fault-in = ap (λ (x : Selected). faultBy x p) e
+
+  pub is-found-in : isFound (tlvFault l p) ≡ true → isFound (faultIn p) ≡ true
+  is-found-in f = ap isFound fault-in ∙ f
+
+  pub refused-in : (x : Refusal) → RefusesAt BadTlv (faultIn p) x → RefusesAt BadTlv (tlvFault l p) x
+  refused-in x f r = f r ∙ ap (λ (y : Found). refusedAt BadTlv y r) fault-in
+
+pub fit-in : (x : Selected) (l : Layout) (p : List ℕ) → x ≡ layoutOf (octet p 4) → x ≡ Fit l → faultIn p ≡ tlvFault l p
+fit-in x l p e f = fault-in l p (sym e ∙ f)
+
+pub unfit-in : (x : Selected) (p : List ℕ) → x ≡ layoutOf (octet p 4) → x ≡ Unfit → faultIn p ≡ Nothing
+unfit-in x p e f = ap (λ (y : Selected). faultBy y p) (sym e ∙ f)

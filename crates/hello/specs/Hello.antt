@@ -52,6 +52,14 @@ earlier (At p) (At q) = At (min p q)
 unfoldable pub tlvFault : Layout → List ℕ → Found
 tlvFault l p = earlier (restartFault (ofKind 211 l p)) (earlier (reverseFault (ofKind 16 l p)) (linkFault l p))
 
+-- the same, of a PDU that chooses its layout itself
+abbrev pub faultBy : Selected → List ℕ → Found
+faultBy Unfit p = Nothing
+faultBy (Fit l) p = tlvFault l p
+
+abbrev pub faultIn : List ℕ → Found
+faultIn p = faultBy (layoutOf (octet p 4)) p
+
 -- where the first rule is broken: the circuit type's low two bits are 0 (octet 9), or else the first TLV that breaks one
 unfoldable pub ruleFault : Layout → List ℕ → Found
 ruleFault l p = cond (eqb (octet p 8 % 4) 0) (At 8) (tlvFault l p)

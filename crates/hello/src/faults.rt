@@ -1,5 +1,8 @@
 // Where refusals 5 and 6 stand in a PDU (document 02, W-206). Refusal 6 asks this once a rule is known to be broken, so an accepted frame pays nothing.
 use crate::header::Layout;
+use crate::header::PDU_TYPE;
+use crate::header::Selected;
+use crate::header::select_layout;
 use crate::reverse::reverse_fault;
 use crate::three_way::three_way_fault;
 use basics::kind::CircuitKind;
@@ -12,7 +15,7 @@ ghost use mathlib.Core.Bool.{true};
 ghost use Prim.Native.Nat.{_+_, _<_};
 ghost use Rattle.tlv.specs.Tlv.{isFound};
 ghost use Rattle.hello.specs.Header.{Sized};
-ghost use Rattle.hello.specs.Hello.{earlier, linkFault, tlvFault, RefusesAt};
+ghost use Rattle.hello.specs.Hello.{earlier, linkFault, tlvFault, faultIn, RefusesAt};
 ghost use Rattle.basics.specs.declared.refusal.Refusal.the-variants.{BadTlv};
 
 // The document's number of the octet at a place: octets count from 1.
@@ -59,11 +62,14 @@ fn tlv_fault(pdu: &[u8], layout: Layout) -> Found
     earlier_of(restart, earlier_of(reverse, link))
 }
 
-// Refusal 6 of a PDU in which a TLV breaks a rule.
-pub fn bad_tlv(pdu: &[u8], layout: Layout) -> Refusal
-    requires { ⌜ Sized (now pdu) × (isFound (tlvFault layout (now pdu)) ≡ true) ⌝ }
-    ensures { λ r. ⌜ RefusesAt BadTlv (tlvFault layout (now (pdu .entry))) r ⌝ }
+// Refusal 6 of a PDU in which a TLV breaks a rule. It takes the PDU alone and chooses its layout anew, so that an accepted frame keeps nothing for it.
+pub fn bad_tlv(pdu: &[u8]) -> Refusal
+    requires { ⌜ Sized (now pdu) × (isFound (faultIn (now pdu)) ≡ true) ⌝ }
+    ensures { λ r. ⌜ RefusesAt BadTlv (faultIn (now (pdu .entry))) r ⌝ }
 {
+    let Selected::Fit(layout) = select_layout(pdu[PDU_TYPE]) else {
+        return Refusal::NotHello;
+    };
     let fault = tlv_fault(pdu, layout);
     let Found::At(at) = fault else {
         return Refusal::NotHello;

@@ -34,7 +34,8 @@ use tlv::tlvs::walked;
 ghost use mathlib.Core.Path.{_≡_};
 ghost use Prim.Native.Nat.{_≤_};
 ghost use lib.ListN.{length};
-ghost use Rattle.hello.specs.Header.{Sized};
+ghost use Rattle.basics.specs.Octets.{octet};
+ghost use Rattle.hello.specs.Header.{Sized, layoutOf};
 ghost use Rattle.tlv.specs.Tlv.{tlvs, countsOf};
 ghost use Rattle.hello.specs.Hello.{ofKind, linkRead, tlvsRead, pduRead, layoutRead, helloRead};
 ghost use Rattle.hello.specs.declared.header.Selected.the-variants.{Fit};
@@ -107,7 +108,7 @@ fn read_link(pdu: &[u8], layout: Layout, counts: Counts, mac: u64) -> LinkRead
 // The TLVs, once they are known to end by the end of the PDU: refusal 6, or the hello. The lists of neighbours come first: they may be long, and
 // nothing else is held meanwhile.
 fn read_tlvs(pdu: &[u8], layout: Layout, counts: Counts, mac: u64) -> Read
-    requires { ⌜ Sized (now pdu) × (counts ≡ countsOf (tlvs (now pdu) (layout .header))) ⌝ }
+    requires { ⌜ Sized (now pdu) × (counts ≡ countsOf (tlvs (now pdu) (layout .header))) × (layoutOf (octet (now pdu) 4) ≡ Fit layout) ⌝ }
     ensures { λ r. ⌜ r ≡ tlvsRead layout mac (now (pdu .entry)) ⌝ }
 {
     let from = layout.header;
@@ -117,13 +118,13 @@ fn read_tlvs(pdu: &[u8], layout: Layout, counts: Counts, mac: u64) -> Read
         });
     }
     let LinkRead::Good(link) = read_link(pdu, layout, counts, mac) else {
-        return Read::Refused(bad_tlv(pdu, layout));
+        return Read::Refused(bad_tlv(pdu));
     };
     let RestartRead::Good(restart) = read_restart(pdu, from, counts.restart) else {
-        return Read::Refused(bad_tlv(pdu, layout));
+        return Read::Refused(bad_tlv(pdu));
     };
     let ReverseRead::Good(reverse) = read_reverse(pdu, from, counts.reverse) else {
-        return Read::Refused(bad_tlv(pdu, layout));
+        return Read::Refused(bad_tlv(pdu));
     };
     Read::Accepted(Hello {
         system: six(pdu, SOURCE_ID),
@@ -136,7 +137,7 @@ fn read_tlvs(pdu: &[u8], layout: Layout, counts: Counts, mac: u64) -> Read
 
 // Refusal 5, and what follows it.
 fn read_pdu(pdu: &[u8], layout: Layout, mac: u64) -> Read
-    requires { ⌜ Sized (now pdu) ⌝ }
+    requires { ⌜ Sized (now pdu) × (layoutOf (octet (now pdu) 4) ≡ Fit layout) ⌝ }
     ensures { λ r. ⌜ r ≡ pduRead layout mac (now (pdu .entry)) ⌝ }
 {
     let walk = walked(pdu, layout.header);
@@ -150,7 +151,7 @@ fn read_pdu(pdu: &[u8], layout: Layout, mac: u64) -> Read
 
 // Refusal 4, and what follows it.
 fn read_as(frame: &[u8], layout: Layout, mac: u64) -> Read
-    requires { ⌜ 20 ≤ layout .header ⌝ }
+    requires { ⌜ (20 ≤ layout .header) × (layoutOf (octet (now frame) 4) ≡ Fit layout) ⌝ }
     ensures { λ r. ⌜ r ≡ layoutRead (Fit layout) mac (now (frame .entry)) ⌝ }
 {
     if is_bad_length(frame, layout.header) {

@@ -34,7 +34,10 @@ is-same-kind-requires : tie.Need-is-same-kind-requires
 is-same-kind-requires c κs = search needs
 
 read-as-requires : tie.Need-read-as-requires
-read-as-requires c κs = header-least _ _ _ (c .before .before .before .before .before .select-layout .ensures) (c .before .before .before .layout .given .1)
+read-as-requires c κs =
+    let e = c .before .before .before .before .before .select-layout .ensures in
+    let f = c .before .before .before .layout .given .1 in
+    (header-least _ _ _ e f, sym e ∙ f)
 
 returns-3 : tie.Need-returns-3
 unfolding helloRead

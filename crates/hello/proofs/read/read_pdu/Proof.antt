@@ -17,13 +17,13 @@ enum-known-walk : tie.Need-enum-known-walk
 enum-known-walk c = search needs
 
 position-of-requires : tie.Need-position-of-requires
-position-of-requires c κs = omega (arith, c .before .before .before .before .before .pre .1, is-within _ _ _ (cut-within _ _) (walk-is-cut _ _ (sym (c .before .before .before .walked .ensures) ∙ c .before .walk .given .1)))
+position-of-requires c κs = omega (arith, c .before .before .before .before .before .pre .0 .1, is-within _ _ _ (cut-within _ _) (walk-is-cut _ _ (sym (c .before .before .before .walked .ensures) ∙ c .before .walk .given .1)))
 
 enum-known-walk-2 : tie.Need-enum-known-walk-2
 enum-known-walk-2 c = search needs
 
 read-tlvs-requires : tie.Need-read-tlvs-requires
-read-tlvs-requires c κs = (c .before .before .before .before .before .pre, walk-is-whole _ _ (sym (c .before .before .before .walked .ensures) ∙ c .before .walk2 .given .1) .1)
+read-tlvs-requires c κs = (c .before .before .before .before .before .pre .0, walk-is-whole _ _ (sym (c .before .before .before .walked .ensures) ∙ c .before .walk2 .given .1) .1, c .before .before .before .before .before .pre .1)
 
 returns : tie.Need-returns
 returns c = ap (λ (n : ℕ). Refused (TlvPastEnd n)) (c .position-of .ensures) ∙ sym (at-cut _ _ _ _ (sym (c .before .before .before .before .walked .ensures) ∙ c .before .before .walk .given .1))

@@ -1,4 +1,5 @@
 -- Each reading that is bad breaks a rule; where none is, each holds its part of the hello.
+use Rattle.hello.proofs.FaultLaws.{is-found-in, refused-in}
 use Rattle.hello.proofs.HelloLaws.{by-circuit, past-circuit, by-restart, by-reverse, by-link, accepted, link-is-bad, link-is-good, reverse-is-bad, reverse-is-good}
 use Rattle.restart_tlv.proofs.RestartLaws.{restart-is-bad, restart-is-good}
 use Rattle.tlv.specs.declared.tlvs.Counts.{Counts}
@@ -30,10 +31,10 @@ enum-told : tie.Need-enum-told
 enum-told c = search needs
 
 bad-tlv-requires : tie.Need-bad-tlv-requires
-bad-tlv-requires c κs = (c .before .before .before .before .before .before .pre .0, by-link _ _ (link-is-bad _ _ _ (sym (c .before .before .read-link .ensures) ∙ c .enum-told .given .1)))
+bad-tlv-requires c κs = (c .before .before .before .before .before .before .pre .0, is-found-in _ _ (c .before .before .before .before .before .before .pre .2) (by-link _ _ (link-is-bad _ _ _ (sym (c .before .before .read-link .ensures) ∙ c .enum-told .given .1))))
 
 returns-2 : tie.Need-returns-2
-returns-2 c = c .bad-tlv .ensures _ ∙ sym (past-circuit _ _ _ (ne-eqb _ _ (c .before .before .before .before .if1 .left)))
+returns-2 c = refused-in _ _ (c .before .before .before .before .before .before .before .pre .2) _ (c .bad-tlv .ensures) _ ∙ sym (past-circuit _ _ _ (ne-eqb _ _ (c .before .before .before .before .if1 .left)))
 
 read-restart-requires : tie.Need-read-restart-requires
 read-restart-requires c κs = ap (λ (n : Counts). n .restart) (c .before .before .before .before .before .before .before .pre .1)
@@ -45,10 +46,10 @@ enum-told-2 : tie.Need-enum-told-2
 enum-told-2 c = search needs
 
 bad-tlv-requires-2 : tie.Need-bad-tlv-requires-2
-bad-tlv-requires-2 c κs = (c .before .before .before .before .before .before .before .before .before .before .pre .0, by-restart _ _ (restart-is-bad _ (sym (c .before .before .read-restart .ensures) ∙ c .enum-told2 .given .1)))
+bad-tlv-requires-2 c κs = (c .before .before .before .before .before .before .before .before .before .before .pre .0, is-found-in _ _ (c .before .before .before .before .before .before .before .before .before .before .pre .2) (by-restart _ _ (restart-is-bad _ (sym (c .before .before .read-restart .ensures) ∙ c .enum-told2 .given .1))))
 
 returns-3 : tie.Need-returns-3
-returns-3 c = c .bad-tlv2 .ensures _ ∙ sym (past-circuit _ _ _ (ne-eqb _ _ (c .before .before .before .before .before .before .before .before .if1 .left)))
+returns-3 c = refused-in _ _ (c .before .before .before .before .before .before .before .before .before .before .before .pre .2) _ (c .bad-tlv2 .ensures) _ ∙ sym (past-circuit _ _ _ (ne-eqb _ _ (c .before .before .before .before .before .before .before .before .if1 .left)))
 
 read-reverse-requires : tie.Need-read-reverse-requires
 read-reverse-requires c κs = ap (λ (n : Counts). n .reverse) (c .before .before .before .before .before .before .before .before .before .before .before .pre .1)
@@ -60,10 +61,10 @@ enum-told-3 : tie.Need-enum-told-3
 enum-told-3 c = search needs
 
 bad-tlv-requires-3 : tie.Need-bad-tlv-requires-3
-bad-tlv-requires-3 c κs = (c .before .before .before .before .before .before .before .before .before .before .before .before .before .before .pre .0, by-reverse _ _ (reverse-is-bad _ (sym (c .before .before .read-reverse .ensures) ∙ c .enum-told3 .given .1)))
+bad-tlv-requires-3 c κs = (c .before .before .before .before .before .before .before .before .before .before .before .before .before .before .pre .0, is-found-in _ _ (c .before .before .before .before .before .before .before .before .before .before .before .before .before .before .pre .2) (by-reverse _ _ (reverse-is-bad _ (sym (c .before .before .read-reverse .ensures) ∙ c .enum-told3 .given .1))))
 
 returns-4 : tie.Need-returns-4
-returns-4 c = c .bad-tlv3 .ensures _ ∙ sym (past-circuit _ _ _ (ne-eqb _ _ (c .before .before .before .before .before .before .before .before .before .before .before .before .if1 .left)))
+returns-4 c = refused-in _ _ (c .before .before .before .before .before .before .before .before .before .before .before .before .before .before .before .pre .2) _ (c .bad-tlv3 .ensures) _ ∙ sym (past-circuit _ _ _ (ne-eqb _ _ (c .before .before .before .before .before .before .before .before .before .before .before .before .if1 .left)))
 
 six-requires : tie.Need-six-requires
 six-requires c κs = search needs
