@@ -16,7 +16,7 @@ pub struct Reference(pub theirs::Gateway);
 const NO_LEVEL: u8 = 0;
 
 fn refusal(why: theirs::Refusal) -> Refusal {
-    Refusal::of_number(u32::from(why.number()), why.position().map_or(0, |position| position as u16)).expect("a number of the table")
+    Refusal::of_number(u32::from(why.number()), why.position().unwrap_or(0)).expect("a number of the table")
 }
 
 fn circuits(set: [bool; MAX_CIRCUITS]) -> Circuits {

@@ -85,79 +85,61 @@ impl Layout {
     }
 }
 
-/// What came of a type that is read where it came once alone.
+/// How often a TLV type came, with its value if once.
 #[derive(Clone, Copy)]
-enum Lone<T> {
+enum Found<'a> {
     Never,
-    Once(T),
+    Once(&'a [u8]),
     More,
 }
 
-/// What the walk over the TLVs finds. Positions count from 0.
-struct Walk {
-    restart: Option<RestartTlv>,
-    three_way: Option<ThreeWay>,
-    /// The type 16 TLV: where it stands, and what it says.
-    reverse: Lone<(usize, Result<Option<Reverse>, Broken>)>,
-    /// A type 6 TLV lists our MAC.
-    listed: bool,
-    /// Where the first TLV stands that breaks a rule, type 16 apart: whether one of those does is known at the end.
-    broken: Option<usize>,
+impl<'a> Found<'a> {
+    fn add(&mut self, value: &'a [u8]) {
+        *self = match self {
+            Found::Never => Found::Once(value),
+            Found::Once(_) | Found::More => Found::More,
+        };
+    }
 }
 
-impl Walk {
-    fn breaks(&mut self, at: usize) {
-        self.broken.get_or_insert(at);
-    }
+/// What the walk over the TLVs finds.
+struct Walk<'a> {
+    restart: Found<'a>,
+    three_way: Found<'a>,
+    reverse: Found<'a>,
+    /// A type 6 TLV lists our MAC.
+    listed: bool,
+    /// A type 6 TLV has a length that is no multiple of 6.
+    ragged: bool,
+}
 
-    /// The TLV of a type that may come once: `before`, or what it says; none where it broke a rule.
-    fn once<T>(&mut self, before: Option<T>, at: usize, decoded: Result<T, Broken>) -> Option<T> {
-        match (before, decoded) {
-            (None, Ok(tlv)) => Some(tlv),
-            (before, _) => {
-                self.breaks(at);
-                before
-            }
-        }
-    }
+/// A TLV that passes the end, and what is left of the PDU from it on.
+struct PastEnd {
+    left: usize,
+}
 
-    /// One pass over the PDU; refuses (5) a TLV that passes its end, which comes before any rule (6).
-    fn over(pdu: &[u8], layout: Layout, mac: &Mac) -> Result<Walk, Refusal> {
-        let mut walk = Walk { restart: None, three_way: None, reverse: Lone::Never, listed: false, broken: None };
-        let mut at = layout.header();
-        while at < pdu.len() {
-            let past_end = Refusal::TlvPastEnd { position: at + 1 };
-            let [kind, length, after @ ..] = &pdu[at..] else { return Err(past_end) };
-            let Some(value) = after.get(..usize::from(*length)) else { return Err(past_end) };
-            match (*kind, layout) {
-                (RESTART, _) => walk.restart = walk.once(walk.restart, at, RestartTlv::decode(value)),
-                (THREE_WAY, Layout::PointToPoint) => walk.three_way = walk.once(walk.three_way, at, ThreeWay::decode(value)),
-                (REVERSE_METRIC, _) => {
-                    walk.reverse = match walk.reverse {
-                        Lone::Never => Lone::Once((at, Reverse::decode(value))),
-                        Lone::Once(_) | Lone::More => Lone::More,
-                    };
-                }
-                (IS_NEIGHBOURS, Layout::Lan(_)) => {
+impl<'a> Walk<'a> {
+    /// One pass to the end; refuses (5) a TLV that passes it. The rules are looked at afterwards, since 5 comes before 6.
+    fn over(mut rest: &'a [u8], mac: &Mac) -> Result<Walk<'a>, PastEnd> {
+        let mut walk = Walk { restart: Found::Never, three_way: Found::Never, reverse: Found::Never, listed: false, ragged: false };
+        while let [kind, after @ ..] = rest {
+            let past_end = PastEnd { left: rest.len() };
+            let [length, after @ ..] = after else { return Err(past_end) };
+            let Some((value, next)) = after.split_at_checked(usize::from(*length)) else { return Err(past_end) };
+            match *kind {
+                RESTART => walk.restart.add(value),
+                THREE_WAY => walk.three_way.add(value),
+                REVERSE_METRIC => walk.reverse.add(value),
+                IS_NEIGHBOURS => {
                     let sixes = value.chunks_exact(mac.len());
-                    if !sixes.remainder().is_empty() {
-                        walk.breaks(at);
-                    }
+                    walk.ragged |= !sixes.remainder().is_empty();
                     walk.listed = walk.listed || sixes.into_iter().any(|six| six == mac);
                 }
                 _ => {}
             }
-            at += 2 + value.len();
+            rest = next;
         }
         Ok(walk)
-    }
-
-    /// Where the first TLV stands that breaks a rule.
-    fn first_broken(&self) -> Option<usize> {
-        match self.reverse {
-            Lone::Once((at, Err(Broken))) => Some(self.broken.map_or(at, |other| other.min(at))),
-            _ => self.broken,
-        }
     }
 }
 
@@ -177,27 +159,70 @@ pub(crate) fn read_hello(frame: &[u8], kind: Kind, mac: &Mac) -> Result<Hello, R
     }
 
     let pdu = &frame[..length];
-    let walk = Walk::over(pdu, layout, mac)?;
+    let walk = Walk::over(&pdu[header..], mac).map_err(|PastEnd { left }| Refusal::TlvPastEnd { position: octet_number(length - left) })?;
     if pdu[CIRCUIT_TYPE] & 3 == 0 {
-        return Err(Refusal::TlvRule { position: CIRCUIT_TYPE + 1 });
+        return Err(Refusal::TlvRule { position: octet_number(CIRCUIT_TYPE) });
     }
-    if let Some(at) = walk.first_broken() {
-        return Err(Refusal::TlvRule { position: at + 1 });
-    }
-    let link = match (layout, walk.three_way) {
-        (Layout::Lan(level), _) => Link::Lan { level, priority: frame[19] & 0x7f, listed: walk.listed },
-        (Layout::PointToPoint, Some(three_way)) => Link::PointToPoint(three_way),
-        // none is bad, so it is missing
-        (Layout::PointToPoint, None) => return Err(Refusal::TlvRule { position: pdu.len() + 1 }),
+    let broken = || Refusal::TlvRule { position: octet_number(first_broken(pdu, layout)) };
+    let restart = match walk.restart {
+        Found::Never => RestartTlv::Absent,
+        Found::Once(value) => RestartTlv::decode(value).map_err(|Broken| broken())?,
+        Found::More => return Err(broken()),
+    };
+    let reverse = match walk.reverse {
+        Found::Once(value) => Reverse::decode(value).map_err(|Broken| broken())?,
+        Found::Never | Found::More => None,
+    };
+    let link = match layout {
+        Layout::Lan(_) if walk.ragged => return Err(broken()),
+        Layout::Lan(level) => Link::Lan { level, priority: frame[19] & 0x7f, listed: walk.listed },
+        Layout::PointToPoint => match walk.three_way {
+            Found::Once(value) => Link::PointToPoint(ThreeWay::decode(value).map_err(|Broken| broken())?),
+            Found::Never | Found::More => return Err(broken()),
+        },
     };
     Ok(Hello {
         source: [frame[9], frame[10], frame[11], frame[12], frame[13], frame[14]],
         hold: u16::from_be_bytes([frame[15], frame[16]]),
-        restart: walk.restart.unwrap_or(RestartTlv::Absent),
-        reverse: match walk.reverse {
-            Lone::Once((_, Ok(reverse))) => reverse,
-            _ => None,
-        },
+        restart,
+        reverse,
         link,
     })
+}
+
+/// Document 01's number of the octet at an index of a PDU, which has no more than 1,492.
+fn octet_number(at: usize) -> u16 {
+    at as u16 + 1
+}
+
+/// Where the first TLV stands that breaks a rule, whatever the rule; where none does the three-way TLV is missing, and it is the end of the PDU. Counted from 0.
+#[cold]
+#[inline(never)]
+fn first_broken(pdu: &[u8], layout: Layout) -> usize {
+    let (mut restart, mut three_way, mut reverse) = (false, false, Found::Never);
+    let (mut first, mut reverse_at) = (pdu.len(), 0);
+    let mut at = layout.header();
+    while let Some([kind, length, rest @ ..]) = pdu.get(at..) {
+        let value = &rest[..usize::from(*length)];
+        let broken = match (*kind, layout) {
+            (RESTART, _) => std::mem::replace(&mut restart, true) || RestartTlv::decode(value).is_err(),
+            (THREE_WAY, Layout::PointToPoint) => std::mem::replace(&mut three_way, true) || ThreeWay::decode(value).is_err(),
+            (IS_NEIGHBOURS, Layout::Lan(_)) => value.len() % 6 != 0,
+            (REVERSE_METRIC, _) => {
+                reverse.add(value);
+                reverse_at = at;
+                false
+            }
+            _ => false,
+        };
+        if broken {
+            first = first.min(at);
+        }
+        at += 2 + value.len();
+    }
+    // of type 16 one alone is looked at
+    match reverse {
+        Found::Once(value) if Reverse::decode(value).is_err() => first.min(reverse_at),
+        _ => first,
+    }
 }

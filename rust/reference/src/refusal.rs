@@ -14,13 +14,13 @@ pub enum Refusal {
     /// No. 5: a TLV passes the PDU Length.
     TlvPastEnd {
         /// Its type octet, counted from 1.
-        position: usize,
+        position: u16,
     },
     /// No. 6: a rule of "TLVs read" is broken, or the circuit type is 0.
     TlvRule {
         /// The type octet of the first TLV that breaks one, counted from 1; 9 for the circuit type; the PDU Length plus 1 for a three-way TLV that
         /// is missing.
-        position: usize,
+        position: u16,
     },
     /// No. 7: the LAN level is not enabled, or the source is ourselves.
     NotForUs,
@@ -62,7 +62,7 @@ impl Refusal {
     }
 
     /// The position that it brings, if it is one of those that do.
-    pub fn position(self) -> Option<usize> {
+    pub fn position(self) -> Option<u16> {
         match self {
             Refusal::TlvPastEnd { position } | Refusal::TlvRule { position } => Some(position),
             _ => None,
