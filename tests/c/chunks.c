@@ -12,7 +12,7 @@ static uint8_t written[ROOM], expected[ROOM], longest[MOST + 1];
 /* ---- comparing */
 
 static void same_answer(isis_gr_received a, isis_gr_received b) {
-    EXPECT(a.code == b.code && a.reply == b.reply && a.remaining == b.remaining && a.csnps == b.csnps && a.t1_end == b.t1_end);
+    EXPECT(a.code == b.code && a.position == b.position && a.reply == b.reply && a.remaining == b.remaining && a.csnps == b.csnps && a.t1_end == b.t1_end);
     EXPECT(a.hello_flags == b.hello_flags && a.timers.restart == b.timers.restart && a.timers.spf == b.timers.spf);
     EXPECT(a.timers.overload == b.timers.overload && a.level == b.level && memcmp(a.system_id, b.system_id, 6) == 0);
     EXPECT(a.before == b.before && a.after == b.after && a.advertised == b.advertised);

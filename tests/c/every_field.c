@@ -53,6 +53,47 @@ static void fourteen_refusals(void) {
     }
 }
 
+/* the answer to a P2P hello with these TLVs behind its header of 20 octets, of which so many lie within the PDU Length */
+static isis_gr_received bare(const uint8_t *tlvs, uint8_t n, uint8_t within) {
+    isis_gr_received r;
+    hello_p2p(&h, frame, sizeof frame, ISIS_GR_LEVEL_BOTH, peer, HOLD);
+    hello_put(&h, tlvs, n);
+    EXPECT(hello_end(&h) == 20u + n);
+    frame[18] = (uint8_t)(20 + within);
+    r = isis_gr_receive(&g, P2P, peer_mac, frame, 20u + n, reply, sizeof reply);
+    refused(r.code, r);
+    return r;
+}
+
+/* docs/RULES.md, "Where refusals 5 and 6 stand": octets count from 1, and the TLVs of a P2P hello start at octet 21 */
+static void positions(void) {
+    static const uint8_t up_then_bad[] = {240, 1, 0, 211, 0, 16, 0};
+    static const uint8_t bad_in_the_other_order[] = {16, 0, 240, 1, 0, 211, 0};
+    static const uint8_t two_restarts[] = {211, 1, 0, 240, 1, 0, 211, 1, 0};
+    static const uint8_t none_and_past[] = {211, 1, 0, 240, 1, 0};
+    static const uint8_t passing[] = {240, 1, 0, 211, 0, 211, 9, 2};
+    isis_gr_received r;
+    start(ISIS_GR_MODE_RUNNING, 100, 3, 60);
+    r = bare(up_then_bad, 7, 7); /* the first by its place: type 211 at octet 24 */
+    EXPECT(r.code == ISIS_GR_REFUSED_BAD_TLV && r.position == 24);
+    EXPECT(bare(bad_in_the_other_order, 7, 7).position == 21); /* type 16 */
+    EXPECT(bare(two_restarts, 9, 9).position == 27);           /* the second one */
+    r = bare(none_and_past, 6, 3); /* no three-way TLV: the PDU Length of 23 plus 1, whatever is lent behind it */
+    EXPECT(r.code == ISIS_GR_REFUSED_BAD_TLV && r.position == 24);
+    r = bare(passing, 8, 8); /* 5 comes before 6: the value of 9 octets at octet 26 */
+    EXPECT(r.code == ISIS_GR_REFUSED_TLV_PAST_END && r.position == 26);
+    r = bare(passing, 8, 6); /* a lone type octet there */
+    EXPECT(r.code == ISIS_GR_REFUSED_TLV_PAST_END && r.position == 26);
+    p2p(HELLO_UP, -1, 0);
+    hello_tlv(&h, 211, NULL, 0);
+    frame[8] = 4; /* the circuit type, ahead of any TLV */
+    r = receive(P2P, peer_mac);
+    EXPECT(r.code == ISIS_GR_REFUSED_BAD_TLV && r.position == 9);
+    lan(1, peer, 64, 0, 1); /* a list of 8 octets from 28 on, a Restart TLV of 3 */
+    hello_tlv(&h, 6, us, 5);
+    EXPECT(receive(LAN, peer_mac).position == 39);
+}
+
 /* docs/RULES.md, "The state step" and "Marks and holding time of an accepted frame", on P2P */
 static void p2p_record(void) {
     isis_gr_received r;
@@ -372,6 +413,7 @@ static void each_setting(void) {
 
 int main(void) {
     fourteen_refusals();
+    positions();
     p2p_record();
     lan_records();
     restart_without_neighbours();

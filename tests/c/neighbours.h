@@ -130,10 +130,13 @@ static inline isis_gr_call refused_call(uint32_t code, uint8_t *out, size_t room
     return call;
 }
 
-/* an answer of a refusal: its number, and the other fields 0 */
+/* refusals 5 and 6 alone bring a position (document 02, W-206) */
+static inline int has_position(uint32_t code) { return code == ISIS_GR_REFUSED_TLV_PAST_END || code == ISIS_GR_REFUSED_BAD_TLV; }
+
+/* an answer of a refusal: its number, a position with 5 and 6, and the other fields 0 */
 static inline void refused(uint32_t code, isis_gr_received r) {
     static const uint8_t none[6] = {0};
-    EXPECT(r.code == code);
+    EXPECT(r.code == code && (r.position != 0) == has_position(code));
     EXPECT(r.reply == ISIS_GR_REPLY_NONE && r.remaining == 0 && r.csnps == 0 && r.t1_end == ISIS_GR_T1_KEPT && r.hello_flags == 0);
     EXPECT(r.timers.restart == ISIS_GR_RESTART_NONE && r.timers.spf == 0 && r.timers.overload == ISIS_GR_OVERLOAD_KEEP);
     EXPECT(r.level == 0 && memcmp(r.system_id, none, 6) == 0 && r.before == ISIS_GR_RECORD_NONE && r.after == ISIS_GR_RECORD_NONE && r.advertised == 0);

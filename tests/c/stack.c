@@ -76,8 +76,8 @@ static struct {
     size_t most, most_through;
     unsigned inputs, done;
 } calls[CALLS] = {
-    ROW(gateway_words, 16), ROW(frame_octets, 16), ROW(set_up, 64), ROW(fault, 32), ROW(receive, 320), ROW(begin_frame, 16), ROW(add_chunk, 64),
-    ROW(end_frame, 272), ROW(tick, 144), ROW(release, 64), ROW(clear, 16), ROW(csnp_complete, 96), ROW(database_complete, 96), ROW(look_up, 64),
+    ROW(gateway_words, 16), ROW(frame_octets, 16), ROW(set_up, 64), ROW(fault, 32), ROW(receive, 352), ROW(begin_frame, 16), ROW(add_chunk, 64),
+    ROW(end_frame, 336), ROW(tick, 144), ROW(release, 64), ROW(clear, 16), ROW(csnp_complete, 96), ROW(database_complete, 96), ROW(look_up, 64),
     ROW(link_metric, 16), ROW(next_hello_flags, 16), ROW(waiting_t1s, 16), ROW(why, 800),
 };
 

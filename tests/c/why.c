@@ -78,9 +78,9 @@ static isis_gr_reason of_peer(uint8_t question, isis_gr_call call, uint8_t circu
     return circuit == P2P ? ask(question, call, P2P, 0, peer, NULL) : ask(question, call, circuit, 1, peer, peer_mac);
 }
 
-/* a reason and its number or line, and the other fields 0 */
+/* a reason and its number or line, a position with refusals 5 and 6, and the other fields 0 */
 static void told(isis_gr_reason r, uint8_t reason, uint8_t refused, uint8_t line) {
-    EXPECT(r.reason == reason && r.refused == refused && r.line == line);
+    EXPECT(r.reason == reason && r.refused == refused && r.line == line && (r.position != 0) == has_position(refused));
     EXPECT(memcmp(r.system_id, none, 6) == 0 && r.priority == 0 && memcmp(r.mac, none, 6) == 0);
 }
 
@@ -112,6 +112,7 @@ static void not_advertised(void) {
     p2p(3, 0, 0);
     told(of_peer(q, hello_from(P2P, peer_mac), P2P), ISIS_GR_REASON_NOT_SO, 0, 0);
     told(ask(q, hello_from(P2P, peer_mac), P2P, 0, third, third_mac), ISIS_GR_REASON_REFUSED, ISIS_GR_REFUSED_BAD_TLV, 0);
+    EXPECT(ask(q, hello_from(P2P, peer_mac), P2P, 0, third, third_mac).position == 21); /* the first TLV of a P2P hello */
     told(ask(q, tick(99), P2P, 3, peer, third_mac), ISIS_GR_REASON_NOT_SO, 0, 0); /* on P2P level and MAC count for nothing */
 
     lan(1, peer, 64, NO_TLV, 0);
