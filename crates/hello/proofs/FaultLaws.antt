@@ -20,6 +20,8 @@ use Rattle.hello.specs.ThreeWay.{threeWayBad, threeWayFault}
 use Rattle.hello.specs.Header.{layoutOf}
 use Rattle.hello.specs.Hello.{ofKind, earlier, faultOn, tlvFault, faultBy, faultIn, refusedAt, RefusesAt}
 use Rattle.hello.specs.declared.header.Selected.{Selected}
+use Rattle.hello.specs.declared.read.Read.{Read}
+use Rattle.hello.specs.declared.read.Read.the-variants.{Refused}
 use Rattle.hello.specs.declared.header.Selected.the-variants.{Fit, Unfit}
 use Rattle.basics.specs.Octets.{octet}
 use Rattle.basics.specs.declared.refusal.Refusal.{Refusal}
@@ -110,10 +112,13 @@ tlv-within l p =
     earlier-within (length p) _ _ (lone-within (length p) restartBad (ofKind 211 l p) (standing 211 p (l .header)))
     (earlier-within (length p) _ _ (reverse-within (length p) (ofKind 16 l p) (standing 16 p (l .header))) (link-within (l .kind) l p))
 
--- the refusal there
-pub refuses-at : (why : ℕ → Refusal) (f : Found) (p : ℕ) (x : Refusal) → f ≡ At p → x ≡ why (p + 1) → RefusesAt why f x
+-- the refusal at a place, in octets counted from 1
+pub refused-here : (why : ℕ → Refusal) (p : ℕ) (r : Read) → refusedAt why (At p) r ≡ Refused (why (p + 1))
 unfolding refusedAt
-refuses-at why f p x e q r = rw (e, q)
+refused-here why p r = refl
+
+pub refuses-at : (why : ℕ → Refusal) (f : Found) (p : ℕ) (x : Refusal) → f ≡ At p → x ≡ why (p + 1) → RefusesAt why f x
+refuses-at why f p x e q r = rw (e, q) (sym (refused-here why p r))
 
 -- the layout that a PDU chooses is the one that it was read by
 module _ (l : Layout) (p : List ℕ) (e : layoutOf (octet p 4) ≡ Fit l) where

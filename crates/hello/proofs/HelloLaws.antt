@@ -16,6 +16,7 @@ use Rattle.tlv.specs.declared.tlvs.Walk.the-variants.{Whole, Cut}
 use Rattle.basics.proofs.BoolLaws.{neither, or-true, by-test}
 use Rattle.tlv.proofs.TlvLaws.{unless-found, unless-none, unless-is-bad, unless-is-good, walk-is-cut, walk-is-whole}
 use Rattle.restart_tlv.specs.Restart.{restartFault}
+use Rattle.hello.proofs.FaultLaws.{refused-here}
 use Rattle.hello.specs.Header.{layoutOf, notHello, badLength, pduLength}
 use Rattle.hello.specs.Reverse.{reverseFault, reverseIn, reverseRead}
 use Rattle.hello.specs.ThreeWay.{threeWayFault, threeWayIn, threeWayRead}
@@ -75,10 +76,15 @@ module _ (l : Layout) (p : List ℕ) where
   pub by-link : isFound (linkFault l p) ≡ true → isFound (tlvFault l p) ≡ true
   by-link e = found-tlv ∙ rw (e, or-true (isFound (reverseFault (ofKind 16 l p))), or-true (isFound (restartFault (ofKind 211 l p))))
 
+  -- the circuit type comes ahead of any TLV
+  at-circuit : eqb (octet p 8 % 4) 0 ≡ true → ruleFault l p ≡ At 8
+  unfolding ruleFault
+  at-circuit e = rw e refl
+
 module _ (l : Layout) (mac : ℕ) (p : List ℕ) where
   pub by-circuit : eqb (octet p 8 % 4) 0 ≡ true → tlvsRead l mac p ≡ Refused (BadTlv 9)
-  unfolding tlvsRead ruleFault refusedAt
-  by-circuit e = rw e
+  unfolding tlvsRead
+  by-circuit e = ap (λ (f : Found). refusedAt BadTlv f (Accepted (helloOf l mac p))) (at-circuit l p e) ∙ refused-here BadTlv 8 _
 
   -- the TLVs, where the circuit type passes
   pub past-circuit : eqb (octet p 8 % 4) 0 ≡ false → tlvsRead l mac p ≡ refusedAt BadTlv (tlvFault l p) (Accepted (helloOf l mac p))
@@ -99,8 +105,8 @@ module _ (l : Layout) (mac : ℕ) (p : List ℕ) where
 
   -- refusal 5, and what follows it
   pub at-cut : (q : ℕ) → walkOf (tlvs p (l .header)) ≡ Cut q → pduRead l mac p ≡ Refused (TlvPastEnd (q + 1))
-  unfolding pduRead refusedAt
-  at-cut q e = rw (walk-is-cut _ q e)
+  unfolding pduRead
+  at-cut q e = rw (walk-is-cut _ q e) (refused-here TlvPastEnd q _)
 
   pub at-whole : (n : Counts) → walkOf (tlvs p (l .header)) ≡ Whole n → pduRead l mac p ≡ tlvsRead l mac p
   unfolding pduRead

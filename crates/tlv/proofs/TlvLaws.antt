@@ -148,6 +148,12 @@ unfolding isFound
 several-by t [] = refl
 several-by t (u ∷ ts) = refl
 
+-- of a type that may come at most once: the first keeps its rule, and the second is the one that is named
+lone-next : (rule : List ℕ → Bool) (t : Tlv) (ts : List Tlv) → rule (t .value) ≡ false → loneFault rule (t ∷ ts) ≡ firstAt ts
+unfolding loneFault
+lone-next rule t [] e = rw e refl
+lone-next rule t (u ∷ ts) e = rw e refl
+
 module _ (s : List ℕ) (from k p : ℕ) (f : FoundAt s from k p) where
   pub found-list : ofType k (tlvs s from) ≡ record { at = p; value = valueAt s p } ∷ ofType k (tlvs s (nextAt s p))
   found-list = f .same ∙ f .here
@@ -162,7 +168,7 @@ module _ (s : List ℕ) (from k p : ℕ) (f : FoundAt s from k p) where
 
     pub lone-second : rule (valueAt s p) ≡ false → loneFault rule (ofType k (tlvs s from)) ≡ firstAt (ofType k (tlvs s (nextAt s p)))
     unfolding loneFault
-    lone-second e = rw (found-list, e)
+    lone-second e = ap (loneFault rule) found-list ∙ lone-next rule (record { at = p; value = valueAt s p }) (ofType k (tlvs s (nextAt s p))) e
 
 pub lone-none : (rule : List ℕ → Bool) (ts : List Tlv) → ts ≡ [] → loneFault rule ts ≡ Nothing
 unfolding loneFault
