@@ -236,7 +236,12 @@ static void hello_came(const uint8_t *source, const uint8_t *frame, size_t n) {
     }
     r = chunk ? receive_chunks(source, frame, n, reply) : isis_gr_receive(&g, CIRCUIT, source, frame, n, reply, sizeof reply);
     if (r.code != ISIS_GR_OK) {
-        say("refused %u: %s", (unsigned)r.code, isis_gr_text(r.code));
+        if (r.position == 0) {
+            say("refused %u: %s", (unsigned)r.code, isis_gr_text(r.code));
+        } else { /* 5 and 6 say where; behind the PDU there is nothing to show */
+            say("refused %u: %s, at octet %u: %u", (unsigned)r.code, isis_gr_text(r.code), (unsigned)r.position,
+                r.position <= n ? (unsigned)frame[r.position - 1] : 0u);
+        }
         return;
     }
     learn(frame, source, &r); /* before the reply, which shows it (RFC 8706, 3.2.1) */

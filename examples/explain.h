@@ -19,7 +19,10 @@ static inline void explain(char out[EXPLAIN_ROOM], uint8_t question, isis_gr_rea
     } else if (r.reason == ISIS_GR_REASON_NOT_SO) {
         snprintf(out, EXPLAIN_ROOM, "not so: %s", not_so[question]);
     } else if (r.reason == ISIS_GR_REASON_REFUSED) {
-        snprintf(out, EXPLAIN_ROOM, "%s: the frame was refused %u (%s)", asked[question], r.refused, isis_gr_text(r.refused));
+        int n = snprintf(out, EXPLAIN_ROOM, "%s: the frame was refused %u (%s)", asked[question], r.refused, isis_gr_text(r.refused));
+        if (r.position != 0 && n > 0 && n < EXPLAIN_ROOM) {
+            snprintf(out + n, (size_t)(EXPLAIN_ROOM - n), ", at octet %u", r.position);
+        }
     } else if (r.reason == ISIS_GR_REASON_LINE && r.line >= 2 && r.line <= 5) {
         snprintf(out, EXPLAIN_ROOM, "%s: line %u fits the frame (%s)", asked[question], r.line, lines[r.line - 2]);
     } else if (r.reason == ISIS_GR_REASON_OUTRANKED) {

@@ -164,7 +164,7 @@ static void hello_came(end *e, const uint8_t *source, const uint8_t *frame, size
     uint8_t reply[ISIS_GR_REPLY_OCTETS];
     isis_gr_received r = isis_gr_receive(&e->g, CIRCUIT, source, frame, length, reply, sizeof reply);
     if (r.code != ISIS_GR_OK) {
-        say(e, "refuses a hello: %u, %s", (unsigned)r.code, isis_gr_text(r.code));
+        say(e, "refuses a hello: %u, %s, octet %u", (unsigned)r.code, isis_gr_text(r.code), (unsigned)r.position); /* 0 but of 5 and 6 */
         return;
     }
     learn(e, frame, r.system_id);
