@@ -62,7 +62,8 @@ fn tlv_fault(pdu: &[u8], layout: Layout) -> Found
     earlier_of(restart, earlier_of(reverse, link))
 }
 
-// Refusal 6 of a PDU in which a TLV breaks a rule. It takes the PDU alone and chooses its layout anew, so that an accepted frame keeps nothing for it.
+// Refusal 6 of a PDU in which a TLV breaks a rule. It takes the PDU alone and chooses its layout anew, so that an accepted frame keeps nothing for it. There is
+// a layout and a place, since a rule is broken: both other returns are never taken.
 pub fn bad_tlv(pdu: &[u8]) -> Refusal
     requires { ⌜ Sized (now pdu) × (isFound (faultIn (now pdu)) ≡ true) ⌝ }
     ensures { λ r. ⌜ RefusesAt BadTlv (faultIn (now (pdu .entry))) r ⌝ }
