@@ -65,7 +65,7 @@ static isis_gr_received in_chunks(isis_gr_gateway *g, uint8_t circuit, const uin
 
 /* of the end and of the receive */
 static void require_same(isis_gr_received a, isis_gr_received b) {
-    require(a.code == b.code && a.reply == b.reply && a.remaining == b.remaining && a.csnps == b.csnps && a.t1_end == b.t1_end);
+    require(a.code == b.code && a.position == b.position && a.reply == b.reply && a.remaining == b.remaining && a.csnps == b.csnps && a.t1_end == b.t1_end);
     require(a.hello_flags == b.hello_flags && memcmp(&a.timers, &b.timers, sizeof a.timers) == 0);
     require(a.level == b.level && memcmp(a.system_id, b.system_id, 6) == 0 && a.before == b.before && a.after == b.after && a.advertised == b.advertised);
 }
@@ -121,6 +121,7 @@ int LLVMFuzzerTestOneInput(const uint8_t *data, size_t size) {
         require(memcmp(&g, &before, sizeof g) == 0);
         r = isis_gr_receive(&g, circuit, source, frame, length, reply, room);
         require(r.code <= ISIS_GR_REFUSED_NO_ROOM);
+        require(r.position <= length + 1 && (r.position >= 9) == (r.code == ISIS_GR_REFUSED_TLV_PAST_END || r.code == ISIS_GR_REFUSED_BAD_TLV));
         require(memcmp(&g, &after, sizeof g) == 0 && (room == 0 || memcmp(lent, reply, room) == 0));
         require_reason(question, why, r, isis_gr_look_up(&g, circuit, level, id, source));
         ended = in_chunks(&chunked, circuit, source, frame, length, joined, room);
