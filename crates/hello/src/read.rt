@@ -70,7 +70,7 @@ pub enum Read {
 }
 
 fn read_lan(pdu: &[u8], layout: Layout, count: usize, mac: u64) -> LinkRead
-    requires { ⌜ Sized (now pdu) × (count ≡ length (ofKind 6 layout (now pdu))) ⌝ }
+    requires { ⌜ (20 ≤ length (now pdu)) × (count ≡ length (ofKind 6 layout (now pdu))) ⌝ }
     ensures { λ r. ⌜ r ≡ linkRead CircuitKind.Lan layout mac (now (pdu .entry)) ⌝ }
 {
     let level = layout.level;
@@ -95,7 +95,7 @@ fn read_p2p(pdu: &[u8], layout: Layout, count: usize, mac: u64) -> LinkRead
 }
 
 fn read_link(pdu: &[u8], layout: Layout, counts: Counts, mac: u64) -> LinkRead
-    requires { ⌜ Sized (now pdu) × (counts ≡ countsOf (tlvs (now pdu) (layout .header))) ⌝ }
+    requires { ⌜ (20 ≤ length (now pdu)) × (counts ≡ countsOf (tlvs (now pdu) (layout .header))) ⌝ }
     ensures { λ r. ⌜ r ≡ linkRead (layout .kind) layout mac (now (pdu .entry)) ⌝ }
 {
     let kind = layout.kind;

@@ -23,7 +23,7 @@ use Rattle.timers.specs.Hellos.{Hellos, hellosOf}
 use Rattle.timers.specs.declared.outcome.Overload.the-variants.{Quiet}
 use Rattle.timers.specs.declared.outcome.TimerOutcome.{TimerOutcome}
 use Rattle.timers.specs.declared.outcome.TimerOutcome.the-variants.{Idle, Goes, Ended}
-use Rattle.model.specs.Numbers.{refusalNo, positionNo, replyFlags, replyTime, someWaits, lowestNo, levelsNo, isOrdered, csnpsNo, freedNo, helloNo, overloadNo, restartNo, markNo, phaseNo, stateNo}
+use Rattle.model.specs.Numbers.{refusalNo, replyFlags, replyTime, someWaits, lowestNo, levelsNo, isOrdered, csnpsNo, freedNo, helloNo, overloadNo, restartNo, markNo, phaseNo, stateNo}
 use Rattle.model.specs.declared.answers.Change.{Change}
 use Rattle.model.specs.declared.answers.Orders.{Orders}
 use Rattle.model.specs.declared.answers.Received.{Received as ReceivedCode}
@@ -100,18 +100,12 @@ pub data Answer : Type 0 where
   Ticked : (lost : List Bool) → Hellos → TimersAnswer → Answer
   Told : Fact → Answer
 
--- the number of a refusal, and its position; 0 where the call was done
+-- the number of a refusal; 0 where the call was done
 abbrev pub numberOf : Answer → ℕ
 numberOf (Refused x) = refusalNo x
 numberOf (Received f) = 0
 numberOf (Ticked lost hellos t) = 0
 numberOf (Told f) = 0
-
-abbrev pub positionOf : Answer → ℕ
-positionOf (Refused x) = positionNo x
-positionOf (Received f) = 0
-positionOf (Ticked lost hellos t) = 0
-positionOf (Told f) = 0
 
 -- ---- the parts, of the code's
 
