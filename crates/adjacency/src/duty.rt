@@ -6,7 +6,7 @@ use crate::record::{Mark, Record, State};
 use basics::levels::Levels;
 
 // Our own pair (priority, MAC), at a level.
-#[derive(Drop)]
+#[derive(Clone, Copy)]
 pub struct Rank {
     pub level: u8,
     pub priority: u8,
@@ -14,7 +14,7 @@ pub struct Rank {
 }
 
 // The order (an action the caller must take) to send CSNPs and set flooding marks, for these levels.
-#[derive(Drop)]
+#[derive(Clone, Copy)]
 pub enum Csnps {
     Nothing,
     Ordered(Levels),

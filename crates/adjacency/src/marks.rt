@@ -9,7 +9,7 @@ use restart_tlv::reader::RestartTlv;
 use restart_tlv::writer::Ack;
 
 // The line of document 01 that fits a frame.
-#[derive(Drop)]
+#[derive(Clone, Copy)]
 pub enum Line {
     One,
     Two,
@@ -19,7 +19,7 @@ pub enum Line {
 }
 
 // What a frame's Restart TLV says of its record: the line that fits, its Remaining Time, and whether the record is Suppressed.
-#[derive(Drop)]
+#[derive(Clone, Copy)]
 pub struct Road {
     pub line: Line,
     pub time: u16,
@@ -27,7 +27,7 @@ pub struct Road {
 }
 
 // What an expiry is made of: the clock, the frame's Holding Time, the configured time, the frame's Remaining Time, and the expiry before.
-#[derive(Drop)]
+#[derive(Clone, Copy)]
 pub struct Times {
     pub clock: u32,
     pub hold: u16,
@@ -37,7 +37,7 @@ pub struct Times {
 }
 
 // The reply: none, or RA or PA with a Remaining Time.
-#[derive(Drop)]
+#[derive(Clone, Copy)]
 pub enum Acknowledgement {
     Nothing,
     Send(Ack, u16),

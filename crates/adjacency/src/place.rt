@@ -2,7 +2,7 @@
 use crate::record::Record;
 
 // No record, a record, or a place that the circuit does not have: a P2P circuit has room for one.
-#[derive(Drop)]
+#[derive(Clone, Copy)]
 pub enum Slot {
     Free,
     Held(Record),

@@ -16,7 +16,7 @@ use hello::read::{Hello, Link};
 use restart_tlv::reader::RestartTlv;
 
 // Refused (8), or the record afterwards, the reply, and the line that fitted.
-#[derive(Drop)]
+#[derive(Clone, Copy)]
 pub enum Reaction {
     Refused(Refusal),
     Accepted(Adjacency, Acknowledgement, Line),

@@ -5,7 +5,7 @@ ghost use Rattle.adjacency.specs.Record.{advertised, phase_of, expiry_of, mark_o
 use hello::reverse::ReverseMetric;
 
 // Restart and Planned are never both marked, and only an UP record has either.
-#[derive(Drop)]
+#[derive(Clone, Copy)]
 pub enum Mark {
     Clear,
     Restart,
@@ -13,7 +13,7 @@ pub enum Mark {
 }
 
 // What is kept of the last accepted frame.
-#[derive(Drop)]
+#[derive(Clone, Copy)]
 pub struct Last {
     pub priority: u8,
     pub tlv: bool,
@@ -21,42 +21,42 @@ pub struct Last {
 }
 
 // The data of either state.
-#[derive(Drop)]
+#[derive(Clone, Copy)]
 pub struct Data {
     pub expiry: u64,
     pub suppressed: bool,
     pub last: Last,
 }
 
-#[derive(Drop)]
+#[derive(Clone, Copy)]
 pub enum State {
     Init(Data),
     Up(Data, Mark),
 }
 
 // A LAN record is known by level, System ID and source MAC. A P2P record is known by its System ID; its level and MAC are 0.
-#[derive(Drop)]
+#[derive(Clone, Copy)]
 pub struct Key {
     pub level: u8,
     pub system: u64,
     pub mac: u64,
 }
 
-#[derive(Drop)]
+#[derive(Clone, Copy)]
 pub struct Record {
     pub key: Key,
     pub state: State,
 }
 
 // The record with a key, if one stands.
-#[derive(Drop)]
+#[derive(Clone, Copy)]
 pub enum Adjacency {
     Absent,
     Present(State),
 }
 
 // No record, INIT or UP.
-#[derive(Drop)]
+#[derive(Clone, Copy)]
 pub enum Phase {
     Gone,
     Init,

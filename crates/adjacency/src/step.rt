@@ -12,7 +12,7 @@ use restart_tlv::reader::RestartTlv;
 
 // What is known where a frame comes: the clock, whether the mode is Restarting, our System ID, and the circuit's own extended circuit
 // ID and configured holding time.
-#[derive(Drop)]
+#[derive(Clone, Copy)]
 pub struct Here {
     pub clock: u32,
     pub restarting: bool,
@@ -104,7 +104,7 @@ fn is_wrong_circuit(own: u32, ids: Identifiers) -> bool
 }
 
 // What of a three-way TLV's identifiers is present and not ours; a LAN frame has none.
-#[derive(Drop)]
+#[derive(Clone, Copy)]
 pub struct Wrong {
     pub id: bool,
     pub system: bool,

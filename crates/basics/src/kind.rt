@@ -1,5 +1,5 @@
 // The kind of a circuit (document 01, "What the gateway holds").
-#[derive(Drop)]
+#[derive(Clone, Copy)]
 pub enum CircuitKind {
     Lan,
     P2p,

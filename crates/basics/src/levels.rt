@@ -2,7 +2,7 @@
 ghost use Rattle.std.specs.Prelude.{◌≡◌};
 ghost use Rattle.basics.specs.Levels.{within, union, has_level, only_level, some_on};
 
-#[derive(Drop)]
+#[derive(Clone, Copy)]
 pub struct Levels {
     pub one: bool,
     pub two: bool,

@@ -1,5 +1,7 @@
 // What every crate stands on: octets as numbers, levels, circuit kinds, masks over circuits and over their T1s, and the refusals
 // (document 01). No state; callers: all crates.
+#![tactic(auto)]
+
 pub mod octets; // octets.rt: big-endian numbers
 pub mod bits; // bits.rt: a truth value as a digit
 pub mod levels; // levels.rt: a set of levels

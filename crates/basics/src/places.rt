@@ -8,7 +8,7 @@ use crate::mask::CIRCUITS;
 pub const T1_PLACES: usize = 2 * CIRCUITS;
 
 // The lowest circuit of a mask, by its number from 1.
-#[derive(Drop)]
+#[derive(Clone, Copy)]
 pub enum Lowest {
     Circuit(u8),
     Nothing,

@@ -1,6 +1,6 @@
-// Why a call is refused, in the order of the numbers (document 01, "Refusals by number"; document 02, W-205 and W-207), which themselves
-// stand in crate model. 5 and 6 bring a position in the frame, counted in octets from 1 (document 02, W-206).
-#[derive(Drop)]
+// Why a call is refused, in the order of the numbers (document 01, "Refusals by number"; document 02, W-205), which themselves stand in crate
+// model. 5 and 6 bring a position in the frame, counted in octets from 1 (document 02, W-206).
+#[derive(Clone, Copy)]
 pub enum Refusal {
     NoCircuit,
     ReplyRoom,
@@ -16,6 +16,4 @@ pub enum Refusal {
     BadSetting,
     NotBegun,
     TooLong,
-    UnevenLists,
-    WrongSum,
 }

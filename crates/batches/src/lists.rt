@@ -15,7 +15,7 @@ pub const PLACE_WORDS: usize = 2;
 pub const REPLY_OCTETS: usize = 11;
 
 // Of a batch: how many frames were taken.
-#[derive(Drop)]
+#[derive(Clone, Copy)]
 pub enum Queued {
     Refused(Refusal),
     Taken(u8),

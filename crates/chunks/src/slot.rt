@@ -14,14 +14,14 @@ pub const SLOT_WORDS: usize = 2;
 pub const MOST_OCTETS: usize = 1500;
 
 // What the words say: the MAC and the length of a frame that was begun.
-#[derive(Drop)]
+#[derive(Clone, Copy)]
 pub enum Pending {
     Idle,
     Begun(u64, usize),
 }
 
 // Of a begin or a chunk.
-#[derive(Drop)]
+#[derive(Clone, Copy)]
 pub enum Handed {
     Refused(Refusal),
     Done,

@@ -53,7 +53,7 @@ fn store_settings(
 }
 
 // The settings but for the circuits.
-#[derive(Drop)]
+#[derive(Clone, Copy)]
 pub struct Basis {
     pub system: u64,
     pub lengths: Lengths,

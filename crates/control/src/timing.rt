@@ -23,7 +23,7 @@ use timers::events::HeardOrders;
 use timers::hellos::{HelloOrder, HelloOrders};
 use timers::outcome::TimerOutcome;
 
-#[derive(Drop)]
+#[derive(Clone, Copy)]
 pub struct TickOrders {
     pub hellos: HelloOrders,
     pub outcome: TimerOutcome,

@@ -13,7 +13,7 @@ use settings::mode::Mode;
 use settings::setup::Settings;
 
 // One circuit's settings, as a caller gives them. The id is our own extended circuit ID, which only a P2P circuit has.
-#[derive(Drop)]
+#[derive(Clone, Copy)]
 pub struct CircuitSettings {
     pub kind: CircuitKind,
     pub levels: Levels,
@@ -25,7 +25,7 @@ pub struct CircuitSettings {
 }
 
 // The gateway's circuits are the first `count` of them, numbered from 1.
-#[derive(Drop)]
+#[derive(Clone, Copy)]
 pub struct GatewaySettings {
     pub system: [u8; 6],
     pub lengths: Lengths,

@@ -21,7 +21,7 @@ use settings::circuit::Chosen;
 pub const FRAME_OCTETS: usize = MOST_OCTETS * CIRCUITS;
 
 // The unfinished frame that an end takes: its MAC, and where its octets start and end; or refusal 1 or 13.
-#[derive(Drop)]
+#[derive(Clone, Copy)]
 pub enum Taken {
     Refused(Refusal),
     Frame(u64, usize, usize),

@@ -25,7 +25,7 @@ pub const PRIORITY: usize = 19;
 const MAX_PDU: usize = 1492;
 
 // The layout of a hello: the octets of its fixed header, its level (0 on P2P), and the kind of circuit that it is for.
-#[derive(Drop)]
+#[derive(Clone, Copy)]
 pub struct Layout {
     pub header: usize,
     pub level: u8,
@@ -33,7 +33,7 @@ pub struct Layout {
 }
 
 // What a PDU type chooses: a layout, or none, where it is no hello's.
-#[derive(Drop)]
+#[derive(Clone, Copy)]
 pub enum Selected {
     Fit(Layout),
     Unfit,

@@ -21,7 +21,7 @@ use restart_tlv::reader::{RestartRead, RestartTlv, read_restart};
 use tlv::tlvs::{Counts, Walk, walked};
 
 // What depends on the circuit's kind. Of a LAN: the level, the sender's priority, and whether our MAC is listed.
-#[derive(Drop)]
+#[derive(Clone, Copy)]
 pub enum Link {
     Lan {
         level: u8,
@@ -31,14 +31,14 @@ pub enum Link {
     P2p(ThreeWay),
 }
 
-#[derive(Drop)]
+#[derive(Clone, Copy)]
 pub enum LinkRead {
     Bad,
     Good(Link),
 }
 
 // A decoded hello: the source System ID, the Holding Time, and what its TLVs say.
-#[derive(Drop)]
+#[derive(Clone, Copy)]
 pub struct Hello {
     pub system: u64,
     pub hold: u16,
@@ -47,7 +47,7 @@ pub struct Hello {
     pub link: Link,
 }
 
-#[derive(Drop)]
+#[derive(Clone, Copy)]
 pub enum Read {
     Refused(Refusal),
     Accepted(Hello),

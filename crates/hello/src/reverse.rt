@@ -18,7 +18,7 @@ const W: u8 = 1;
 const U: u8 = 2;
 
 // The reverse metric of a frame: the offset, and its flags.
-#[derive(Drop)]
+#[derive(Clone, Copy)]
 pub enum ReverseMetric {
     Absent,
     Present {
@@ -29,7 +29,7 @@ pub enum ReverseMetric {
 }
 
 // What reading it gives: a rule is broken, or the reverse metric.
-#[derive(Drop)]
+#[derive(Clone, Copy)]
 pub enum ReverseRead {
     Bad,
     Good(ReverseMetric),

@@ -11,7 +11,7 @@ use basics::octets::{four, six};
 use tlv::tlvs::{Found, THREE_WAY, find, find_after, value_at, value_of};
 
 // The neighbour's state of this adjacency.
-#[derive(Drop)]
+#[derive(Clone, Copy)]
 pub enum ThreeWayState {
     Up,
     Initializing,
@@ -20,7 +20,7 @@ pub enum ThreeWayState {
 
 // What follows the state, by the TLV's length: 1, 5, 11 or 15. The sender's own extended circuit ID, the Neighbor System ID
 // and the Neighbor Extended Circuit ID.
-#[derive(Drop)]
+#[derive(Clone, Copy)]
 pub enum Identifiers {
     Absent,
     Own(u32),
@@ -28,14 +28,14 @@ pub enum Identifiers {
     Whole(u32, u64, u32),
 }
 
-#[derive(Drop)]
+#[derive(Clone, Copy)]
 pub struct ThreeWay {
     pub state: ThreeWayState,
     pub ids: Identifiers,
 }
 
 // What reading it gives: a rule is broken, or the TLV.
-#[derive(Drop)]
+#[derive(Clone, Copy)]
 pub enum ThreeWayRead {
     Bad,
     Good(ThreeWay),

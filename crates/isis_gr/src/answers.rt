@@ -35,7 +35,7 @@ fn orders_word(o: Orders) -> u64
 
 // The two words of a frame's answer.
 #[repr(C)]
-#[derive(Drop)]
+#[derive(Clone, Copy)]
 pub struct ReceivedWords {
     pub answer: u64,
     pub change: u64,

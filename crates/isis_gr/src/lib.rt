@@ -1,6 +1,8 @@
 // The gateway's calls for C (document 01, "What the gateway holds"): numbers and slices only, so that an answer is one word. No call has
 // a precondition; each promises the number of the definition's answer (specs/Words.antt), and the memory and the reply buffer of
 // crate gateway's call. Callers: C, by a header that packs and unpacks.
+#![tactic(auto)]
+
 pub mod exports; // exports.rt: the calls
 mod numbers; // numbers.rt: the parts of an answer as numbers
 pub mod answers; // answers.rt: each answer as one word; that of a frame is for isis_gr_chunks

@@ -8,7 +8,7 @@ use model::answers::Received;
 use reasons::why::{Call, Reason};
 
 // A receive on a circuit, with its answer; or another call, and why a record that stood may be gone after it.
-#[derive(Drop)]
+#[derive(Clone, Copy)]
 pub enum Made {
     Frame(u8, Received),
     Other(Reason),

@@ -24,7 +24,7 @@ pub const UNKNOWN: u64 = 10;
 
 // The two words of a reason.
 #[repr(C)]
-#[derive(Drop)]
+#[derive(Clone, Copy)]
 pub struct ReasonWords {
     pub answer: u64,
     pub pair: u64,

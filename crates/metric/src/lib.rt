@@ -1,5 +1,7 @@
 // The link metric of a circuit (document 01, "Link metric"; RFC 8500, 3.1): the configured metric plus the neighbour's offset, held to a
 // limit. No state; caller: gateway.
+#![tactic(auto)]
+
 ghost use Rattle.std.specs.Prelude.{◌≡◌, ◌+◌};
 ghost use Rattle.metric.specs.Metric.{held_to, limit_of, raised, state_metric, link_metric};
 

@@ -12,7 +12,7 @@ use timers::outcome::TimerOutcome;
 
 // What became of the record of a frame: its key's level (0 on P2P) and System ID, its state before and after, and whether it is advertised
 // after.
-#[derive(Drop)]
+#[derive(Clone, Copy)]
 pub struct Change {
     pub level: u8,
     pub system: u64,
@@ -23,7 +23,7 @@ pub struct Change {
 
 // Of an accepted frame: the reply that was written, line 1's order, how the timers ended and what they order, whether the frame's T1 was
 // stopped for want of a Restart TLV, the hello that is ordered on the circuit (on a LAN, of its level), and what became of the record.
-#[derive(Drop)]
+#[derive(Clone, Copy)]
 pub struct Orders {
     pub reply: Acknowledgement,
     pub csnps: Csnps,
@@ -33,14 +33,14 @@ pub struct Orders {
     pub change: Change,
 }
 
-#[derive(Drop)]
+#[derive(Clone, Copy)]
 pub enum Received {
     Refused(Refusal),
     Done(Orders),
 }
 
 // Of a tick: the circuits that lost a record, the hellos that are ordered, and how the timers ended.
-#[derive(Drop)]
+#[derive(Clone, Copy)]
 pub enum Ticked {
     Refused(Refusal),
     Done {
@@ -51,48 +51,48 @@ pub enum Ticked {
 }
 
 // Of a call with nothing to report: release and clear.
-#[derive(Drop)]
+#[derive(Clone, Copy)]
 pub enum Released {
     Refused(Refusal),
     Done,
 }
 
 // Of a notice: how the timers ended and what they order.
-#[derive(Drop)]
+#[derive(Clone, Copy)]
 pub enum Noticed {
     Refused(Refusal),
     Done(TimerOutcome),
 }
 
 // Of a look up: the state of the record with the key and whether it is advertised, or that there is none.
-#[derive(Drop)]
+#[derive(Clone, Copy)]
 pub enum Looked {
     Refused(Refusal),
     Nothing,
     Found { state: State, advertised: bool },
 }
 
-#[derive(Drop)]
+#[derive(Clone, Copy)]
 pub enum Metric {
     Refused(Refusal),
     Link(u32),
 }
 
-#[derive(Drop)]
+#[derive(Clone, Copy)]
 pub enum NextFlags {
     Refused(Refusal),
     Next(Flags),
 }
 
 // How many T1s run, and the lowest circuit with one.
-#[derive(Drop)]
+#[derive(Clone, Copy)]
 pub struct Waiting {
     pub count: u32,
     pub lowest: Lowest,
 }
 
 // Of setup: the hellos that are ordered.
-#[derive(Drop)]
+#[derive(Clone, Copy)]
 pub enum SetUp {
     Refused(Refusal),
     Done(HelloOrders),

@@ -8,7 +8,7 @@ use crate::search::is_listed_in;
 use tlv::tlvs::{Found, IS_NEIGHBOURS, find, value_at};
 
 // What reading them gives: a length is no multiple of 6, or whether a MAC is listed.
-#[derive(Drop)]
+#[derive(Clone, Copy)]
 pub enum ListRead {
     Bad,
     Good(bool),

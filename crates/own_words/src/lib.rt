@@ -1,6 +1,8 @@
 // The calls of document 01 on the gateway's own words ("What the gateway holds" and "Refusals by number"): the control words, then a room for each
 // circuit. Each function promises the answer, the words and the reply buffer of the definition's step (crate model).
 // Caller: gateway, which lends these words of the memory whole; isis_gr_why takes asks_level.
+#![tactic(auto)]
+
 pub mod words; // words.rt: their size
 pub mod frame; // frame.rt: receive
 pub mod ticks; // ticks.rt: tick, release and clear

@@ -3,7 +3,7 @@ use adjacency::marks::Line;
 use basics::refusal::Refusal;
 
 // Why is this neighbour not advertised, why did it vanish, why did we not order CSNPs?
-#[derive(Drop)]
+#[derive(Clone, Copy)]
 pub enum Question {
     NotAdvertised,
     Vanished,
@@ -12,7 +12,7 @@ pub enum Question {
 
 // A call of document 01 but setup, or clear, which is ours. What a receive lends, its source MAC, frame and reply buffer, stands beside it. The key of
 // a look up is not asked for: no reason depends on it.
-#[derive(Drop)]
+#[derive(Clone, Copy)]
 pub enum Call {
     Receive(u8),
     Tick(u32),
@@ -27,13 +27,13 @@ pub enum Call {
 }
 
 // Who has the CSNP duty on a LAN: we, or the router with the greatest pair (priority, MAC).
-#[derive(Drop)]
+#[derive(Clone, Copy)]
 pub enum Duty {
     Ours,
     Theirs { system: u64, priority: u8, mac: u64 },
 }
 
-#[derive(Drop)]
+#[derive(Clone, Copy)]
 pub enum Reason {
     NotSo,
     // not advertised

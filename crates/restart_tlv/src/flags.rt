@@ -6,7 +6,7 @@ ghost use Rattle.std.specs.Int.Bits.{bit_or};
 
 use basics::octets::has_bits;
 
-#[derive(Drop)]
+#[derive(Clone, Copy)]
 pub struct Flags {
     pub bits: u8,
 }

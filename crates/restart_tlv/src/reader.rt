@@ -12,14 +12,14 @@ use basics::octets::{six, two};
 use tlv::tlvs::{Found, RESTART, find, find_after, value_at, value_of};
 
 // Whom the TLV names.
-#[derive(Drop)]
+#[derive(Clone, Copy)]
 pub enum Neighbor {
     Unnamed,
     Named(u64),
 }
 
 // The Restart TLV of a frame. Ignored: it came with flags that may not stand together.
-#[derive(Drop)]
+#[derive(Clone, Copy)]
 pub enum RestartTlv {
     Absent,
     Ignored,
@@ -31,7 +31,7 @@ pub enum RestartTlv {
 }
 
 // What reading it gives: a rule is broken, or the TLV.
-#[derive(Drop)]
+#[derive(Clone, Copy)]
 pub enum RestartRead {
     Bad,
     Good(RestartTlv),

@@ -6,7 +6,7 @@ use crate::flags::Flags;
 use tlv::tlvs::RESTART;
 
 // What a reply acknowledges: a restart (RA) or a planned restart (PA).
-#[derive(Drop)]
+#[derive(Clone, Copy)]
 pub enum Ack {
     Restart,
     Planned,

@@ -61,7 +61,7 @@ fn accept_at(
 }
 
 // What is decided of a frame, and the state of its record before it.
-#[derive(Drop)]
+#[derive(Clone, Copy)]
 pub struct Decision {
     pub reaction: Reaction,
     pub before: Phase,

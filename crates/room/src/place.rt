@@ -12,7 +12,7 @@ use slots::slot::{PLACES, load, store};
 
 // The state of the record with a key, and the place that it has or would take: PLACES where the room is full and no record has the key
 // (refusal 9).
-#[derive(Drop)]
+#[derive(Clone, Copy)]
 pub struct Place {
     pub before: Adjacency,
     pub at: usize,

@@ -10,7 +10,7 @@ use slots::probe::{is_due_at, is_expired_at, is_planned_at};
 use slots::slot::{PLACES, clear};
 
 // Which records go: at a clock, those whose expiry is at or below it; or those marked Planned.
-#[derive(Drop)]
+#[derive(Clone, Copy)]
 enum Sweep {
     Expired(u64),
     Planned,

@@ -1,4 +1,6 @@
 // Document 01, "Sample runs", C1 to C13, through the public calls: one line a row. What it must print is written from the document.
+#![tactic(auto)]
+
 mod frames; // frames.rt: the frames that go in
 mod show; // show.rt: what is printed
 mod restarts; // restarts.rt: C1 to C7

@@ -12,7 +12,7 @@ pub const MAX_HOLD: u32 = 65535;
 pub const MAX_METRIC: u32 = 16777214;
 
 // The id is our own extended circuit ID, which only a P2P circuit has.
-#[derive(Drop)]
+#[derive(Clone, Copy)]
 pub struct Circuit {
     pub kind: CircuitKind,
     pub levels: Levels,
@@ -24,7 +24,7 @@ pub struct Circuit {
 }
 
 // The circuit of a number.
-#[derive(Drop)]
+#[derive(Clone, Copy)]
 pub enum Chosen {
     Known(Circuit),
     Unknown,

@@ -2,7 +2,7 @@
 ghost use Rattle.std.specs.Prelude.{◌≡◌};
 ghost use Rattle.settings.specs.Mode.{is_running, is_restarting, is_starting};
 
-#[derive(Drop)]
+#[derive(Clone, Copy)]
 pub enum Mode {
     Running,
     Restarting,

@@ -10,7 +10,7 @@ use basics::levels::Levels;
 use basics::places::has_place;
 
 // For each level a mask of the T1s that serve it.
-#[derive(Drop)]
+#[derive(Clone, Copy)]
 pub struct Serving {
     pub one: u16,
     pub two: u16,

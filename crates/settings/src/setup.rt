@@ -14,7 +14,7 @@ pub const MAX_LENGTH: u32 = 65535;
 pub const MAX_TRIES: u32 = 255;
 
 // The gateway's circuits are the first `count` of them, numbered from 1.
-#[derive(Drop)]
+#[derive(Clone, Copy)]
 pub struct Settings {
     pub system: u64,
     pub lengths: Lengths,

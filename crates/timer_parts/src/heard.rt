@@ -9,7 +9,7 @@ use restart_tlv::reader::{Neighbor, RestartTlv};
 
 // WithoutTlv: a P2P hello with no Restart TLV; true where it shows us Up with our own extended circuit ID. Acknowledged: whether it
 // shows us Up, and its Remaining Time. Plain: any other.
-#[derive(Drop)]
+#[derive(Clone, Copy)]
 pub enum Heard {
     WithoutTlv(bool),
     Acknowledged { up: bool, remaining: u16 },

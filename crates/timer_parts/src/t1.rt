@@ -11,7 +11,7 @@ use settings::mode::Mode;
 
 // What is kept of a T1: whether it ever began, its deadline, its expiries so far, whether an acknowledgement came, and the levels whose CSNP set
 // is complete.
-#[derive(Drop)]
+#[derive(Clone, Copy)]
 pub struct Entry {
     pub begun: bool,
     pub deadline: u64,
@@ -20,14 +20,14 @@ pub struct Entry {
     pub sets: Levels,
 }
 
-#[derive(Drop)]
+#[derive(Clone, Copy)]
 pub struct T1 {
     pub runs: bool,
     pub entry: Entry,
 }
 
 // Whether a frame with no Restart TLV stopped a running T1. Reinitialise: and the daemon must make the neighbour reinitialise.
-#[derive(Drop)]
+#[derive(Clone, Copy)]
 pub enum Freed {
     Kept,
     Stopped,

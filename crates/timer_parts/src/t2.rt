@@ -4,21 +4,21 @@ ghost use Rattle.timer_parts.specs.T2.{start_timer, start_t2s, t2_runs, expire_t
 
 use basics::levels::Levels;
 
-#[derive(Drop)]
+#[derive(Clone, Copy)]
 pub enum Timer {
     Stopped,
     Until(u64),
 }
 
 // The timer, and whether its level's database notice came.
-#[derive(Drop)]
+#[derive(Clone, Copy)]
 pub struct T2 {
     pub timer: Timer,
     pub noticed: bool,
 }
 
 // The T2 of level 1 and of level 2.
-#[derive(Drop)]
+#[derive(Clone, Copy)]
 pub struct T2s {
     pub one: T2,
     pub two: T2,

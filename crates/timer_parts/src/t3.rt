@@ -5,7 +5,7 @@ ghost use Rattle.timer_parts.specs.T3.{lower_t3, heard_t3, expires_t3, expired_t
 use crate::heard::Heard;
 use crate::t2::{T2s, any_after};
 
-#[derive(Drop)]
+#[derive(Clone, Copy)]
 pub enum T3 {
     Idle,
     Runs(u64),

@@ -81,7 +81,7 @@ pub fn store_t1(words: &mut [u64], mask: u16, i: usize, t: T1) -> u16
 }
 
 // The mask of running T1s, and that of the hello orders.
-#[derive(Drop)]
+#[derive(Clone, Copy)]
 pub struct Masks {
     pub mask: u16,
     pub hellos: u16,

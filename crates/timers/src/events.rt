@@ -26,7 +26,7 @@ use timer_parts::t3::{T3, hear_t3};
 
 // What setup gives to the timers: the mode, the lengths, the clock, which T1s the circuits have, and the levels that are enabled on some
 // circuit.
-#[derive(Drop)]
+#[derive(Clone, Copy)]
 pub struct Start {
     pub mode: Mode,
     pub lengths: Lengths,
@@ -35,13 +35,13 @@ pub struct Start {
     pub levels: Levels,
 }
 
-#[derive(Drop)]
+#[derive(Clone, Copy)]
 pub struct AfterStart {
     pub head: Head,
     pub hellos: HelloOrders,
 }
 
-#[derive(Drop)]
+#[derive(Clone, Copy)]
 pub struct AfterTick {
     pub head: Head,
     pub hellos: HelloOrders,
@@ -50,20 +50,20 @@ pub struct AfterTick {
 
 // What an accepted hello orders: how the timers ended, whether the frame's T1 was stopped for want of a Restart TLV, and the hello that it
 // began with.
-#[derive(Drop)]
+#[derive(Clone, Copy)]
 pub struct HeardOrders {
     pub outcome: TimerOutcome,
     pub freed: Freed,
     pub hello: HelloOrder,
 }
 
-#[derive(Drop)]
+#[derive(Clone, Copy)]
 pub struct AfterHello {
     pub head: Head,
     pub orders: HeardOrders,
 }
 
-#[derive(Drop)]
+#[derive(Clone, Copy)]
 pub struct AfterNotice {
     pub head: Head,
     pub outcome: TimerOutcome,

@@ -14,7 +14,7 @@ use settings::serving::Serving;
 use timer_parts::t2::{T2s, any_t2, cancel_both, expire_both, notice_both};
 use timer_parts::t3::{T3, expires_t3};
 
-#[derive(Drop)]
+#[derive(Clone, Copy)]
 pub struct Head {
     pub mode: Mode,
     pub mask: u16,

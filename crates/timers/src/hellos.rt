@@ -8,14 +8,14 @@ use settings::mode::{Mode, is_starting};
 use timer_parts::t1::{T1, does_begin};
 
 // For each T1 of a mask, with flags; without any where there is none. On a LAN the hello is that of the T1's level, on P2P the one hello.
-#[derive(Drop)]
+#[derive(Clone, Copy)]
 pub struct HelloOrders {
     pub t1s: u16,
     pub flags: Flags,
 }
 
 // On the circuit of a frame, on a LAN of its level; Suppress: with SA, and no other flag.
-#[derive(Drop)]
+#[derive(Clone, Copy)]
 pub enum HelloOrder {
     Nothing,
     Suppress,

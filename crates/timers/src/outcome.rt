@@ -14,7 +14,7 @@ use timer_parts::t2::spf_due;
 use timer_parts::t3::is_expired;
 
 // Overload is ordered set, clear, both in this order, or not at all.
-#[derive(Drop)]
+#[derive(Clone, Copy)]
 pub enum Overload {
     Quiet,
     Set,
@@ -24,7 +24,7 @@ pub enum Overload {
 
 // Idle: the mode was Running. Goes: it is Restarting or Starting still. Ended: it is Running from this call on. With the levels whose SPF is
 // ordered, and the overload order.
-#[derive(Drop)]
+#[derive(Clone, Copy)]
 pub enum TimerOutcome {
     Idle,
     Goes { spf: Levels, overload: Overload },
@@ -32,7 +32,7 @@ pub enum TimerOutcome {
 }
 
 // What a call leaves, where the mode was not Running.
-#[derive(Drop)]
+#[derive(Clone, Copy)]
 pub struct Settled {
     pub head: Head,
     pub outcome: TimerOutcome,

@@ -6,7 +6,7 @@ ghost use Rattle.tlv.specs.Tlv.{tlvs, walk_of, of_type, first_at, first_value, v
 use basics::octets::wide;
 
 // Where a TLV's type octet stands.
-#[derive(Drop)]
+#[derive(Clone, Copy)]
 pub enum Found {
     At(usize),
     Nothing,
@@ -22,7 +22,7 @@ pub const RESTART: u8 = 211;
 pub const THREE_WAY: u8 = 240;
 
 // How many TLVs of each of these types there are.
-#[derive(Drop)]
+#[derive(Clone, Copy)]
 pub struct Counts {
     pub neighbours: usize,
     pub reverse: usize,
@@ -31,7 +31,7 @@ pub struct Counts {
 }
 
 // Whether each TLV ends by the end of the PDU; if not, the first that passes it.
-#[derive(Drop)]
+#[derive(Clone, Copy)]
 pub enum Walk {
     Whole(Counts),
     Cut(usize),

@@ -1,5 +1,7 @@
 // Reads every hello frame of data/ and prints one line a frame: its name, and the refusal or the decoded fields. What it must
 // print is made by tools/expected_vectors, which shares no code with it.
+#![tactic(auto)]
+
 mod lines; // lines.rt: the frames of a file
 mod show; // show.rt: what is printed of a frame
 

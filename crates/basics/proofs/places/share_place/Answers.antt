@@ -4,11 +4,7 @@ use lib.Bits.{and_le_l}
 use mathlib.Core.Path.{sym, ◌∙◌}
 use native.Mathlib.Omega.{arith}
 use Rattle.basics.proofs.MaskLaws.{any_true-zero, any_true-and}
-use Rattle.basics.proofs.places.share_place.Statement.{statement}
-use Rattle.basics.proofs.places.share_place.Tie as tie
+use Rattle.basics.proofs.places.share_place.Goals as goal
 
-returns : tie.Need-returns
+pub returns : goal.returns
 returns c = sym (any_true-zero t1_places _ (omega (arith, and_le_l c.args.a c.args.b))) ∙ any_true-and t1_places c.args.a c.args.b
-
-pub share-place-spec : {M : Type 1} → statement M
-share-place-spec = tie.close (tie.spec returns)
