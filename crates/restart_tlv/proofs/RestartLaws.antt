@@ -3,11 +3,8 @@ use Prim.Native.Nat.{ℕ, ◌≤◌, ◌<◌}
 use mathlib.Core.Path.{◌≡◌, refl}
 use mathlib.Core.List.{List, [], ◌∷◌}
 use mathlib.Core.Bool.{true, false, cond}
-use mathlib.Core.Logic.{◌⊎◌, inl, inr, ⊎_elim}
+use mathlib.Core.Logic.{◌⊎◌, inl, inr}
 use native.Mathlib.Omega.{arith}
-use types.Run.{OneOf}
-use denote.Enum.Declared.{tag_of}
-use Rattle.restart_tlv.specs.contracts.reader.RestartTlv.{the_type}
 use lib.ListN.{length}
 use lib.Dec.{ltb, leb}
 use borrow.Author.Tests.{ltb-false, leb-true}
@@ -17,6 +14,8 @@ use Rattle.basics.proofs.BoolLaws.{neither, by-test, all-below}
 use Rattle.tlv.proofs.TlvLaws.{by_count, lone-read, unless-is-bad, unless-is-good}
 use Rattle.restart_tlv.specs.Flags.{PR, counted, without, needs_neighbor, needs_time}
 use Rattle.restart_tlv.specs.Restart.{least_length, restart_bad, restart_fault, restart_in, restart_of, restart_read}
+use Rattle.restart_tlv.specs.declared.flags.Flags.{Flags}
+use Rattle.restart_tlv.specs.declared.reader.Neighbor.{Neighbor}
 use Rattle.restart_tlv.specs.declared.reader.RestartRead.TheVariants.{Bad, Good}
 use Rattle.restart_tlv.specs.declared.reader.RestartTlv.{RestartTlv}
 use Rattle.restart_tlv.specs.declared.reader.RestartTlv.TheVariants.{Absent, Ignored, Present}
@@ -58,10 +57,10 @@ restart-read (t ∷ []) = lone-read _ _ restart_bad (t ∷ [])
 restart-read (t ∷ u ∷ ts) = lone-read _ _ restart_bad (t ∷ u ∷ ts)
 
 -- what a `let .. else` that takes a Present out knows in its else
-pub not-present : (r : RestartTlv) → OneOf (0 ∷ 1 ∷ []) (tag_of the_type r) → (r ≡ Absent) ⊎ (r ≡ Ignored)
+pub not-present : (r : RestartTlv) → ((f : Flags) (time : ℕ) (n : Neighbor) → r ≡ Present f time n → ⊥) → (r ≡ Absent) ⊎ (r ≡ Ignored)
 not-present Absent h = inl refl
 not-present Ignored h = inr refl
-not-present (Present f time n) h = absurd (⊎_elim (λ e. omega arith) (λ e. omega arith) h)
+not-present (Present f time n) h = absurd (h f time n refl)
 
 differ : (r : RestartTlv) → Good r ≡ Bad → ⊥
 differ r e = let z : ◌≡◌ {A = ℕ} 0 1 = cc in omega arith

@@ -8,7 +8,7 @@ pub returns-in_default : goal.returns-in_default
 returns-in_default c =
     let s = c.args in
     rw (c.last_line.ensures, c.is_suppressed_by.ensures)
-    (clear-road s.tlv s.mark s.was s.phase s.after (not-present s.tlv c.in_default.in_default-own.keys2))
+    (clear-road s.tlv s.mark s.was s.phase s.after (not-present s.tlv c.in_default.not-Present))
 
 pub returns : goal.returns
 unfolding line_of
