@@ -3,15 +3,12 @@ use Prim.Native.Nat.{ℕ, ◌+◌, ◌*◌, ◌/◌, ◌%◌, ◌<◌}
 use native.Mathlib.Omega.{arith}
 use mathlib.Core.Path.{◌≡◌, refl, ap, ◌∙◌}
 use mathlib.Core.Bool.{false}
-use mathlib.Core.Logic.{inl, inr, ◌⊎◌, ⊎_elim}
+use mathlib.Core.Logic.{inl, inr, ◌⊎◌}
 use mathlib.Core.List.{List, [], ◌∷◌}
 use lib.ListN.{length, get_or, set, length-set}
 use lib.Seq.{get_or-set_same, get_or-set_other}
-use types.Run.{OneOf}
-use denote.Enum.Declared.{tag_of}
 use borrow.Author.Tests.{eq-eqb, ne_eqb}
 use Rattle.basics.proofs.ListLaws.{length-tabulate, get_or-tabulate, tabulate-set}
-use Rattle.adjacency.specs.contracts.place.Slot.{the_type}
 use Rattle.adjacency.specs.Record.{expiry_of}
 use Rattle.adjacency.specs.declared.record.State.{State}
 use Rattle.adjacency.specs.declared.record.State.TheVariants.{Init, Up}
@@ -138,7 +135,7 @@ held ws i r len lt f =
     (set4-other ws i r.key.system r.key.mac (expiry_of r.state) (record_word r) len lt)
 
 -- what a `let .. else` that takes a record out knows in its else
-pub not-held : (s : Slot) → OneOf (0 ∷ 2 ∷ []) (tag_of the_type s) → is_held s ≡ false
+pub not-held : (s : Slot) → ((r : Record) → s ≡ Held r → ⊥) → is_held s ≡ false
 not-held Free h = refl
-not-held (Held r) h = absurd (⊎_elim (λ e. omega arith) (λ e. omega arith) h)
+not-held (Held r) h = absurd (h r refl)
 not-held Closed h = refl

@@ -1,0 +1,10 @@
+-- The lowest that the head means, whatever the entries are.
+use Rattle.timers.specs.Timers.{Timers, lowest_runs}
+use Rattle.control.specs.Words.{entries_of, serving_of}
+use Rattle.timers.specs.Memory.{entry_at}
+use mathlib.Core.Path.{refl, ap, ◌∙◌}
+use Rattle.control.proofs.TimingLaws.{timers-now}
+use Rattle.control.proofs.timing.lowest_waiting.Goals as goal
+
+pub returns : goal.returns
+returns c = let ws = c.args.words.now in c.lowest_waiting.ensures (serving_of ws) (entry_at (entries_of ws)) ∙ ap (λ (t : Timers). lowest_runs t.t1s) (timers-now ws (serving_of ws) _ refl c.load_head.ensures)

@@ -1,0 +1,7 @@
+-- The law `held`: the four words stored mean the record, and the other places stay.
+use Rattle.slots.proofs.SlotLaws.{held}
+use Rattle.slots.proofs.slot.store.Goals as goal
+
+pub returns : goal.returns
+returns c =
+    rw (c.state_expiry-e.ensures, c.record_word-w.ensures.value) (held c.args.words.now c.args.i c.args.entry c.requires.0 c.requires.1 c.record_word-w.ensures.fit_record)

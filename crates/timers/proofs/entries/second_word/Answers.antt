@@ -1,0 +1,9 @@
+-- The digits are packed as `entry_of` unpacks them.
+use native.Mathlib.Omega.{arith}
+use Rattle.timers.proofs.EntriesLaws.{packs}
+use Rattle.timers.proofs.entries.second_word.Goals as goal
+
+pub returns : goal.returns
+returns c = let e = c.args.e in
+    rw (c.digit-a.ensures.0, c.digit-b.ensures.0, c.digit-d.ensures.0, c.digit-g.ensures.0)
+    (packs e.deadline e.tries e.acked e.sets.one e.sets.two e.begun (omega arith))
