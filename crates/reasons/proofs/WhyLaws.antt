@@ -169,6 +169,8 @@ module _ (g : Gateway) (m mac : ℕ) (frame b : List ℕ) (n : ℕ) (k : Key) wh
   silent-holds (RefusedAnswer x) refusing e = (refl, e)
   silent-holds (Received f) receiving e =
       by-test f.ordered (λ q. rw q (inl (ap orders_csnps e ∙ q))) (λ q. rw q (fits-holds f e q (took g m mac frame b f e)))
+  silent-holds (Ticked lost hellos t) h e = elim h [ ]
+  silent-holds (Told f) h e = elim h [ ]
 
 no-csnps-holds : (g : Gateway) (c : Call) (n : ℕ) (k : Key) → Silent g c n k (no_csnps g c (step g c))
 no-csnps-holds g (At m (Receive mac frame b)) n k =
