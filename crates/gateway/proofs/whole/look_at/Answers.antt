@@ -1,0 +1,7 @@
+-- The law `asks-whole`.
+use mathlib.Core.Path.{refl}
+use Rattle.gateway.proofs.WholeLaws.{asks-whole}
+use Rattle.gateway.proofs.whole.look_at.Goals as goal
+
+pub returns : goal.returns
+returns c = asks-whole _ c.requires _ refl _ _ c.look_in.ensures

@@ -1,0 +1,9 @@
+-- A mask's number is the mask.
+use Rattle.isis_gr.proofs.NumberLaws.{mask-bits_of}
+use native.Mathlib.Omega.{arith}
+use Rattle.isis_gr.proofs.answers.set_up_word.Goals as goal
+
+pub returns-in-Done : goal.returns-in-Done
+returns-in-Done c =
+    let h = mask-bits_of 16 c.in-Done.hellos.t1s (omega arith) in
+    rw c.in-Done.is (omega arith)
