@@ -1,0 +1,27 @@
+-- No circuit, or the duty of its room.
+use Rattle.reasons.specs.declared.why.Duty.TheVariants.{Ours}
+use Rattle.isis_gr_why.proofs.SilentLaws.{outranked-by, not-unknown}
+use Rattle.own_words.proofs.WordLaws.{choice}
+use Rattle.own_words.specs.Words.{gateway_of}
+use Rattle.control.specs.Common.{InRange}
+use mathlib.Core.Path.{subst, sym, ◌∙◌}
+use Rattle.isis_gr_why.proofs.frames.why_outranked.Goals as goal
+
+pub returns-in_default : goal.returns-in_default
+returns-in_default c = let a = c.args in λ s h k q. absurd (not-unknown (gateway_of a.before.now) a.n s (choice a.before.now a.n _ _ c.circuit_of.ensures c.in_default.is) k)
+
+pub returns-in_default-duty_in : goal.returns-in_default-duty_in
+returns-in_default-duty_in c =
+    let a = c.args in
+    let r = subst (InRange _) c.in-Known.is c.circuit_of.ensures.range in
+    λ s h k q.
+    outranked-by a.before.now a.after.now a.n _ (choice a.before.now a.n _ _ c.circuit_of.ensures c.in-Known.is) r.0 r.1 a.level Ours
+    (sym c.in_default-duty_in.is ∙ c.duty_in.ensures) s h k q
+
+pub returns : goal.returns
+returns c =
+    let a = c.args in
+    let r = subst (InRange _) c.in-Known.is c.circuit_of.ensures.range in
+    λ s h k q.
+    outranked-by a.before.now a.after.now a.n _ (choice a.before.now a.n _ _ c.circuit_of.ensures c.in-Known.is) r.0 r.1 a.level _
+    (sym c.in-Theirs.is ∙ c.duty_in.ensures) s h k q

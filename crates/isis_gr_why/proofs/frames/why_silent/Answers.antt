@@ -1,0 +1,9 @@
+-- The answer of a receive decides.
+use Rattle.isis_gr_why.proofs.ToldLaws.{silent-refused}
+use mathlib.Core.Path.{refl}
+use Rattle.model.specs.Step.{step}
+use Rattle.own_words.specs.Words.{gateway_of}
+use Rattle.isis_gr_why.proofs.frames.why_silent.Goals as goal
+
+pub returns-in-Refused : goal.returns-in-Refused
+returns-in-Refused c = let a = c.args in λ frame b x t n. silent-refused _ _ _ c.in-Frame.is a.mac frame b x _ t _ c.in-Refused.is (gateway_of a.before.now) (step (gateway_of a.before.now) x) refl
