@@ -1,7 +1,7 @@
 -- A batch (document 02, W-207): what a caller lends for a whole queue of frames, refusals 15 and 16, and how many frames are taken. The frames themselves are
 -- receives, in crate model.
 use Rattle.std.specs.Prelude.{ℕ, ◌+◌, ◌*◌, Bool, cond, not, ◌||◌, List, [], ◌∷◌, length, eqb, ltb}
-use Rattle.basics.specs.declared.refusal.Refusal.TheVariants.{UnevenLists, WrongSum}
+use Rattle.batches.specs.declared.lists.Misfit.TheVariants.{UnevenLists, WrongSum}
 use Rattle.batches.specs.declared.lists.Queued.{Queued}
 use Rattle.batches.specs.declared.lists.Queued.TheVariants.{Refused, Taken}
 

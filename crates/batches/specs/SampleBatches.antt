@@ -1,6 +1,6 @@
 -- Rows of the lists of a batch (document 02, W-207), with the document's numbers on the right: 15 and 16 by their names, 64 frames, 11 octets of reply room.
 use Rattle.std.specs.Prelude.{ℕ, ◌≡◌, List, [], ◌∷◌, replicate}
-use Rattle.basics.specs.declared.refusal.Refusal.TheVariants.{UnevenLists, WrongSum}
+use Rattle.batches.specs.declared.lists.Misfit.TheVariants.{UnevenLists, WrongSum}
 use Rattle.batches.specs.declared.lists.Queued.{Queued}
 use Rattle.batches.specs.declared.lists.Queued.TheVariants.{Refused, Taken}
 use Rattle.batches.specs.Batch.{checked_by}

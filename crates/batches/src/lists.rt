@@ -3,8 +3,6 @@
 ghost use Rattle.std.specs.Prelude.{◌≡◌, ◌≤◌, ◌<◌, length};
 ghost use Rattle.batches.specs.Batch.{most_frames, sum, smaller, uneven, checked_by};
 
-use basics::refusal::Refusal;
-
 // The most frames of a batch, and what lies beside each: its MAC, the two words of its answer, its reply room.
 pub const MOST_FRAMES: usize = 64;
 
@@ -14,10 +12,17 @@ pub const PLACE_WORDS: usize = 2;
 
 pub const REPLY_OCTETS: usize = 11;
 
+// Refusals 15 and 16, in the order checked.
+#[derive(Clone, Copy)]
+pub enum Misfit {
+    UnevenLists,
+    WrongSum,
+}
+
 // Of a batch: how many frames were taken.
 #[derive(Clone, Copy)]
 pub enum Queued {
-    Refused(Refusal),
+    Refused(Misfit),
     Taken(u8),
 }
 
@@ -80,10 +85,10 @@ pub fn check(
 {
     let n = lengths.len();
     if is_uneven(n, circuits, sources, places, room) {
-        return Queued::Refused(Refusal::UnevenLists);
+        return Queued::Refused(Misfit::UnevenLists);
     }
     if total(lengths) != octets {
-        return Queued::Refused(Refusal::WrongSum);
+        return Queued::Refused(Misfit::WrongSum);
     }
     let k = smaller_of(limit, n);
     Queued::Taken(k as u8)

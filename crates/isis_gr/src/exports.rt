@@ -13,7 +13,8 @@ use crate::answers::{
     ReceivedWords, flags_word, looked_word, metric_word, noticed_word, received_words,
     released_word, set_up_word, ticked_word, waiting_word, write_found,
 };
-use crate::config::{LAYOUT, SETTINGS_OCTETS, are_settings_known};
+pub use crate::config::SETTINGS_OCTETS;
+use crate::config::{LAYOUT, are_settings_known};
 use crate::faults::fault_of;
 use crate::setup::set_up_from;
 use basics::refusal::Refusal;
@@ -25,16 +26,14 @@ use gateway::whole::GATEWAY_WORDS;
 use model::answers::SetUp;
 
 // How many words of memory a caller lends.
-#[unsafe(no_mangle)]
-pub extern "C" fn isis_gr_raw_gateway_words() -> u32
+pub fn isis_gr_raw_gateway_words() -> u32
     ensures { result ≡ gateway_words }
 {
     GATEWAY_WORDS as u32
 }
 
 // The settings' octets stand as specs/Settings.antt says; another version of the layout, or a number that is not known there, is refused (12).
-#[unsafe(no_mangle)]
-pub extern "C" fn isis_gr_raw_set_up(
+pub fn isis_gr_raw_set_up(
     version: u32,
     gateway: &mut [u64; GATEWAY_WORDS],
     settings: &[u8; SETTINGS_OCTETS],
@@ -51,16 +50,14 @@ pub extern "C" fn isis_gr_raw_set_up(
 }
 
 // Which setting a set-up with these would refuse; 0 where none.
-#[unsafe(no_mangle)]
-pub extern "C" fn isis_gr_raw_fault(version: u32, settings: &[u8; SETTINGS_OCTETS]) -> u32
+pub fn isis_gr_raw_fault(version: u32, settings: &[u8; SETTINGS_OCTETS]) -> u32
     ensures { result ≡ fault_of version settings.now }
 {
     fault_of(version, settings)
 }
 
 // A hello frame from a source MAC.
-#[unsafe(no_mangle)]
-pub extern "C" fn isis_gr_raw_receive(
+pub fn isis_gr_raw_receive(
     gateway: &mut [u64; GATEWAY_WORDS],
     circuit: u8,
     source: &[u8; 6],
@@ -73,55 +70,42 @@ pub extern "C" fn isis_gr_raw_receive(
 }
 
 // The clock.
-#[unsafe(no_mangle)]
-pub extern "C" fn isis_gr_raw_tick(gateway: &mut [u64; GATEWAY_WORDS], clock: u32) -> u64
+pub fn isis_gr_raw_tick(gateway: &mut [u64; GATEWAY_WORDS], clock: u32) -> u64
     ensures { Encodes result (Over (Tick clock)) gateway.old gateway.new [] }
 {
     ticked_word(tick(gateway, clock))
 }
 
 // A circuit's Planned records go.
-#[unsafe(no_mangle)]
-pub extern "C" fn isis_gr_raw_release(gateway: &mut [u64; GATEWAY_WORDS], circuit: u8) -> u32
+pub fn isis_gr_raw_release(gateway: &mut [u64; GATEWAY_WORDS], circuit: u8) -> u32
     ensures { Encodes result (At circuit Release) gateway.old gateway.new [] }
 {
     released_word(release(gateway, circuit))
 }
 
 // All records of a circuit go.
-#[unsafe(no_mangle)]
-pub extern "C" fn isis_gr_raw_clear(gateway: &mut [u64; GATEWAY_WORDS], circuit: u8) -> u32
+pub fn isis_gr_raw_clear(gateway: &mut [u64; GATEWAY_WORDS], circuit: u8) -> u32
     ensures { Encodes result (At circuit Clear) gateway.old gateway.new [] }
 {
     released_word(clear(gateway, circuit))
 }
 
 // The CSNP set of a level is complete on a circuit.
-#[unsafe(no_mangle)]
-pub extern "C" fn isis_gr_raw_csnp_complete(
-    gateway: &mut [u64; GATEWAY_WORDS],
-    circuit: u8,
-    level: u8,
-) -> u64
+pub fn isis_gr_raw_csnp_complete(gateway: &mut [u64; GATEWAY_WORDS], circuit: u8, level: u8) -> u64
     ensures { Encodes result (At circuit (CsnpComplete level)) gateway.old gateway.new [] }
 {
     noticed_word(csnp_complete(gateway, circuit, level))
 }
 
 // The database of a level is complete.
-#[unsafe(no_mangle)]
-pub extern "C" fn isis_gr_raw_database_complete(
-    gateway: &mut [u64; GATEWAY_WORDS],
-    level: u8,
-) -> u64
+pub fn isis_gr_raw_database_complete(gateway: &mut [u64; GATEWAY_WORDS], level: u8) -> u64
     ensures { Encodes result (Over (DatabaseComplete level)) gateway.old gateway.new [] }
 {
     noticed_word(database_complete(gateway, level))
 }
 
 // The record's two words are its expiry and its data.
-#[unsafe(no_mangle)]
-pub extern "C" fn isis_gr_raw_look_up(
+pub fn isis_gr_raw_look_up(
     gateway: &[u64; GATEWAY_WORDS],
     circuit: u8,
     level: u8,
@@ -137,28 +121,21 @@ pub extern "C" fn isis_gr_raw_look_up(
 }
 
 // The metric of a circuit's link.
-#[unsafe(no_mangle)]
-pub extern "C" fn isis_gr_raw_link_metric(gateway: &[u64; GATEWAY_WORDS], circuit: u8) -> u64
+pub fn isis_gr_raw_link_metric(gateway: &[u64; GATEWAY_WORDS], circuit: u8) -> u64
     ensures { Encodes result (At circuit LinkMetric) gateway.now gateway.now [] }
 {
     metric_word(link_metric(gateway, circuit))
 }
 
 // The flags of the next hello on a circuit, at a level.
-#[unsafe(no_mangle)]
-pub extern "C" fn isis_gr_raw_next_hello_flags(
-    gateway: &[u64; GATEWAY_WORDS],
-    circuit: u8,
-    level: u8,
-) -> u32
+pub fn isis_gr_raw_next_hello_flags(gateway: &[u64; GATEWAY_WORDS], circuit: u8, level: u8) -> u32
     ensures { Encodes result (At circuit (NextHello level)) gateway.now gateway.now [] }
 {
     flags_word(next_hello_flags(gateway, circuit, level))
 }
 
 // How many T1s run, and the lowest circuit with one.
-#[unsafe(no_mangle)]
-pub extern "C" fn isis_gr_raw_waiting_t1s(gateway: &[u64; GATEWAY_WORDS]) -> u32
+pub fn isis_gr_raw_waiting_t1s(gateway: &[u64; GATEWAY_WORDS]) -> u32
     ensures { Encodes result (Over Waiting) gateway.now gateway.now [] }
 {
     waiting_word(waiting_t1s(gateway))

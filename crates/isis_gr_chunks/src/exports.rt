@@ -26,16 +26,14 @@ fn handed_word(a: Handed) -> u32
 }
 
 // How many octets of unfinished frames a caller lends.
-#[unsafe(no_mangle)]
-pub extern "C" fn isis_gr_raw_frame_octets() -> u32
+pub fn isis_gr_raw_frame_octets() -> u32
     ensures { result ≡ frame_octets }
 {
     FRAME_OCTETS as u32
 }
 
 // A frame is begun on a circuit, from a source MAC.
-#[unsafe(no_mangle)]
-pub extern "C" fn isis_gr_raw_begin_frame(
+pub fn isis_gr_raw_begin_frame(
     gateway: &mut [u64; GATEWAY_WORDS],
     circuit: u8,
     source: &[u8; 6],
@@ -46,8 +44,7 @@ pub extern "C" fn isis_gr_raw_begin_frame(
 }
 
 // A chunk of it.
-#[unsafe(no_mangle)]
-pub extern "C" fn isis_gr_raw_add_chunk(
+pub fn isis_gr_raw_add_chunk(
     gateway: &mut [u64; GATEWAY_WORDS],
     frames: &mut [u8; FRAME_OCTETS],
     circuit: u8,
@@ -59,8 +56,7 @@ pub extern "C" fn isis_gr_raw_add_chunk(
 }
 
 // Its end.
-#[unsafe(no_mangle)]
-pub extern "C" fn isis_gr_raw_end_frame(
+pub fn isis_gr_raw_end_frame(
     gateway: &mut [u64; GATEWAY_WORDS],
     frames: &[u8; FRAME_OCTETS],
     circuit: u8,

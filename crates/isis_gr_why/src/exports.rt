@@ -9,8 +9,7 @@ use crate::words::{ReasonWords, UNKNOWN, are_known, call_from, question_of, reas
 use gateway::whole::GATEWAY_WORDS;
 
 // The reason, for a circuit and a record's key.
-#[unsafe(no_mangle)]
-pub extern "C" fn isis_gr_raw_why(
+pub fn isis_gr_raw_why(
     before: &[u64; GATEWAY_WORDS],
     after: &mut [u64; GATEWAY_WORDS],
     question: u8,

@@ -1,6 +1,6 @@
 -- Laws of the search for a MAC, for the proofs of this crate: it may go by one MAC, by four or by eight, and a MAC is told by its octets
 -- in either order.
-use Rattle.std.proofs.Common.{◌≡◌, ℕ, zero, suc, ◌+◌, ◌*◌, ◌/◌, ◌%◌, ◌^◌, ◌<◌, ◌≤◌, true, false, ◌||◌, eqb, ltb, List, drop, sym, refl, ap, ◌∙◌, ⊎_elim, true≢false, le_of_suc-le-suc, not-suc-le-zero, add-zero, eq-or-lt_of_le, pow-suc, arith, get_or-drop, get_or-take, ltb-false, ltb-true, eq-eqb, ne_eqb, eqb-true}
+use Rattle.std.proofs.Common.{◌≡◌, ℕ, zero, suc, ◌+◌, ◌*◌, ◌/◌, ◌%◌, ◌^◌, ◌<◌, ◌≤◌, true, false, ◌||◌, eqb, ltb, List, drop, sym, refl, ap, ◌∙◌, ⊎_elim, le_of_suc-le-suc, not-suc-le-zero, add-zero, eq-or-lt_of_le, pow-suc, arith, get_or-drop, get_or-take, ltb-false, ltb-true, eq-eqb, ne_eqb, eqb-true}
 use mathlib.Core.Bool.{or_assoc}
 use native.Mathlib.Nat.{pow-zero}
 use lib.Arith.{le-zero}

@@ -1,5 +1,5 @@
 -- The place that a key's record takes: each answer of place_of is one law.
-use Prim.Native.Nat.{ℕ, suc, ◌<◌, ◌≤◌}
+use Prim.Native.Nat.{suc, ◌<◌, ◌≤◌}
 use mathlib.Core.Path.{◌≡◌, refl, ap, ◌∙◌}
 use mathlib.Core.Bool.{true, false}
 use mathlib.Core.List.{List, [], ◌∷◌}
@@ -11,11 +11,10 @@ use Rattle.adjacency.specs.declared.record.State.{State}
 use Rattle.adjacency.specs.declared.record.Key.{Key}
 use Rattle.adjacency.specs.declared.record.Record.{Record}
 use Rattle.adjacency.specs.declared.record.Adjacency.TheVariants.{Absent, Present}
-use Rattle.adjacency.specs.Keys.{same_key}
 use Rattle.adjacency.specs.Place.{is_free, has_key}
 use Rattle.adjacency.specs.declared.place.Slot.{Slot}
 use Rattle.adjacency.specs.declared.place.Slot.TheVariants.{Free, Held, Closed}
-use Rattle.room.specs.Table.{record_with, find, has, full, crowded, replace, insert, put}
+use Rattle.room.specs.Table.{record_with, has, full, crowded, replace, insert, put}
 use Rattle.room.specs.Place.{first_of, state_in, Placed}
 use Rattle.room.proofs.SearchLaws.{find_at}
 

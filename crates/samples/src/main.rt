@@ -9,13 +9,15 @@ mod timing; // timing.rt: C9
 mod metrics; // metrics.rt: C10 and C11
 mod rooms; // rooms.rt: C12
 
-fn main() {
-    restarts::c1_to_c6();
-    restarts::c7();
-    rules::c8();
-    timing::c9();
-    metrics::c10();
-    metrics::c11();
-    rooms::c12();
-    rules::c13();
+use std::io;
+
+fn main(rt: HostRuntime) -> io::Result<()> {
+    restarts::c1_to_c6(&rt)?;
+    restarts::c7(&rt)?;
+    rules::c8(&rt)?;
+    timing::c9(&rt)?;
+    metrics::c10(&rt)?;
+    metrics::c11(&rt)?;
+    rooms::c12(&rt)?;
+    rules::c13(&rt)
 }

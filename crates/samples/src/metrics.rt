@@ -5,36 +5,45 @@ use basics::kind::CircuitKind;
 use gateway::calls::{link_metric, receive};
 use gateway::whole::GATEWAY_WORDS;
 use settings::mode::Mode;
+use std::io;
 
-fn row(name: &[u8], what: &[u8], configured: u32, frame: &[u8]) {
+fn row(rt: &impl Print, name: &str, what: &str, configured: u32, frame: &[u8]) -> io::Result<()> {
     let mut gateway = [0u64; GATEWAY_WORDS];
     let mut reply = [0u8; 11];
     start(&mut gateway, CircuitKind::P2p, Mode::Running, 0, configured);
     receive(&mut gateway, 1, &SOURCE, frame, &mut reply);
-    cell(name, 5);
-    cell(what, 43);
-    metric(link_metric(&gateway, 1));
-    text(b"\n");
+    cell(rt, name, 5)?;
+    cell(rt, what, 43)?;
+    metric(rt, link_metric(&gateway, 1))?;
+    text(rt, "\n")
 }
 
 // C10: the link metric.
-pub fn c10() {
-    row(b"C10", b"10 + 5", 10, &reverse(0, 5));
+pub fn c10(rt: &impl Print) -> io::Result<()> {
+    row(rt, "C10", "10 + 5", 10, &reverse(0, 5))?;
     row(
-        b"C10",
-        b"16,777,210 + 10 without U",
+        rt,
+        "C10",
+        "16,777,210 + 10 without U",
         16777210,
         &reverse(0, 10),
-    );
-    row(b"C10", b"16,777,210 + 10 with U", 16777210, &reverse(2, 10));
+    )?;
+    row(
+        rt,
+        "C10",
+        "16,777,210 + 10 with U",
+        16777210,
+        &reverse(2, 10),
+    )
 }
 
 // C11: two type 16 TLVs.
-pub fn c11() {
+pub fn c11(rt: &impl Print) -> io::Result<()> {
     row(
-        b"C11",
-        b"configured 10, two type 16 TLVs",
+        rt,
+        "C11",
+        "configured 10, two type 16 TLVs",
         10,
         &reverse_twice(5),
-    );
+    )
 }

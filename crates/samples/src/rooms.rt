@@ -6,6 +6,7 @@ use gateway::calls::{receive, tick};
 use gateway::whole::GATEWAY_WORDS;
 use model::answers::Received;
 use settings::mode::Mode;
+use std::io;
 
 fn send(gateway: &mut [u64; GATEWAY_WORDS], router: u8, hold: u8) -> Received {
     let mut reply = [0u8; 11];
@@ -13,15 +14,15 @@ fn send(gateway: &mut [u64; GATEWAY_WORDS], router: u8, hold: u8) -> Received {
     receive(gateway, 1, &[2, 0, 0, 0, 0, router], &frame, &mut reply)
 }
 
-fn row(what: &[u8], r: Received) {
-    cell(b"C12", 5);
-    cell(what, 43);
-    verdict(r);
-    text(b"\n");
+fn row(rt: &impl Print, what: &str, r: Received) -> io::Result<()> {
+    cell(rt, "C12", 5)?;
+    cell(rt, what, 43)?;
+    verdict(rt, r)?;
+    text(rt, "\n")
 }
 
 // Router 1 has a Holding Time of 10, the others of 30.
-pub fn c12() {
+pub fn c12(rt: &impl Print) -> io::Result<()> {
     let mut gateway = [0u64; GATEWAY_WORDS];
     start(&mut gateway, CircuitKind::Lan, Mode::Running, 0, 10);
     send(&mut gateway, 1, 10);
@@ -30,7 +31,7 @@ pub fn c12() {
         send(&mut gateway, i, 30);
         i += 1;
     }
-    row(b"a 17th key", send(&mut gateway, 17, 30));
+    row(rt, "a 17th key", send(&mut gateway, 17, 30))?;
     tick(&mut gateway, 10);
-    row(b"again after one expired", send(&mut gateway, 17, 30));
+    row(rt, "again after one expired", send(&mut gateway, 17, 30))
 }

@@ -4,33 +4,34 @@ use adjacency::marks::Acknowledgement;
 use adjacency::record::{Mark, State};
 use basics::levels::Levels;
 use basics::refusal::Refusal;
-use libc::STDOUT_FILENO;
 use model::answers::{Looked, Metric, Orders, Received};
 use model::numbers::{number_of, position_of};
 use restart_tlv::writer::Ack;
+use std::io;
 
-// Octets, as they are.
-pub fn text(s: &[u8]) {
-    io::write_all(STDOUT_FILENO, s);
+// A text, as it is.
+pub fn text(rt: &impl Print, s: &str) -> io::Result<()> {
+    print!(rt; "{s}")
 }
 
 // A number in decimal.
-pub fn number(n: u64) {
-    io::print_decimal(STDOUT_FILENO, n);
+pub fn number(rt: &impl Print, n: u64) -> io::Result<()> {
+    print!(rt; "{n}")
 }
 
-fn spaces(from: usize, to: usize) {
+fn spaces(rt: &impl Print, from: usize, to: usize) -> io::Result<()> {
     let mut i = from;
     while i < to {
-        text(b" ");
+        text(rt, " ")?;
         i += 1;
     }
+    Ok(())
 }
 
 // A text in a cell of a width.
-pub fn cell(s: &[u8], width: usize) {
-    text(s);
-    spaces(s.len(), width);
+pub fn cell(rt: &impl Print, s: &str, width: usize) -> io::Result<()> {
+    text(rt, s)?;
+    spaces(rt, s.len(), width)
 }
 
 fn digits(n: u64) -> usize {
@@ -47,127 +48,124 @@ fn digits(n: u64) -> usize {
 }
 
 // A number in a column.
-pub fn number_cell(n: u64, width: usize) {
-    number(n);
-    spaces(digits(n), width);
+pub fn number_cell(rt: &impl Print, n: u64, width: usize) -> io::Result<()> {
+    number(rt, n)?;
+    spaces(rt, digits(n), width)
 }
 
 // A refusal's number, and the position that it brings, where it brings one.
-pub fn refusal(why: Refusal) {
+pub fn refusal(rt: &impl Print, why: Refusal) -> io::Result<()> {
     let position = position_of(why);
-    text(b"refused ");
-    number(number_of(why) as u64);
+    text(rt, "refused ")?;
+    number(rt, number_of(why) as u64)?;
     if position == 0 {
-        return;
+        return Ok(());
     }
-    text(b" at ");
-    number(position as u64);
+    text(rt, " at ")?;
+    number(rt, position as u64)
 }
 
-fn mark(m: Mark) {
+fn mark(rt: &impl Print, m: Mark) -> io::Result<()> {
     match m {
-        Mark::Clear => cell(b"-", 9),
-        Mark::Restart => cell(b"Restart", 9),
-        Mark::Planned => cell(b"Planned", 9),
+        Mark::Clear => cell(rt, "-", 9),
+        Mark::Restart => cell(rt, "Restart", 9),
+        Mark::Planned => cell(rt, "Planned", 9),
     }
 }
 
 // State, expiry and mark of a record.
-pub fn looked(l: Looked) {
+pub fn looked(rt: &impl Print, l: Looked) -> io::Result<()> {
     match l {
-        Looked::Refused(why) => refusal(why),
-        Looked::Nothing => cell(b"none", 23),
+        Looked::Refused(why) => refusal(rt, why),
+        Looked::Nothing => cell(rt, "none", 23),
         Looked::Found {
             state,
             advertised: _,
         } => match state {
             State::Init(kept) => {
-                cell(b"INIT", 6);
-                number_cell(kept.expiry, 8);
-                cell(b"-", 9);
+                cell(rt, "INIT", 6)?;
+                number_cell(rt, kept.expiry, 8)?;
+                cell(rt, "-", 9)
             }
             State::Up(kept, m) => {
-                cell(b"UP", 6);
-                number_cell(kept.expiry, 8);
-                mark(m);
+                cell(rt, "UP", 6)?;
+                number_cell(rt, kept.expiry, 8)?;
+                mark(rt, m)
             }
         },
     }
 }
 
-fn octet(x: u8) {
-    text(b" ");
-    io::print_hex(STDOUT_FILENO, x as u64, 2);
+fn octet(rt: &impl Print, x: u8) -> io::Result<()> {
+    print!(rt; " {x:02x}")
 }
 
-fn octets(reply: &[u8]) {
+fn octets(rt: &impl Print, reply: &[u8]) -> io::Result<()> {
     let mut i = 0;
     while i < reply.len() {
-        octet(reply[i]);
+        octet(rt, reply[i])?;
         i += 1;
     }
+    Ok(())
 }
 
-fn level_names(l: Levels) {
+fn level_names(rt: &impl Print, l: Levels) -> io::Result<()> {
     if l.one {
         if l.two {
-            cell(b"1+2", 6);
-            return;
+            return cell(rt, "1+2", 6);
         }
-        cell(b"1", 6);
-        return;
+        return cell(rt, "1", 6);
     }
-    cell(b"2", 6);
+    cell(rt, "2", 6)
 }
 
-fn csnps(c: Csnps) {
+fn csnps(rt: &impl Print, c: Csnps) -> io::Result<()> {
     match c {
-        Csnps::Nothing => cell(b"-", 6),
-        Csnps::Ordered(l) => level_names(l),
+        Csnps::Nothing => cell(rt, "-", 6),
+        Csnps::Ordered(l) => level_names(rt, l),
     }
 }
 
-fn ack_name(a: Ack) {
+fn ack_name(rt: &impl Print, a: Ack) -> io::Result<()> {
     match a {
-        Ack::Restart => cell(b"RA", 6),
-        Ack::Planned => cell(b"PA", 6),
+        Ack::Restart => cell(rt, "RA", 6),
+        Ack::Planned => cell(rt, "PA", 6),
     }
 }
 
-fn orders(o: Orders, reply: &[u8]) {
+fn orders(rt: &impl Print, o: Orders, reply: &[u8]) -> io::Result<()> {
     let c = o.csnps;
-    csnps(c);
+    csnps(rt, c)?;
     let kind = o.reply;
     let Acknowledgement::Send(a, time) = kind else {
-        text(b"none");
-        return;
+        return text(rt, "none");
     };
-    ack_name(a);
-    number(time as u64);
-    text(b":");
-    octets(reply);
+    ack_name(rt, a)?;
+    number(rt, time as u64)?;
+    text(rt, ":")?;
+    octets(rt, reply)
 }
 
 // Line 1's levels, the reply's kind and Remaining Time, and its octets.
-pub fn received(r: Received, reply: &[u8]) {
+pub fn received(rt: &impl Print, r: Received, reply: &[u8]) -> io::Result<()> {
     match r {
-        Received::Refused(why) => refusal(why),
-        Received::Done(o) => orders(o, reply),
+        Received::Refused(why) => refusal(rt, why),
+        Received::Done(o) => orders(rt, o, reply),
     }
 }
 
 // Only whether it was accepted.
-pub fn verdict(r: Received) {
+pub fn verdict(rt: &impl Print, r: Received) -> io::Result<()> {
     match r {
-        Received::Refused(why) => refusal(why),
-        Received::Done(_) => text(b"accepted"),
+        Received::Refused(why) => refusal(rt, why),
+        Received::Done(_) => text(rt, "accepted"),
     }
 }
 
 // A link metric.
-pub fn metric(m: Metric) {
+pub fn metric(rt: &impl Print, m: Metric) -> io::Result<()> {
     match m {
-        Metric::Refused(why) => refusal(why),
-        Metric::Link(n) => number(n as u64),
+        Metric::Refused(why) => refusal(rt, why),
+        Metric::Link(n) => number(rt, n as u64),
     }
 }

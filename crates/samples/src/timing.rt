@@ -7,6 +7,7 @@ use gateway::calls::{receive, tick};
 use gateway::whole::GATEWAY_WORDS;
 use model::answers::Ticked;
 use settings::mode::Mode;
+use std::io;
 use timers::outcome::{Overload, TimerOutcome};
 
 fn is_set(overload: Overload) -> bool {
@@ -59,7 +60,7 @@ fn acknowledge(gateway: &mut [u64; GATEWAY_WORDS], clock: u32, state: u8, time: 
 }
 
 // The first acknowledgements of the three.
-fn row(what: &[u8], count: u8) {
+fn row(rt: &impl Print, what: &str, count: u8) -> io::Result<()> {
     let mut gateway = [0u64; GATEWAY_WORDS];
     start(&mut gateway, CircuitKind::P2p, Mode::Restarting, 0, 10);
     acknowledge(&mut gateway, 5, 0, 40);
@@ -69,16 +70,16 @@ fn row(what: &[u8], count: u8) {
     if 2 < count {
         acknowledge(&mut gateway, 12, 1, 20);
     }
-    cell(b"C9", 5);
-    cell(what, 43);
-    text(b"T3 at ");
-    number(deadline(&mut gateway, 13) as u64);
-    text(b"\n");
+    cell(rt, "C9", 5)?;
+    cell(rt, what, 43)?;
+    text(rt, "T3 at ")?;
+    number(rt, deadline(&mut gateway, 13) as u64)?;
+    text(rt, "\n")
 }
 
 // C9: T3 while Restarting.
-pub fn c9() {
-    row(b"Restarting from 0: at 5 RA 40, Up", 1);
-    row(b".. at 10 RA 50, Up", 2);
-    row(b".. at 12 RA 20, not Up", 3);
+pub fn c9(rt: &impl Print) -> io::Result<()> {
+    row(rt, "Restarting from 0: at 5 RA 40, Up", 1)?;
+    row(rt, ".. at 10 RA 50, Up", 2)?;
+    row(rt, ".. at 12 RA 20, not Up", 3)
 }

@@ -1,9 +1,11 @@
 // The frames of a file: a line is `NAME KIND HEX`, and one that begins with `#` is a remark.
-ghost use Rattle.std.specs.Prelude.{◌≤◌, ◌<◌, length};
-ghost use Rattle.io.specs.Counts.{IsPrefixLen};
+ghost use Rattle.std.specs.Prelude.{◌≡◌, ◌≤◌, ◌<◌, length, take, IfOk};
 
 use crate::show::show_frame;
 use basics::kind::CircuitKind;
+use std::io::Read;
+use std::rt::Files;
+use std::{fs, io};
 
 const HASH: u8 = 35;
 
@@ -47,7 +49,7 @@ fn digit(c: u8) -> u8
 
 // The octets that pairs of digits stand for, and how many they are.
 fn octets_of(digits: &[u8], out: &mut [u8]) -> usize
-    ensures { IsPrefixLen result out.new }
+    ensures { (result ≤ length out.new) × (result ≡ length (take result out.new)) }
 {
     let mut n = 0;
     let mut i = 0;
@@ -69,40 +71,51 @@ fn kind_of(letter: u8) -> CircuitKind {
     CircuitKind::Lan
 }
 
-fn show_line(line: &[u8]) {
+fn show_line(rt: &impl Print, line: &[u8]) -> io::Result<()> {
     let a = index_of(line, 0, SPACE);
     if line.len() <= a + 1 {
-        return;
+        return Ok(());
     }
     let b = index_of(line, a + 1, SPACE);
     if line.len() <= b {
-        return;
+        return Ok(());
     }
     let mut frame = [0u8; 2048];
     let n = octets_of(&line[b + 1..], &mut frame);
-    show_frame(&line[..a], kind_of(line[a + 1]), &frame[..n]);
+    show_frame(rt, &line[..a], kind_of(line[a + 1]), &frame[..n])
 }
 
-fn show_lines(text: &[u8]) {
+fn show_lines(rt: &impl Print, text: &[u8]) -> io::Result<()> {
     let mut at = 0;
     while at < text.len() {
         let end = index_of(text, at, NEWLINE);
         if text[at] != HASH {
-            show_line(&text[at..end]);
+            show_line(rt, &text[at..end])?;
         }
         at = end + 1;
     }
+    Ok(())
+}
+
+// Reads until the buffer is full or the file ends; how many octets it read.
+fn read_full(file: &mut impl Read, buffer: &mut [u8]) -> io::Result<usize>
+    ensures { IfOk result (λ n. n ≤ length buffer.new) }
+{
+    let mut n = 0;
+    while n < buffer.len() {
+        let more = file.read(&mut buffer[n..])?;
+        if more == 0 {
+            return Ok(n);
+        }
+        n += more;
+    }
+    Ok(n)
 }
 
 // Each frame of a file, and what became of it.
-pub fn show_file(name: &[u8]) {
-    let file = os::open_read(name);
-    if file < 0 {
-        os::fail(name);
-        return;
-    }
+pub fn show_file(rt: &(impl Files + Print), name: &str) -> io::Result<()> {
+    let mut file = fs::open(rt, name)?;
     let mut text = [0u8; 131072];
-    let n = io::read_full(file, &mut text);
-    libc::close(file);
-    show_lines(&text[..n]);
+    let n = read_full(&mut file, &mut text)?;
+    show_lines(rt, &text[..n])
 }

@@ -5,13 +5,15 @@
 mod lines; // lines.rt: the frames of a file
 mod show; // show.rt: what is printed of a frame
 
-fn main() {
-    lines::show_file(b"header.txt");
-    lines::show_file(b"tlv211.txt");
-    lines::show_file(b"tlv240.txt");
-    lines::show_file(b"tlv6.txt");
-    lines::show_file(b"tlv16.txt");
-    lines::show_file(b"replies.txt");
-    lines::show_file(b"frr.txt");
-    lines::show_file(b"own.txt");
+use std::io;
+
+fn main(rt: HostRuntime) -> io::Result<()> {
+    lines::show_file(&rt, "header.txt")?;
+    lines::show_file(&rt, "tlv211.txt")?;
+    lines::show_file(&rt, "tlv240.txt")?;
+    lines::show_file(&rt, "tlv6.txt")?;
+    lines::show_file(&rt, "tlv16.txt")?;
+    lines::show_file(&rt, "replies.txt")?;
+    lines::show_file(&rt, "frr.txt")?;
+    lines::show_file(&rt, "own.txt")
 }

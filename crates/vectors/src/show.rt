@@ -3,215 +3,217 @@ use basics::kind::CircuitKind;
 use hello::read::{Hello, Link, Read, read_hello};
 use hello::reverse::ReverseMetric;
 use hello::three_way::{Identifiers, ThreeWay, ThreeWayState};
-use libc::STDOUT_FILENO;
 use model::numbers::{number_of, position_of};
 use restart_tlv::flags::Flags;
 use restart_tlv::reader::{Neighbor, RestartTlv};
+use std::io;
+use std::io::Write;
 
 // Our own MAC, 02:00:00:00:00:01.
 const OWN_MAC: u64 = 0x020000000001;
 
-fn text(s: &[u8]) {
-    io::write_all(STDOUT_FILENO, s);
+fn text(rt: &impl Print, s: &str) -> io::Result<()> {
+    print!(rt; "{s}")
 }
 
-fn number(n: u64) {
-    io::print_decimal(STDOUT_FILENO, n);
+fn number(rt: &impl Print, n: u64) -> io::Result<()> {
+    print!(rt; "{n}")
 }
 
-fn hex(n: u64, width: usize) {
-    io::print_hex(STDOUT_FILENO, n, width);
+fn hex(rt: &impl Print, n: u64, width: usize) -> io::Result<()> {
+    print!(rt; "{n:0>width$x}")
 }
 
 // A System ID as 1921.6800.1002.
-fn system_id(n: u64) {
-    hex(n / 4294967296 % 65536, 4);
-    text(b".");
-    hex(n / 65536 % 65536, 4);
-    text(b".");
-    hex(n % 65536, 4);
+fn system_id(rt: &impl Print, n: u64) -> io::Result<()> {
+    hex(rt, n / 4294967296 % 65536, 4)?;
+    text(rt, ".")?;
+    hex(rt, n / 65536 % 65536, 4)?;
+    text(rt, ".")?;
+    hex(rt, n % 65536, 4)
 }
 
-fn circuit_id(n: u32) {
-    text(b" circuit ");
-    hex(n as u64, 8);
+fn circuit_id(rt: &impl Print, n: u32) -> io::Result<()> {
+    text(rt, " circuit ")?;
+    hex(rt, n as u64, 8)
 }
 
-fn neighbor_id(n: u64) {
-    text(b" names ");
-    system_id(n);
+fn neighbor_id(rt: &impl Print, n: u64) -> io::Result<()> {
+    text(rt, " names ")?;
+    system_id(rt, n)
 }
 
-fn state(s: ThreeWayState) {
+fn state(rt: &impl Print, s: ThreeWayState) -> io::Result<()> {
     match s {
-        ThreeWayState::Up => text(b"up"),
-        ThreeWayState::Initializing => text(b"initializing"),
-        ThreeWayState::Down => text(b"down"),
+        ThreeWayState::Up => text(rt, "up"),
+        ThreeWayState::Initializing => text(rt, "initializing"),
+        ThreeWayState::Down => text(rt, "down"),
     }
 }
 
-fn identifiers(ids: Identifiers) {
+fn identifiers(rt: &impl Print, ids: Identifiers) -> io::Result<()> {
     match ids {
-        Identifiers::Absent => {}
-        Identifiers::Own(own) => circuit_id(own),
+        Identifiers::Absent => Ok(()),
+        Identifiers::Own(own) => circuit_id(rt, own),
         Identifiers::Neighbor(own, system) => {
-            circuit_id(own);
-            neighbor_id(system);
+            circuit_id(rt, own)?;
+            neighbor_id(rt, system)
         }
         Identifiers::Whole(own, system, circuit) => {
-            circuit_id(own);
-            neighbor_id(system);
-            circuit_id(circuit);
+            circuit_id(rt, own)?;
+            neighbor_id(rt, system)?;
+            circuit_id(rt, circuit)
         }
     }
 }
 
 // A flag's name where it is set, after a `+` where another came before; whether one has come.
-fn flag(flags: Flags, one: Flags, name: &[u8], before: bool) -> bool {
+fn flag(rt: &impl Print, flags: Flags, one: Flags, name: &str, before: bool) -> io::Result<bool> {
     if !flags.has(one) {
-        return before;
+        return Ok(before);
     }
     if before {
-        text(b"+");
+        text(rt, "+")?;
     }
-    text(name);
-    true
+    text(rt, name)?;
+    Ok(true)
 }
 
-fn flag_names(flags: Flags) {
-    let a = flag(flags, Flags::RR, b"RR", false);
-    let b = flag(flags, Flags::RA, b"RA", a);
-    let c = flag(flags, Flags::SA, b"SA", b);
-    let d = flag(flags, Flags::PR, b"PR", c);
-    let e = flag(flags, Flags::PA, b"PA", d);
+fn flag_names(rt: &impl Print, flags: Flags) -> io::Result<()> {
+    let a = flag(rt, flags, Flags::RR, "RR", false)?;
+    let b = flag(rt, flags, Flags::RA, "RA", a)?;
+    let c = flag(rt, flags, Flags::SA, "SA", b)?;
+    let d = flag(rt, flags, Flags::PR, "PR", c)?;
+    let e = flag(rt, flags, Flags::PA, "PA", d)?;
     if !e {
-        text(b"-");
+        text(rt, "-")?;
     }
+    Ok(())
 }
 
-fn named(neighbor: Neighbor) {
+fn named(rt: &impl Print, neighbor: Neighbor) -> io::Result<()> {
     let Neighbor::Named(system) = neighbor else {
-        return;
+        return Ok(());
     };
-    text(b" ");
-    system_id(system);
+    text(rt, " ")?;
+    system_id(rt, system)
 }
 
-fn restart(tlv: RestartTlv) {
-    text(b"; restart ");
+fn restart(rt: &impl Print, tlv: RestartTlv) -> io::Result<()> {
+    text(rt, "; restart ")?;
     match tlv {
-        RestartTlv::Absent => text(b"none"),
-        RestartTlv::Ignored => text(b"ignored"),
+        RestartTlv::Absent => text(rt, "none"),
+        RestartTlv::Ignored => text(rt, "ignored"),
         RestartTlv::Present {
             flags,
             time,
             neighbor,
         } => {
-            flag_names(flags);
+            flag_names(rt, flags)?;
             if flags.needs_time() {
-                text(b" ");
-                number(time as u64);
+                text(rt, " ")?;
+                number(rt, time as u64)?;
             }
-            named(neighbor);
+            named(rt, neighbor)
         }
     }
 }
 
-fn metric(reverse: ReverseMetric) {
-    text(b"; metric ");
+fn metric(rt: &impl Print, reverse: ReverseMetric) -> io::Result<()> {
+    text(rt, "; metric ")?;
     let ReverseMetric::Present {
         offset,
         whole,
         unreachable,
     } = reverse
     else {
-        text(b"none");
-        return;
+        return text(rt, "none");
     };
-    number(offset as u64);
+    number(rt, offset as u64)?;
     if whole {
-        text(b" W");
+        text(rt, " W")?;
     }
     if unreachable {
-        text(b" U");
+        text(rt, " U")?;
     }
+    Ok(())
 }
 
-fn layout(link: Link) {
+fn layout(rt: &impl Print, link: Link) -> io::Result<()> {
     match link {
         Link::Lan {
             level,
             priority: _,
             listed: _,
         } => {
-            text(b" LAN");
-            number(level as u64);
+            text(rt, " LAN")?;
+            number(rt, level as u64)
         }
-        Link::P2p(_) => text(b" P2P"),
+        Link::P2p(_) => text(rt, " P2P"),
     }
 }
 
-fn three_way(tlv: ThreeWay) {
+fn three_way(rt: &impl Print, tlv: ThreeWay) -> io::Result<()> {
     let s = tlv.state;
     let ids = tlv.ids;
-    state(s);
-    identifiers(ids);
+    state(rt, s)?;
+    identifiers(rt, ids)
 }
 
-fn link_fields(link: Link) {
+fn link_fields(rt: &impl Print, link: Link) -> io::Result<()> {
     match link {
         Link::Lan {
             level: _,
             priority,
             listed,
         } => {
-            text(b"priority ");
-            number(priority as u64);
+            text(rt, "priority ")?;
+            number(rt, priority as u64)?;
             if listed {
-                text(b" listed");
+                text(rt, " listed")
             } else {
-                text(b" unlisted");
+                text(rt, " unlisted")
             }
         }
-        Link::P2p(tlv) => three_way(tlv),
+        Link::P2p(tlv) => three_way(rt, tlv),
     }
 }
 
-fn accepted(hello: Hello) {
+fn accepted(rt: &impl Print, hello: Hello) -> io::Result<()> {
     let link = hello.link;
     let tlv = hello.restart;
     let reverse = hello.reverse;
-    layout(link);
-    text(b" ");
-    system_id(hello.system);
-    text(b" hold ");
-    number(hello.hold as u64);
-    text(b" ");
-    link_fields(link);
-    restart(tlv);
-    metric(reverse);
+    layout(rt, link)?;
+    text(rt, " ")?;
+    system_id(rt, hello.system)?;
+    text(rt, " hold ")?;
+    number(rt, hello.hold as u64)?;
+    text(rt, " ")?;
+    link_fields(rt, link)?;
+    restart(rt, tlv)?;
+    metric(rt, reverse)
 }
 
 // The position that a refusal brings, where it brings one.
-fn place(position: u16) {
+fn place(rt: &impl Print, position: u16) -> io::Result<()> {
     if position == 0 {
-        return;
+        return Ok(());
     }
-    text(b" at ");
-    number(position as u64);
+    text(rt, " at ")?;
+    number(rt, position as u64)
 }
 
 // One frame, and what became of it.
-pub fn show_frame(name: &[u8], kind: CircuitKind, frame: &[u8]) {
-    text(name);
+pub fn show_frame(rt: &impl Print, name: &[u8], kind: CircuitKind, frame: &[u8]) -> io::Result<()> {
+    io::writer(rt).write_all(name)?;
     let r = read_hello(frame, kind, OWN_MAC);
     match r {
         Read::Refused(why) => {
-            text(b" refused ");
-            number(number_of(why) as u64);
-            place(position_of(why));
+            text(rt, " refused ")?;
+            number(rt, number_of(why) as u64)?;
+            place(rt, position_of(why))?;
         }
-        Read::Accepted(hello) => accepted(hello),
+        Read::Accepted(hello) => accepted(rt, hello)?,
     }
-    text(b"\n");
+    text(rt, "\n")
 }

@@ -1,7 +1,6 @@
 -- The invariant: the octets before i are pasted.
 use lib.Seq.{paste-suc}
 use lib.ListN.{length-set}
-use Prim.Native.Nat.{◌-◌}
 use native.Mathlib.Numerals.{add-one}
 use native.Mathlib.Omega.{arith}
 use Rattle.chunks.proofs.slot.copy_in.Goals as goal

@@ -1,7 +1,6 @@
 -- The number is 0, past the count, or a circuit's.
 use native.Mathlib.Omega.{arith}
 use mathlib.Core.Logic.{◌≢◌}
-use Prim.Native.Nat.{◌-◌}
 use Rattle.control.proofs.CommonLaws.{chooses-zero, chooses-past, chooses-known}
 use Rattle.control.proofs.words.circuit_of.Goals as goal
 

@@ -1,7 +1,6 @@
 -- The invariant: the levels found, with those of the circuits from i on, are those of all circuits.
 use native.Mathlib.Omega.{arith}
 use mathlib.Core.Path.{sym, ◌∙◌}
-use Prim.Native.Nat.{◌-◌}
 use Rattle.settings.proofs.SettingsLaws.{enabled-end}
 use Rattle.control.proofs.CommonLaws.{circuits-length, levels-step}
 use Rattle.control.proofs.words.levels_of.Goals as goal

@@ -1,7 +1,6 @@
 -- The invariant: what is found is of the circuits from i on.
 use native.Mathlib.Omega.{arith}
 use mathlib.Core.Path.{◌∙◌}
-use Prim.Native.Nat.{◌-◌}
 use Rattle.control.proofs.SetupLaws.{serving-fits, serving-step, serving-none}
 use Rattle.control.proofs.words.serving_for.Goals as goal
 

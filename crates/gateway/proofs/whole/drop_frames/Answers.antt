@@ -3,7 +3,6 @@ use Rattle.chunks.specs.Words.{slot_words}
 use Rattle.gateway.specs.Whole.{slot_place}
 use borrow.Rule.Slice.PartMut.{mid_len}
 use Rattle.gateway.proofs.PieceLaws.{length-slot, dropped-next, dropped-all}
-use Prim.Native.Nat.{◌-◌}
 use mathlib.Core.Path.{◌∙◌}
 use native.Mathlib.Omega.{arith}
 use Rattle.gateway.proofs.whole.drop_frames.Goals as goal

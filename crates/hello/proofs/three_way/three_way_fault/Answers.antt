@@ -1,9 +1,8 @@
 -- By what was found: none, one that breaks the rule, or the one after it.
 use Rattle.hello.proofs.FaultLaws.{three-way-some}
 use Rattle.tlv.proofs.TlvLaws.{lone-first, lone-second}
-use Rattle.tlv.specs.Tlv.{Finds, FoundAt}
 use Rattle.hello.specs.ThreeWay.{three_way_bad}
-use mathlib.Core.Path.{ap, subst, sym, ◌∙◌}
+use mathlib.Core.Path.{ap, sym, ◌∙◌}
 use Rattle.hello.proofs.three_way.three_way_fault.Goals as goal
 
 pub returns-then-is_bad_three_way : goal.returns-then-is_bad_three_way

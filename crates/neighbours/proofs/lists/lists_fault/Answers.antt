@@ -2,8 +2,7 @@
 use Rattle.neighbours.proofs.ListsLaws.{fault-none, fault-here, fault-next}
 use Rattle.neighbours.specs.Lists.{neighbours_fault}
 use Rattle.tlv.proofs.TlvLaws.{none, turn-list}
-use Rattle.tlv.specs.Tlv.{Finds, FoundAt}
-use Rattle.std.proofs.Common.{sym, ap, ◌∙◌, subst}
+use Rattle.std.proofs.Common.{sym, ap, ◌∙◌}
 use Rattle.neighbours.proofs.lists.lists_fault.Goals as goal
 
 pub returns-in_default : goal.returns-in_default

@@ -1,8 +1,7 @@
 -- The invariant: as many lists are left as `left` says, and they and what was listed before give the reading of the whole.
 use Rattle.neighbours.proofs.ListsLaws.{list_on, list-start, list-end, list-bad, list-next}
 use Rattle.tlv.proofs.TlvLaws.{turn-list}
-use Rattle.tlv.specs.Tlv.{Finds, FoundAt}
-use Rattle.std.proofs.Common.{false, length, sym, ap, ◌∙◌, subst, arith}
+use Rattle.std.proofs.Common.{false, length, sym, ap, ◌∙◌, arith}
 use Rattle.neighbours.proofs.lists.read_each.Goals as goal
 
 pub loop-left-init : goal.loop-left-init

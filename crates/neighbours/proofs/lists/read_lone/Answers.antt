@@ -1,8 +1,7 @@
 -- The list found is the only one.
 use Rattle.neighbours.proofs.ListsLaws.{list-start, list-end, list-bad, list-next, list_on}
 use Rattle.tlv.proofs.TlvLaws.{turn-list}
-use Rattle.tlv.specs.Tlv.{Finds, FoundAt}
-use Rattle.std.proofs.Common.{false, length, sym, ap, ◌∙◌, subst, arith}
+use Rattle.std.proofs.Common.{false, length, sym, ap, ◌∙◌, arith}
 use Rattle.neighbours.proofs.lists.read_lone.Goals as goal
 
 pub returns-then-v-ne0 : goal.returns-then-v-ne0

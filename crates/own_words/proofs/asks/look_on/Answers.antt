@@ -2,7 +2,6 @@
 use Rattle.own_words.proofs.CallLaws.{looks, looks-not}
 use Rattle.own_words.proofs.WordLaws.{along, refuses}
 use Rattle.basics.specs.declared.refusal.Refusal.TheVariants.{NoCircuit}
-use Prim.Native.Nat.{◌-◌}
 use mathlib.Core.Path.{sym, ◌∙◌}
 use Rattle.own_words.proofs.asks.look_on.Goals as goal
 

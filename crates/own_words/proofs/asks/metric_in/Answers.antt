@@ -5,7 +5,6 @@ use Rattle.own_words.proofs.WordLaws.{along, refuses-all, choice, no-circuit, a-
 use Rattle.own_words.specs.Words.{gateway_of}
 use Rattle.control.specs.Common.{InRange}
 use Rattle.basics.specs.declared.refusal.Refusal.TheVariants.{NoCircuit}
-use Prim.Native.Nat.{◌-◌}
 use mathlib.Core.Path.{subst}
 use Rattle.own_words.proofs.asks.metric_in.Goals as goal
 

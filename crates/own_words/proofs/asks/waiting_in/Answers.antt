@@ -1,6 +1,5 @@
 -- The two answers of the common part.
 use Rattle.own_words.proofs.CallLaws.{waits}
-use Prim.Native.Nat.{◌-◌}
 use Rattle.own_words.proofs.asks.waiting_in.Goals as goal
 
 pub returns : goal.returns

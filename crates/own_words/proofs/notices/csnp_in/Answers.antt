@@ -4,7 +4,6 @@ use Rattle.model.specs.Step.{CsnpComplete}
 use Rattle.own_words.proofs.WordLaws.{along, refuses-all, choice, no-circuit, a-circuit}
 use Rattle.own_words.specs.Words.{gateway_of}
 use Rattle.basics.specs.declared.refusal.Refusal.TheVariants.{NoCircuit}
-use Prim.Native.Nat.{◌-◌}
 use mathlib.Core.Path.{◌∙◌}
 use Rattle.own_words.proofs.notices.csnp_in.Goals as goal
 

@@ -3,7 +3,6 @@ use Rattle.own_words.proofs.CallLaws.{database-off, database-outside, database-t
 use Rattle.settings.specs.Mode.{is_running}
 use native.Mathlib.Omega.{arith}
 use mathlib.Core.Path.{sym, ap, ◌∙◌}
-use Prim.Native.Nat.{◌-◌}
 use Rattle.own_words.proofs.notices.database_in.Goals as goal
 
 pub returns-then-not-has_level : goal.returns-then-not-has_level

@@ -2,7 +2,6 @@
 use Rattle.basics.specs.Mask.{circuits}
 use Rattle.own_words.proofs.SetupLaws.{put_next, put_all}
 use lib.ListN.{length}
-use Prim.Native.Nat.{◌-◌}
 use mathlib.Core.Path.{◌≡◌, ◌∙◌}
 use native.Mathlib.Omega.{arith}
 use borrow.Author.Rules.{rules}

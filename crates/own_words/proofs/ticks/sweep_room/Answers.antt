@@ -3,7 +3,7 @@ use Rattle.slots.specs.Slots.{room_words}
 use Rattle.control.specs.Words.{control_words}
 use Rattle.own_words.proofs.CallLaws.{lapsed-at}
 use borrow.Rule.Slice.PartMut.{mid_len}
-use Prim.Native.Nat.{◌+◌, ◌-◌, ◌*◌}
+use Prim.Native.Nat.{◌+◌, ◌*◌}
 use native.Mathlib.Omega.{arith}
 use mathlib.Core.Path.{◌∙◌}
 use Rattle.own_words.proofs.ticks.sweep_room.Goals as goal

@@ -5,7 +5,6 @@ use Rattle.own_words.proofs.WordLaws.{length-rooms}
 use Rattle.own_words.specs.Words.{gateway_of}
 use Rattle.model.specs.Step.{swept_room, lapsed}
 use Rattle.model.specs.Gateway.{with_rooms, no_room}
-use Prim.Native.Nat.{◌-◌}
 use native.Mathlib.Omega.{arith}
 use mathlib.Core.Path.{refl, ap, ◌∙◌}
 use Rattle.own_words.proofs.ticks.sweep_rooms.Goals as goal

@@ -6,7 +6,7 @@ use Rattle.model.specs.Gateway.{with_rooms}
 use Rattle.basics.specs.Mask.{circuits}
 use lib.ListN.{length, take, drop}
 use mathlib.Core.List.{◌++◌, map}
-use Prim.Native.Nat.{◌+◌, ◌-◌, ◌≤◌}
+use Prim.Native.Nat.{◌-◌, ◌≤◌}
 use mathlib.Core.Path.{◌≡◌}
 use Rattle.own_words.proofs.ticks.sweep_rooms.Given as goal
 

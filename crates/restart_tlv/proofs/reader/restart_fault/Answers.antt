@@ -1,8 +1,7 @@
 -- By what was found: none, one that breaks the rule, or the one after it.
 use Rattle.tlv.proofs.TlvLaws.{lone-none, lone-first, lone-second}
-use Rattle.tlv.specs.Tlv.{Finds, FoundAt}
 use Rattle.restart_tlv.specs.Restart.{restart_bad}
-use mathlib.Core.Path.{ap, subst, sym, ◌∙◌}
+use mathlib.Core.Path.{ap, sym, ◌∙◌}
 use Rattle.restart_tlv.proofs.reader.restart_fault.Goals as goal
 
 pub returns-in_default : goal.returns-in_default

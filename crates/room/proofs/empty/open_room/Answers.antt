@@ -1,6 +1,5 @@
 -- The invariant: what is emptied, joined with what is left of an empty room, is the empty room.
 use Rattle.room.proofs.SweepLaws.{empty-step, empty-end}
-use Prim.Native.Nat.{◌-◌}
 use mathlib.Core.Path.{◌∙◌}
 use native.Mathlib.Omega.{arith}
 use Rattle.room.proofs.empty.open_room.Goals as goal

@@ -3,7 +3,6 @@ use Rattle.slots.specs.Slots.{table_of}
 use Rattle.adjacency.specs.Place.{is_held}
 use Rattle.slots.proofs.SlotLaws.{length-table}
 use Rattle.room.proofs.SearchLaws.{first-skip, first-none}
-use Prim.Native.Nat.{◌-◌}
 use mathlib.Core.Path.{sym, ◌∙◌}
 use native.Mathlib.Omega.{arith}
 use Rattle.room.proofs.search.first_held.Goals as goal

@@ -3,7 +3,6 @@ use Rattle.slots.specs.Slots.{table_of}
 use Rattle.adjacency.specs.Place.{outranked_at}
 use Rattle.slots.proofs.SlotLaws.{length-table}
 use Rattle.room.proofs.SearchLaws.{any_here, any-skip, any_none}
-use Prim.Native.Nat.{◌-◌}
 use mathlib.Core.Path.{sym, ◌∙◌}
 use native.Mathlib.Omega.{arith}
 use Rattle.room.proofs.search.is_outranked.Goals as goal

@@ -4,7 +4,6 @@ use Rattle.adjacency.specs.Place.{meets, expired_by}
 use Rattle.slots.proofs.SlotLaws.{length-table}
 use Rattle.slots.proofs.ProbeLaws.{not-due}
 use Rattle.room.proofs.SearchLaws.{any-skip, any_none}
-use Prim.Native.Nat.{◌-◌}
 use mathlib.Core.Path.{sym, ◌∙◌}
 use native.Mathlib.Omega.{arith}
 use Rattle.room.proofs.sweep.is_due.Goals as goal

@@ -4,7 +4,7 @@ use Rattle.slots.specs.Slots.{table_of}
 use Rattle.slots.proofs.SlotLaws.{length-table}
 use Rattle.room.proofs.SweepLaws.{sweep-step, any_step, sweep-end, any-end}
 use lib.ListN.{length}
-use Prim.Native.Nat.{◌-◌, ◌≤◌, ◌<◌}
+use Prim.Native.Nat.{◌≤◌, ◌<◌}
 use mathlib.Core.Path.{◌∙◌}
 use native.Mathlib.Omega.{arith}
 use Rattle.room.proofs.sweep.sweep_in.Goals as goal

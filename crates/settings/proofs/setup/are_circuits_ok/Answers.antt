@@ -2,7 +2,6 @@
 use borrow.Author.Rules.{rules}
 use native.Mathlib.Omega.{arith}
 use mathlib.Core.Path.{sym, ◌∙◌}
-use Prim.Native.Nat.{◌-◌}
 use Rattle.basics.proofs.ListLaws.{every_here, every-skip, every-end}
 use Rattle.settings.specs.Settings.{circuit_ok}
 use Rattle.settings.proofs.setup.are_circuits_ok.Goals as goal

@@ -4,7 +4,7 @@ use mathlib.Core.Path.{◌≡◌, refl, ◌∙◌}
 use mathlib.Core.Bool.{false}
 use lib.ListN.{length, get_or}
 use lib.Seq.{get_or-set_other}
-use Prim.Native.Nat.{◌-◌, ◌≤◌, ◌<◌}
+use Prim.Native.Nat.{◌≤◌, ◌<◌}
 use Rattle.timers.specs.Hellos.{hello_bits}
 use Rattle.timer_parts.specs.T1.{tick_t1, hello_due}
 use Rattle.timers.specs.Timers.{no_t1}

@@ -2,7 +2,6 @@
 use Rattle.tlv.proofs.TlvLaws.{none, none-cut, here, passed}
 use native.Mathlib.Omega.{arith}
 use mathlib.Core.Path.{◌∙◌}
-use Prim.Native.Nat.{◌-◌}
 use Rattle.tlv.proofs.tlvs.find.Goals as goal
 
 pub returns-then-left-lt2 : goal.returns-then-left-lt2

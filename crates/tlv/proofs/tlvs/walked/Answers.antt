@@ -1,11 +1,11 @@
 -- The invariant: what is left to walk is cut where the whole is, and each type is counted so far.
-use Rattle.tlv.proofs.TlvLaws.{walk-cut, walk-whole, cut-end, cut-here, cut-one, one_if, one-here, one-not, count-one, count-le, none}
-use Rattle.tlv.specs.Tlv.{tlvs, cut_at, next_at, of_type}
+use Rattle.tlv.proofs.TlvLaws.{walk-cut, walk-whole, cut-end, cut-here, cut-one, one-here, one-not, count-one, count-le, none}
+use Rattle.tlv.specs.Tlv.{tlvs, next_at, of_type}
 use Rattle.basics.specs.Octets.{octet}
 use lib.ListN.{length}
 use native.Mathlib.Omega.{arith}
 use mathlib.Core.Path.{◌≡◌, ap, ◌∙◌}
-use Prim.Native.Nat.{ℕ, ◌+◌, ◌-◌, ◌≤◌}
+use Prim.Native.Nat.{◌≤◌}
 use Rattle.tlv.proofs.tlvs.walked.Goals as goal
 
 pub returns-then-left-lt2 : goal.returns-then-left-lt2
