@@ -4,8 +4,9 @@ SHELL := /bin/bash
 .PHONY: samples test boundary c archive differential bench fuzz live kit
 
 samples: kit
-	@rt check samples vectors
-	@cat target/log/samples.stdout
+	@mkdir -p target/log
+	@cd crates/samples && rt run 2>../../target/log/samples.log || { cat ../../target/log/samples.log >&2; exit 1; }
+	@tools/run_vectors >target/log/vectors.stdout
 	@tools/frames_table crates/vectors/data target/log/vectors.stdout
 
 test: kit
@@ -15,8 +16,7 @@ test: kit
 	@tools/check_crates
 	@tools/check_rules
 	@tools/check_quotes
-	@rt fmt --check
-	@set -o pipefail; log=$$(mktemp); rt ci | tee $$log && $(MAKE) -s boundary && tail -n 1 $$log; status=$$?; rm -f $$log; exit $$status
+	@tools/gate && $(MAKE) -s boundary && tail -n 1 target/log/ci.log
 
 # the archives, used from C and from Rust
 boundary: archive
@@ -56,11 +56,13 @@ c:
 	@$(CC) -std=c99 -pedantic $(WARN) tests/fuzz/receive.c tests/fuzz/replay.c $(EVERY) -o target/c/replay
 	@tools/fuzz_seeds target/seeds && target/c/replay $$(find target/seeds tests/fuzz/cases -type f 2>/dev/null)
 
-# the calls, frames in chunks, and why
+# the calls, frames in chunks, and why: crate NAME_c is NAME's archive
 archive:
-	@rt staticlib isis_gr
-	@rt staticlib isis_gr_chunks
-	@rt staticlib isis_gr_why
+	@mkdir -p target/staticlib target/log
+	@for name in isis_gr isis_gr_chunks isis_gr_why; do \
+		tools/quietly target/log/$${name}_c.log crates/$${name}_c rt lib \
+			&& cp crates/$${name}_c/out/lib$${name}_c.a target/staticlib/lib$$name.a || exit 1; \
+	done
 
 # ten million calls on the archives and on the reference, and the branches that they reached
 differential: archive

@@ -1,4 +1,4 @@
-//! Links the proved archives, and takes the sizes from the C header. `ISIS_GR_LIB_DIR` names their folder; without it, the folder that `rt staticlib`
+//! Links the proved archives, and takes the sizes from the C header. `ISIS_GR_LIB_DIR` names their folder; without it, the folder that `make archive`
 //! writes to.
 use std::path::PathBuf;
 

@@ -22,6 +22,7 @@ fn empty_at(words: &mut [u64], i: usize, kind: CircuitKind)
 }
 
 // Whatever the words were.
+#[inline(always)]
 pub fn open_room(words: &mut [u64], kind: CircuitKind)
     requires { length words.old ≡ room_words }
     ensures { table_of words.new ≡ empty_room kind }

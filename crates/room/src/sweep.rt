@@ -38,6 +38,7 @@ fn sweep_at(words: &mut [u64], i: usize, which: Sweep) -> bool
     false
 }
 
+#[inline(always)]
 fn sweep_in(words: &mut [u64], which: Sweep) -> bool
     requires { length words.old ≡ room_words }
     ensures { Sweeps (test_of which) (table_of words.old) (table_of words.new) result }
