@@ -78,6 +78,7 @@ pub fn hear(
 }
 
 // The CSNP sets of the levels `n` are complete, for the T1 in place i.
+#[inline(never)]
 pub fn notice_csnp(words: &mut [u64], i: usize, n: Levels) -> TimerOutcome
     requires { (length words.old ≡ control_words) × (i < t1_places) × On words.old }
     ensures { CommonSettles (csnp_in i n) words.old words.new result }

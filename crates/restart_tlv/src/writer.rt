@@ -22,6 +22,7 @@ fn flags_of(ack: Ack) -> Flags
 }
 
 // Writes the answer to `system` into the first 11 octets of a buffer.
+#[inline(never)]
 pub fn write_restart(out: &mut [u8], ack: Ack, time: u16, system: u64)
     requires { 11 ≤ length out.old }
     ensures { out.new ≡ restart_octets (ack_flag ack) time system ++ drop 11 out.old }

@@ -13,6 +13,7 @@ use slots::probe::{is_free_at, is_held_at, is_key_at, is_outranked_at};
 use slots::slot::{PLACES, load};
 
 // The place of the record with a key. The key comes in parts: a struct would lie on the caller's stack.
+#[inline(always)]
 pub fn find_key(words: &[u64], level: u8, system: u64, mac: u64) -> usize
     requires { length words.now ≡ room_words }
     ensures { result ≡ first_of (has_key (record { level = level; system = system; mac = mac })) (table_of words.now) }
