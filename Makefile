@@ -5,8 +5,11 @@ SHELL := /bin/bash
 
 samples: kit
 	@mkdir -p target/log
-	@cd crates/samples && rt run 2>../../target/log/samples.log || { cat ../../target/log/samples.log >&2; exit 1; }
+	@cd crates/samples && rt run >../../target/log/samples.stdout 2>../../target/log/samples.log || { cat ../../target/log/samples.log >&2; exit 1; }
+	@cat target/log/samples.stdout
+	@diff target/log/samples.stdout crates/samples/stdout
 	@tools/run_vectors >target/log/vectors.stdout
+	@diff target/log/vectors.stdout crates/vectors/stdout
 	@tools/frames_table crates/vectors/data target/log/vectors.stdout
 
 test: kit

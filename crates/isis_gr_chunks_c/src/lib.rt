@@ -1,5 +1,4 @@
-// Frames in chunks for C (document 02, W-205): the calls of crate isis_gr_chunks, exported under their names. A library of its own, so that a
-// caller without such a radio links and lends nothing for it. Callers: C, by the header.
+// Frames in chunks for C (document 02, W-205): the calls of crate isis_gr_chunks, exported under their names. Callers: C, by the header.
 #![tactic(auto)]
 
 ghost use Rattle.std.specs.Prelude.{◌≡◌, []};

@@ -1,6 +1,6 @@
 // Why (document 02, W-204): a call that tells the reason, over lent words, and its form for C. It makes the call in question on a second memory that
 // the caller lends, by the very functions of crate gateway, and reads the reason off the two memories and the answer. Its own library for C, so that
-// the other calls are compiled without it. Callers: programs, C.
+// the other calls are compiled without it. Callers: programs; isis_gr_why_c, which exports it, and so C.
 #![tactic(auto)]
 
 pub mod call; // call.rt: the call

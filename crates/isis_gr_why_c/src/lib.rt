@@ -1,5 +1,4 @@
-// Why, for C (document 02, W-204): the call of crate isis_gr_why, exported under its name. A library of its own, so that a caller that asks no
-// question links nothing for it. Callers: C, by the header.
+// Why, for C (document 02, W-204): the call of crate isis_gr_why, exported under its name. Callers: C, by the header.
 #![tactic(auto)]
 
 ghost use Rattle.basics.specs.Octets.{big};

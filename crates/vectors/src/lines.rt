@@ -1,5 +1,5 @@
 // The frames of a file: a line is `NAME KIND HEX`, and one that begins with `#` is a remark.
-ghost use Rattle.std.specs.Prelude.{◌≡◌, ◌≤◌, ◌<◌, length, take, IfOk};
+ghost use Rattle.std.specs.Prelude.{◌≡◌, ◌≤◌, ◌<◌, length, take};
 
 use crate::show::show_frame;
 use basics::kind::CircuitKind;
@@ -97,25 +97,30 @@ fn show_lines(rt: &impl Print, text: &[u8]) -> io::Result<()> {
     Ok(())
 }
 
-// Reads until the buffer is full or the file ends; how many octets it read.
-fn read_full(file: &mut impl Read, buffer: &mut [u8]) -> io::Result<usize>
-    ensures { IfOk result (λ n. n ≤ length buffer.new) }
+// Reads until the buffer is full, the file ends or a read fails; how many octets it read.
+fn read_full(file: &mut impl Read, buffer: &mut [u8]) -> usize
+    ensures { result ≤ length buffer.new }
 {
     let mut n = 0;
     while n < buffer.len() {
-        let more = file.read(&mut buffer[n..])?;
+        let Ok(more) = file.read(&mut buffer[n..]) else {
+            return n;
+        };
         if more == 0 {
-            return Ok(n);
+            return n;
         }
         n += more;
     }
-    Ok(n)
+    n
 }
 
-// Each frame of a file, and what became of it.
-pub fn show_file(rt: &(impl Files + Print), name: &str) -> io::Result<()> {
-    let mut file = fs::open(rt, name)?;
+// Each frame of a file, and what became of it; of a file that cannot be opened, why, on standard error.
+pub fn show_file(rt: &(impl Files + Print + Eprint), name: &str) -> io::Result<()> {
+    let mut file = match fs::open(rt, name) {
+        Ok(file) => file,
+        Err(error) => return eprintln!(rt; "{name}: {error}"),
+    };
     let mut text = [0u8; 131072];
-    let n = read_full(&mut file, &mut text)?;
+    let n = read_full(&mut file, &mut text);
     show_lines(rt, &text[..n])
 }
