@@ -5,7 +5,7 @@ use Rattle.basics.specs.declared.refusal.Refusal.TheVariants.{NotBegun, TooLong}
 
 -- "Each circuit has its own unfinished frame": its source MAC, and the octets joined so far
 pub data Unfinished : Type 0 where
-  None : Unfinished
+  NoFrame : Unfinished
   Frame : (mac : ℕ) (octets : List ℕ) → Unfinished
 
 -- "A caller begins a frame on a circuit with its source MAC"
@@ -22,7 +22,7 @@ pub data Joined : Type 0 where
 
 -- "adds chunks": 13, "chunk or end with none begun", and then 14
 unfoldable pub join : Unfinished → List ℕ → Joined
-join None chunk = Refused NotBegun
+join NoFrame chunk = Refused NotBegun
 join (Frame mac octets) chunk = cond (ltb most_octets (length octets + length chunk)) (Refused TooLong) (As (Frame mac (octets ++ chunk)))
 
 -- after a chunk: "the unfinished frame stays as it was" where it is refused

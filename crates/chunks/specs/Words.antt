@@ -5,7 +5,7 @@ use Rattle.chunks.specs.declared.slot.Handed.{Handed}
 use Rattle.chunks.specs.declared.slot.Handed.TheVariants.{Refused as RefusedChunk, Done}
 use Rattle.chunks.specs.declared.slot.Pending.{Pending}
 use Rattle.chunks.specs.declared.slot.Pending.TheVariants.{Idle, Begun}
-use Rattle.chunks.specs.Chunks.{Unfinished, None, Frame, most_octets, Joined, Refused, As, join, after}
+use Rattle.chunks.specs.Chunks.{Unfinished, NoFrame, Frame, most_octets, Joined, Refused, As, join, after}
 
 abbrev pub slot_words : ℕ
 slot_words = 2
@@ -18,7 +18,7 @@ pending_of us =
 
 -- .. with the octets fs
 abbrev pub meant : List ℕ → Pending → Unfinished
-meant fs Idle = None
+meant fs Idle = NoFrame
 meant fs (Begun mac n) = Frame mac (take n fs)
 
 -- ---- what the functions do

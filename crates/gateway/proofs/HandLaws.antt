@@ -19,7 +19,7 @@ use Rattle.basics.proofs.BoolLaws.{by-test}
 use Rattle.basics.proofs.ListLaws.{get_or-tabulate}
 use Rattle.basics.proofs.OctetsLaws.{big-octets_of}
 use Rattle.basics.proofs.PartLaws.{part_same}
-use Rattle.chunks.specs.Chunks.{Unfinished, None, begun, most_octets, Joined, Refused as RefusedChunk, As, join, after}
+use Rattle.chunks.specs.Chunks.{Unfinished, NoFrame, begun, most_octets, Joined, Refused as RefusedChunk, As, join, after}
 use Rattle.chunks.specs.Words.{slot_words, pending_of, meant, answered, Adds}
 use Rattle.chunks.specs.declared.slot.Handed.{Handed}
 use Rattle.chunks.specs.declared.slot.Handed.TheVariants.{Refused as RefusedPiece, Done as DonePiece}
@@ -80,7 +80,7 @@ module _ (ws fs : List ℕ) (n : ℕ) (lo : 0 < n) (hi : n ≤ circuits) where
 
   frame_on : unfinished_on (whole_of ws fs) n ≡ unfinished_at ws fs (n - 1)
   unfolding whole_of
-  frame_on = numbered-at (whole_of ws fs).unfinished n None lo ∙ get_or-tabulate (unfinished_at ws fs) circuits (n - 1) None (omega arith)
+  frame_on = numbered-at (whole_of ws fs).unfinished n NoFrame lo ∙ get_or-tabulate (unfinished_at ws fs) circuits (n - 1) NoFrame (omega arith)
 
   -- its words put back, and its octets
   module _ (len : length ws ≡ gateway_words) (t : List ℕ) (long : length t ≡ a + slot_words - a) where
@@ -233,13 +233,13 @@ module _ (ws : List ℕ) (n : ℕ) (lo : 0 < n) (hi : n ≤ circuits) (s : Circu
         ends = λ fs b.
             let w : q + k - q ≡ k = omega arith in
             let cut : take k (part q most_octets fs) ≡ part q (q + k - q) fs = take-take k most_octets (drop q fs) fit ∙ ap (λ (z : ℕ). part q z fs) (sym w) in
-            let left : whole_of (put_mid p (p + slot_words - p) ws t) fs ≡ with_unfinished (whole_of ws fs) n None =
+            let left : whole_of (put_mid p (p + slot_words - p) ws t) fs ≡ with_unfinished (whole_of ws fs) n NoFrame =
             frame-put ws fs n lo hi len t long fs (λ j lj ne. refl) ∙ ap (λ x. with_unfinished (whole_of ws fs) n (meant (part q most_octets fs) x)) idle in
             end_is ws fs n lo hi s (known fs) b ∙ ap (ended (whole_of ws fs) n b) (frame_is fs (Begun mac k) e)
-            ∙ ap (λ (o : List ℕ). step (with_unfinished (whole_of ws fs) n None) (At n (Receive mac o b))) cut
+            ∙ ap (λ (o : List ℕ). step (with_unfinished (whole_of ws fs) n NoFrame) (At n (Receive mac o b))) cut
             ∙ ap (λ (g : Gateway). step g (At n (Receive mac (part q (q + k - q) fs) b))) (sym left);
         dropped = λ fs b x z.
-            received-by (with_unfinished (whole_of ws fs) n None) n s (known fs) mac (take k (part q most_octets fs)) b x
+            received-by (with_unfinished (whole_of ws fs) n NoFrame) n s (known fs) mac (take k (part q most_octets fs)) b x
             (sym (ap (λ (o : Outcome). o.answer) (end_is ws fs n lo hi s (known fs) b ∙ ap (ended (whole_of ws fs) n b) (frame_is fs (Begun mac k) e))) ∙ z);
       }
 

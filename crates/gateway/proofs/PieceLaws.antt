@@ -13,7 +13,7 @@ use Rattle.basics.specs.Lists.{part, tabulate}
 use Rattle.basics.proofs.BoolLaws.{by-test}
 use Rattle.basics.proofs.ListLaws.{tabulate-set, tabulate-same}
 use Rattle.basics.proofs.PartLaws.{length_back, part_same}
-use Rattle.chunks.specs.Chunks.{None, most_octets}
+use Rattle.chunks.specs.Chunks.{NoFrame, most_octets}
 use Rattle.chunks.specs.Words.{slot_words, pending_of, meant}
 use Rattle.chunks.specs.declared.slot.Pending.TheVariants.{Idle}
 use Rattle.basics.specs.declared.refusal.Refusal.{Refusal}
@@ -83,7 +83,7 @@ module _ (ws t : List ℕ) (len : length ws ≡ gateway_words) (i : ℕ) (lt : i
 -- so on the circuits before i; the gateway's own words are as they were
 pub record Dropped (ws ws' : List ℕ) (i : ℕ) : Type 0 where
   pub own : gateway_of ws' ≡ gateway_of ws
-  pub none : (fs : List ℕ) (j : ℕ) → j < i → unfinished_at ws' fs j ≡ None
+  pub none : (fs : List ℕ) (j : ℕ) → j < i → unfinished_at ws' fs j ≡ NoFrame
 
 pub dropped-none : (ws : List ℕ) → Dropped ws ws 0
 dropped-none ws = record { own = refl; none = λ fs j h. absurd (omega arith) }
@@ -105,7 +105,7 @@ dropped-next ws₀ ws t len i lt long idle d =
 pub dropped-all : (ws ws' : List ℕ) (i : ℕ) → circuits ≤ i → Dropped ws ws' i → (fs : List ℕ) → whole_of ws' fs ≡ with_frames (whole_of ws fs) no_frames
 unfolding whole_of
 dropped-all ws ws' i le d fs =
-    let u : tabulate (unfinished_at ws' fs) circuits ≡ no_frames = tabulate-same (unfinished_at ws' fs) (λ j. None) circuits (λ j lj. d.none fs j (omega arith)) in
+    let u : tabulate (unfinished_at ws' fs) circuits ≡ no_frames = tabulate-same (unfinished_at ws' fs) (λ j. NoFrame) circuits (λ j lj. d.none fs j (omega arith)) in
     cc (d.own, u)
 
 -- the own words are those of the memory before

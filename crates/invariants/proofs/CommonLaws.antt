@@ -38,7 +38,7 @@ use Rattle.timer_parts.specs.declared.heard.Heard.{Heard}
 use Rattle.timer_parts.specs.declared.t3.T3.TheVariants.{Idle}
 use Rattle.timers.specs.Timers.{Timers, settled, to_t3, heard_in, csnp_in, notice_t2s}
 use Rattle.control.specs.Common.{Common, with_clock, with_timers, circuit_of, start_of, setup_common}
-use Rattle.chunks.specs.Chunks.{Unfinished, None, Frame, Joined, Refused as RefusedChunk, As, join}
+use Rattle.chunks.specs.Chunks.{Unfinished, NoFrame, Frame, Joined, Refused as RefusedChunk, As, join}
 use Rattle.model.specs.Gateway.{Room, Gateway, unfinished_on, with_unfinished}
 use Rattle.model.specs.Receive.{refuse, here_of, said_of, t1_of, accepted, reacted, decided_in, checked, read_in, receive}
 use Rattle.model.specs.Step.{Local, Receive, Release, Clear, CsnpComplete, LookUp, LinkMetric, NextHello, Global, Tick, DatabaseComplete, Waiting, Piece, Begin, Chunk, End, Call, At, Over, Hand, asks_level, csnp_of, csnp_complete, look_up, link_metric_of, next_hello, act, lift, on, at, Judged, Refused as RefusedCall, Sweep, Tell, none_of, tick_of, database_of, judge, carry, chunked, ended, hand, hand_on, step}
@@ -289,8 +289,8 @@ module _ (g : Gateway) where
 
   end-moves : (n : ℕ) (b : List ℕ) (u : Unfinished) → Moves g.common (ended g n b u).next.common
   unfolding ended at
-  end-moves n b None = stays
-  end-moves n b (Frame mac octets) = on-moves (with_unfinished g n None) n (Receive mac octets b) (circuit_of g.common n) refl
+  end-moves n b NoFrame = stays
+  end-moves n b (Frame mac octets) = on-moves (with_unfinished g n NoFrame) n (Receive mac octets b) (circuit_of g.common n) refl
 
   hand-moves : (n : ℕ) (p : Piece) (x : Chosen) → Moves g.common (hand_on g n p x).next.common
   unfolding hand_on hand

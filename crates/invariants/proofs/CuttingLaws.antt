@@ -11,7 +11,7 @@ use borrow.Author.Tests.{eqb-false}
 use Rattle.settings.specs.declared.circuit.Chosen.{Chosen}
 use Rattle.settings.specs.declared.circuit.Chosen.TheVariants.{Known, Unknown}
 use Rattle.settings.specs.declared.circuit.Circuit.{Circuit}
-use Rattle.chunks.specs.Chunks.{Unfinished, None, Frame, most_octets, Joined, Refused as RefusedChunk, As, join, joined}
+use Rattle.chunks.specs.Chunks.{Unfinished, NoFrame, Frame, most_octets, Joined, Refused as RefusedChunk, As, join, joined}
 use Rattle.chunks.proofs.ChunkLaws.{join-fits}
 use Rattle.control.specs.Common.{circuit_of}
 use Rattle.model.specs.Gateway.{Gateway, unfinished_on, with_frames, with_unfinished}
@@ -55,13 +55,13 @@ module _ (n : ℕ) (u : Unfinished) where
 
     end-hung : (b : List ℕ) (v : Unfinished) → ended (with_unfinished g n u) m b v ≡ hung n u (ended g m b v)
     unfolding ended at
-    end-hung b None = refl
+    end-hung b NoFrame = refl
     end-hung b (Frame mac octets) =
-        ap (λ (h : Gateway). on h m (Receive mac octets b) (circuit_of g.common m)) (two-frames None)
-        ∙ on-hung (with_unfinished g m None) m (Receive mac octets b) (circuit_of g.common m)
+        ap (λ (h : Gateway). on h m (Receive mac octets b) (circuit_of g.common m)) (two-frames NoFrame)
+        ∙ on-hung (with_unfinished g m NoFrame) m (Receive mac octets b) (circuit_of g.common m)
 
     own : unfinished_on (with_unfinished g n u) m ≡ unfinished_on g m
-    own = renew-other g.unfinished n m u None apart
+    own = renew-other g.unfinished n m u NoFrame apart
 
     hand-hung : (p : Piece) (x : Chosen) → hand_on (with_unfinished g n u) m p x ≡ hung n u (hand_on g m p x)
     unfolding hand_on hand
@@ -103,7 +103,7 @@ module _ (n mac : ℕ) (s : Circuit) where
       }
 
   frame-there : (g : Gateway) (u : Unfinished) → Has g → unfinished_on (with_unfinished g n u) n ≡ u
-  frame-there g u h = renew-same g.unfinished n u None h.low h.high
+  frame-there g u h = renew-same g.unfinished n u NoFrame h.low h.high
 
   add-chunk : (g : Gateway) (octets c : List ℕ) → Has g → length octets + length c ≤ most_octets
       → (step (with_unfinished g n (Frame mac octets)) (Hand n (Chunk c))).next ≡ with_unfinished g n (Frame mac (octets ++ c))
@@ -132,10 +132,10 @@ module _ (n mac : ℕ) (s : Circuit) where
 
   -- the end
   end_is : (g : Gateway) (octets b : List ℕ) → Has g
-      → step (with_unfinished g n (Frame mac octets)) (Hand n (End b)) ≡ hung n None (step g (At n (Receive mac octets b)))
+      → step (with_unfinished g n (Frame mac octets)) (Hand n (End b)) ≡ hung n NoFrame (step g (At n (Receive mac octets b)))
   unfolding step hand_on hand ended at
   end_is g octets b h =
-      rw (h.known, frame-there g (Frame mac octets) h, again g n (Frame mac octets) None, h.known) (on-hung n None g n (Receive mac octets b) (Known s))
+      rw (h.known, frame-there g (Frame mac octets) h, again g n (Frame mac octets) NoFrame, h.known) (on-hung n NoFrame g n (Receive mac octets b) (Known s))
 
   begin-is : (g : Gateway) → Has g → (step g (Hand n (Begin mac))).next ≡ with_unfinished g n (Frame mac [])
   unfolding step hand_on hand

@@ -11,7 +11,7 @@ use Rattle.basics.specs.Mask.{circuits}
 use Rattle.settings.specs.declared.circuit.Chosen.{Chosen}
 use Rattle.settings.specs.declared.circuit.Chosen.TheVariants.{Known, Unknown}
 use Rattle.settings.specs.declared.setup.Settings.{Settings}
-use Rattle.chunks.specs.Chunks.{Unfinished, None, Frame, most_octets, Joined, Refused as RefusedChunk, As, join}
+use Rattle.chunks.specs.Chunks.{Unfinished, NoFrame, Frame, most_octets, Joined, Refused as RefusedChunk, As, join}
 use Rattle.control.specs.Common.{circuit_of}
 use Rattle.model.specs.Gateway.{Gateway, numbered, unfinished_on, with_unfinished, new_gateway}
 use Rattle.model.specs.Step.{Receive, Piece, Begin, Chunk, End, Call, At, Over, Hand, chunked, ended, hand, hand_on, step}
@@ -22,16 +22,16 @@ use Rattle.invariants.proofs.NumberedLaws.{renew-all}
 
 -- ---- setup
 
-none-begun : (k i : ℕ) → FrameFits (get_or (replicate k None) i None)
+none-begun : (k i : ℕ) → FrameFits (get_or (replicate k NoFrame) i NoFrame)
 none-begun zero i = omega arith
 none-begun (suc k) zero = omega arith
 none-begun (suc k) (suc i) = none-begun k i
 
 pub new-frames : (s : Settings) → FramesFit (new_gateway s)
 unfolding new_gateway numbered
-new-frames s = record { one = length-replicate circuits None; fit = by }
+new-frames s = record { one = length-replicate circuits NoFrame; fit = by }
   where
-    by : (n : ℕ) → FrameFits (numbered (replicate circuits None) n None)
+    by : (n : ℕ) → FrameFits (numbered (replicate circuits NoFrame) n NoFrame)
     by zero = omega arith
     by (suc i) = none-begun circuits i
 
@@ -48,7 +48,7 @@ JoinFits (As u) = FrameFits u
 
 join-fits : (u : Unfinished) (c : List ℕ) → FrameFits u → Octets c → JoinFits (join u c)
 unfolding join
-join-fits None c h o = omega arith
+join-fits NoFrame c h o = omega arith
 join-fits (Frame mac octets) c h o =
     by-test (ltb most_octets (length octets + length c)) (λ e. rw e (omega arith))
     (λ e. rw e (rw (length-append octets c) (ltb-false most_octets (length octets + length c) e), join-octets octets c h.1 o))
@@ -60,7 +60,7 @@ module _ (g : Gateway) (h : FramesFit g) where
   frame-fits n u f =
       record {
         one = length-renew g.unfinished n u ∙ h.one;
-        fit = renew-all None (λ m v. FrameFits v) g.unfinished n u h.fit f;
+        fit = renew-all NoFrame (λ m v. FrameFits v) g.unfinished n u h.fit f;
       }
 
   chunk-frames : (n : ℕ) (j : Joined) → JoinFits j → FramesFit (chunked g n j).next
@@ -80,9 +80,9 @@ hand-length g n (Chunk octets) (Known s) = by (join (unfinished_on g n) octets)
 hand-length g n (End b) (Known s) = by (unfinished_on g n)
   where
     by : (u : Unfinished) → length (ended g n b u).next.unfinished ≡ length g.unfinished
-    by None = refl
+    by NoFrame = refl
     by (Frame mac octets) =
-        ap length (frames-kept (with_unfinished g n None) (At n (Receive mac octets b)) refl) ∙ length-renew g.unfinished n None
+        ap length (frames-kept (with_unfinished g n NoFrame) (At n (Receive mac octets b)) refl) ∙ length-renew g.unfinished n NoFrame
 
 -- as many as there were
 pub step-length : (g : Gateway) (c : Call) → length (step g c).next.unfinished ≡ length g.unfinished
@@ -103,10 +103,10 @@ hand-frames g n (Chunk octets) (Known s) h f =
 hand-frames g n (End b) (Known s) h f = by (unfinished_on g n)
   where
     by : (u : Unfinished) → FramesFit (ended g n b u).next
-    by None = h
+    by NoFrame = h
     by (Frame mac octets) =
-        left-frames (with_unfinished g n None) _ (frames-kept (with_unfinished g n None) (At n (Receive mac octets b)) refl)
-        (frame-fits g h n None (omega arith))
+        left-frames (with_unfinished g n NoFrame) _ (frames-kept (with_unfinished g n NoFrame) (At n (Receive mac octets b)) refl)
+        (frame-fits g h n NoFrame (omega arith))
 
 pub step-frames : (g : Gateway) (c : Call) → FramesFit g → Fits c → FramesFit (step g c).next
 unfolding step

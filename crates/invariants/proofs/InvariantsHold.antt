@@ -26,7 +26,7 @@ use Rattle.settings.specs.declared.circuit.Chosen.TheVariants.{Known, Unknown}
 use Rattle.adjacency.specs.Keys.{key_in}
 use Rattle.timers.specs.Hellos.{Hellos}
 use Rattle.model.specs.Answers.{Received, Ticked, FrameAnswer, TimersAnswer}
-use Rattle.chunks.specs.Chunks.{None, Frame}
+use Rattle.chunks.specs.Chunks.{NoFrame, Frame}
 use Rattle.model.specs.Gateway.{Gateway, room_of, record_at, unfinished_on, with_unfinished}
 use Rattle.model.specs.Receive.{receive}
 use Rattle.model.specs.Step.{Call, At, Over, Hand, Receive, Tick, End, act, lift, on, at, none_of, tick_of, judge, carry, ended, hand, hand_on, step}
@@ -125,7 +125,7 @@ module _ (g : Gateway) (h : RoomsOk g) where
 
 -- an end on a circuit that is there, with its frame begun
 end_is : (g : Gateway) (n mac : ℕ) (frame b : List ℕ) (s : Circuit) → circuit_of g.common n ≡ Known s → unfinished_on g n ≡ Frame mac frame
-    → step g (Hand n (End b)) ≡ step (with_unfinished g n None) (At n (Receive mac frame b))
+    → step g (Hand n (End b)) ≡ step (with_unfinished g n NoFrame) (At n (Receive mac frame b))
 unfolding step hand_on hand ended
 end_is g n mac frame b s e u = rw (e, u) refl
 
@@ -135,7 +135,7 @@ reply-time : (g : Gateway) → RoomsOk g → (c : Call) (n mac : ℕ) (frame : L
 reply-time g ok c n mac frame s h f (whole {buffer = b}) o e r a q = reply-true g ok n mac frame b s h f o e r a q
 reply-time g ok c n mac frame s h f (gives-ended {buffer = b} u) o e r a q =
     let is = end_is g n mac frame b s e u in
-    rw is (reply-true (with_unfinished g n None) (rooms-aside g n None ok) n mac frame b s h f o e r (rw is at a) q)
+    rw is (reply-true (with_unfinished g n NoFrame) (rooms-aside g n NoFrame ok) n mac frame b s h f o e r (rw is at a) q)
 
 true-replies : (g : Gateway) → RoomsOk g → TrueReplies g
 true-replies g ok = record { time = reply-time g ok }

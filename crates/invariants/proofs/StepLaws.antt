@@ -17,7 +17,7 @@ use Rattle.settings.specs.declared.setup.Settings.{Settings}
 use Rattle.control.specs.Common.{Common, with_clock, circuit_of}
 use Rattle.settings.specs.declared.circuit.Chosen.{Chosen}
 use Rattle.settings.specs.declared.circuit.Chosen.TheVariants.{Known, Unknown}
-use Rattle.chunks.specs.Chunks.{Unfinished, None, Frame, Joined, Refused as RefusedChunk, As, join}
+use Rattle.chunks.specs.Chunks.{Unfinished, NoFrame, Frame, Joined, Refused as RefusedChunk, As, join}
 use Rattle.model.specs.Gateway.{Room, Gateway, with_rooms, with_common, no_room, numbered, renew, room_of, unfinished_on, with_unfinished}
 use Rattle.model.specs.Receive.{Acted, refuse}
 use Rattle.model.specs.Step.{Local, Receive, Release, Clear, CsnpComplete, LookUp, LinkMetric, NextHello, Piece, Begin, Chunk, End, Call, At, Over, Hand, asks_level, csnp_complete, look_up, link_metric_of, next_hello, act, lift, on, at, Judged, Refused as RefusedCall, Sweep, Tell, judge, carry, chunked, ended, hand, hand_on, step}
@@ -118,9 +118,9 @@ module _ (g : Gateway) (h : RoomsOk g) (frames : FramesFit g) where
 
   end-rooms : (n : ℕ) (b : List ℕ) (u : Unfinished) → unfinished_on g n ≡ u → RoomsOk (ended g n b u).next
   unfolding ended at
-  end-rooms n b None e = h
+  end-rooms n b NoFrame e = h
   end-rooms n b (Frame mac octets) e =
-      on-rooms (with_unfinished g n None) (rooms-aside g n None h) n (Receive mac octets b) (circuit_of g.common n) refl
+      on-rooms (with_unfinished g n NoFrame) (rooms-aside g n NoFrame h) n (Receive mac octets b) (circuit_of g.common n) refl
       (fits-receive n mac octets b (rw e at (frames.fit n)).1)
 
   hand-rooms : (n : ℕ) (p : Piece) (x : Chosen) → RoomsOk (hand_on g n p x).next

@@ -3,7 +3,7 @@
 use Rattle.std.specs.Prelude.{ℕ, ◌≤◌, ◌≡◌, Bool, false, List, [], ◌∷◌, length, eqb}
 use Rattle.settings.specs.declared.circuit.Chosen.TheVariants.{Known}
 use Rattle.settings.specs.declared.circuit.Circuit.{Circuit}
-use Rattle.chunks.specs.Chunks.{Unfinished, None, most_octets, joined}
+use Rattle.chunks.specs.Chunks.{Unfinished, NoFrame, most_octets, joined}
 use Rattle.control.specs.Common.{circuit_of}
 use Rattle.model.specs.Gateway.{Gateway, with_unfinished}
 use Rattle.model.specs.Step.{Receive, Begin, Chunk, End, Call, At, Over, Hand, Outcome, step}
@@ -42,7 +42,7 @@ pub record EndsAs (n : ℕ) (e r : Outcome) : Type 0 where
   pub answer : e.answer ≡ r.answer
   pub reply : e.reply ≡ r.reply
   -- records, timers, clock and the unfinished frames of the other circuits; its own is dropped
-  pub next : e.next ≡ with_unfinished r.next n None
+  pub next : e.next ≡ with_unfinished r.next n NoFrame
 
 -- A circuit that is there, in a gateway that has a place for its frame, as every one has from setup on and any lent words.
 abbrev pub AnyCutting : Type 0

@@ -18,7 +18,7 @@ use Rattle.adjacency.specs.declared.record.State.TheVariants.{Init, Up}
 use Rattle.adjacency.specs.declared.place.Slot.{Slot}
 use Rattle.adjacency.specs.declared.place.Slot.TheVariants.{Free, Held, Closed}
 use Rattle.room.specs.Gather.{gather}
-use Rattle.chunks.specs.Chunks.{Unfinished, None, Frame, most_octets}
+use Rattle.chunks.specs.Chunks.{Unfinished, NoFrame, Frame, most_octets}
 use Rattle.basics.specs.Levels.{Level, is_on, has_level}
 use Rattle.basics.specs.declared.levels.Levels.{Levels}
 use Rattle.timer_parts.specs.T2.{t2_at, any_t2}
@@ -59,7 +59,7 @@ pub data AllFit : List Call → Type 0 where
 -- ---- document 02, W-205: "Each circuit has its own unfinished frame"; 14, "more than 1,500 octets joined"
 
 abbrev pub FrameFits : Unfinished → Type 0
-FrameFits None = 0 ≤ 0
+FrameFits NoFrame = 0 ≤ 0
 FrameFits (Frame mac octets) = (length octets ≤ most_octets) × Octets octets
 
 pub record FramesFit (g : Gateway) : Type 0 where

@@ -9,7 +9,7 @@ use borrow.Author.Tests.{eqb-true, eqb-false}
 use Rattle.basics.proofs.BoolLaws.{by-test, and_left, and-false}
 use Rattle.settings.specs.declared.circuit.Chosen.{Chosen}
 use Rattle.settings.specs.declared.circuit.Chosen.TheVariants.{Known, Unknown}
-use Rattle.chunks.specs.Chunks.{Unfinished, None, Frame, begun, Joined, Refused as RefusedChunk, As, join}
+use Rattle.chunks.specs.Chunks.{Unfinished, NoFrame, Frame, begun, Joined, Refused as RefusedChunk, As, join}
 use Rattle.control.specs.Common.{Common, circuit_of}
 use Rattle.model.specs.Answers.{Answer}
 use Rattle.model.specs.Gateway.{Gateway, unfinished_on, with_frames, with_unfinished}
@@ -34,7 +34,7 @@ module _ (b : Neighbour) (s₁ s₂ : Bool) (g₁ g₂ : Gateway) (n : Near b s�
         elsewhere = k.elsewhere;
         frames = cc (length-renew g₁.unfinished i u₁, length-renew g₂.unfinished i u₂, n.frames);
         unfinished = λ j h.
-            renew-both (λ x y. x ≡ y) None u₁ u₂ refl g₁.unfinished g₂.unfinished i j n.frames (λ q. n.unfinished j h) (λ q. away (rw q h));
+            renew-both (λ x y. x ≡ y) NoFrame u₁ u₂ refl g₁.unfinished g₂.unfinished i j n.frames (λ q. n.unfinished j h) (λ q. away (rw q h));
         own = k.own;
       }
 
@@ -42,7 +42,7 @@ module _ (b : Neighbour) (s₁ s₂ : Bool) (g₁ g₂ : Gateway) (n : Near b s�
   own-frame : (z : Bool) → (z ≡ true → s₁ ≡ true) → (u : Unfinished) → Near b z s₂ (with_unfinished g₁ b.circuit u) g₂
   own-frame z w u =
       subst (λ (l : List Unfinished). Near b z s₂ (with_unfinished g₁ b.circuit u) (with_frames g₂ l))
-      (renew-numbered g₂.unfinished b.circuit None)
+      (renew-numbered g₂.unfinished b.circuit NoFrame)
       (frame-near z s₂ w (λ h. h) b.circuit u (unfinished_on g₂ b.circuit) (λ h. absurd (h refl)))
 
   -- ---- begins, chunks and ends on another circuit
@@ -65,10 +65,10 @@ module _ (b : Neighbour) (s₁ s₂ : Bool) (g₁ g₂ : Gateway) (n : Near b s�
 
     end_kept : (buf : List ℕ) (u : Unfinished) → Kept b s₁ s₂ (Hand i p) (ended g₁ i buf u) (ended g₂ i buf u)
     unfolding ended at
-    end_kept buf None = refused-kept _ _
+    end_kept buf NoFrame = refused-kept _ _
     end_kept buf (Frame mac octets) =
         rw (ap (λ (c : Common). circuit_of c i) (sym n.common))
-        (away-on b s₁ s₂ _ _ (frame-near s₁ s₂ (λ e. e) (λ e. e) i None None (λ e. refl)) (Hand i p) i (Receive mac octets buf) h (circuit_of g₁.common i))
+        (away-on b s₁ s₂ _ _ (frame-near s₁ s₂ (λ e. e) (λ e. e) i NoFrame NoFrame (λ e. refl)) (Hand i p) i (Receive mac octets buf) h (circuit_of g₁.common i))
 
   hand-kept : (i : ℕ) (p : Piece) → i ≢ b.circuit → (q : Chosen) → Kept b s₁ s₂ (Hand i p) (hand_on g₁ i p q) (hand_on g₂ i p q)
   unfolding hand_on hand
@@ -102,9 +102,9 @@ module _ (b : Neighbour) (s₁ s₂ : Bool) (g₁ g₂ : Gateway) (n : Near b s�
   hand-near (End buf) (Known s) = by (unfinished_on g₁ b.circuit)
     where
       by : (u : Unfinished) → Near b false s₂ (ended g₁ b.circuit buf u).next g₂
-      by None = same-near b s₁ s₂ g₁ g₂ n false s₂ never (λ h. h)
+      by NoFrame = same-near b s₁ s₂ g₁ g₂ n false s₂ never (λ h. h)
       by (Frame mac octets) =
-          alone-on b false s₂ _ g₂ (own-frame false never None) false never (Receive mac octets buf) (circuit_of g₁.common b.circuit) (λ s r e. never e)
+          alone-on b false s₂ _ g₂ (own-frame false never NoFrame) false never (Receive mac octets buf) (circuit_of g₁.common b.circuit) (λ s r e. never e)
 
   -- ---- every call
 

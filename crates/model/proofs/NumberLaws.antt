@@ -36,7 +36,7 @@ use Rattle.settings.specs.declared.circuit.Circuit.{Circuit}
 use Rattle.settings.specs.declared.circuit.Chosen.{Chosen}
 use Rattle.settings.specs.declared.circuit.Chosen.TheVariants.{Known, Unknown}
 use Rattle.control.specs.Common.{Common, circuit_of}
-use Rattle.chunks.specs.Chunks.{Unfinished, None, Frame, Joined, Refused as RefusedChunk, As, most_octets, join}
+use Rattle.chunks.specs.Chunks.{Unfinished, NoFrame, Frame, Joined, Refused as RefusedChunk, As, most_octets, join}
 use Rattle.model.specs.Answers.{Answer, Refused, Received, Ticked, Told}
 use Rattle.model.specs.Gateway.{Gateway, Room, unfinished_on, with_unfinished}
 use Rattle.model.specs.Numbers.{refusal_no}
@@ -178,7 +178,7 @@ judge-within g Waiting = refl
 
 chunk-within : (g : Gateway) (n : ℕ) (u : Unfinished) (octets : List ℕ) → within (1 ∷ 13 ∷ 14 ∷ []) (chunked g n (join u octets)).answer ≡ true
 unfolding chunked join is_one_of
-chunk-within g n None octets = refl
+chunk-within g n NoFrame octets = refl
 chunk-within g n (Frame mac joined) octets =
     cond-passes (λ (j : Joined). within (1 ∷ 13 ∷ 14 ∷ []) (chunked g n j).answer) (ltb most_octets (length joined + length octets)) (RefusedChunk TooLong)
     (As (Frame mac (joined ++ octets))) refl refl
@@ -195,10 +195,10 @@ module _ (g : Gateway) (n : ℕ) (s : Circuit) (known : circuit_of g.common n �
 ended-within : (g : Gateway) (n : ℕ) (s : Circuit) (b : List ℕ) (u : Unfinished) → circuit_of g.common n ≡ Known s
     → within (1 ∷ 13 ∷ frame_numbers) (ended g n b u).answer ≡ true
 unfolding ended is_one_of
-ended-within g n s b None known = refl
+ended-within g n s b NoFrame known = refl
 ended-within g n s b (Frame mac octets) known =
-    let a : Answer = (at (with_unfinished g n None) n (Receive mac octets b)).answer in
-    within_more 1 (13 ∷ frame_numbers) a (within_more 13 frame_numbers a (frame-within (with_unfinished g n None) n s known mac octets b))
+    let a : Answer = (at (with_unfinished g n NoFrame) n (Receive mac octets b)).answer in
+    within_more 1 (13 ∷ frame_numbers) a (within_more 13 frame_numbers a (frame-within (with_unfinished g n NoFrame) n s known mac octets b))
 
 hand-within : (g : Gateway) (n : ℕ) (p : Piece) (q : Chosen) → circuit_of g.common n ≡ q → within (numbers_to p) (hand_on g n p q).answer ≡ true
 unfolding hand_on hand is_one_of

@@ -26,7 +26,7 @@ use Rattle.adjacency.specs.Keys.{key_in}
 use Rattle.room.specs.Accept.{decided}
 use Rattle.timers.specs.Hellos.{Hellos}
 use Rattle.model.specs.Answers.{Refused, Told, Fact, TimersAnswer}
-use Rattle.chunks.specs.Chunks.{Unfinished, None, Frame, Joined, Refused as RefusedChunk, As, join}
+use Rattle.chunks.specs.Chunks.{Unfinished, NoFrame, Frame, Joined, Refused as RefusedChunk, As, join}
 use Rattle.model.specs.Gateway.{Gateway, Room, with_rooms, with_common, renew, no_room, room_of, unfinished_on, with_unfinished}
 use Rattle.model.specs.Receive.{Acted, refuse, here_of, accepted, reacted, decided_in, checked, read_in, is_short, receive}
 use Rattle.model.specs.Step.{Outcome, Local, Receive, Release, Clear, CsnpComplete, LookUp, LinkMetric, NextHello, Global, Tick, DatabaseComplete, Waiting, Piece, Begin, Chunk, End, At, Over, Hand, told, asks_level, csnp_complete, look_up, link_metric_of, next_hello, act, lent, lift, refused, on, at, chunked, ended, hand, hand_on, lent_to, Judged, Refused as RefusedCall, Sweep, Tell, none_of, quiet, is_back, tick_of, database_of, judge, carry, step}
@@ -159,10 +159,10 @@ unknown-leaves g n (End b) = refused-leaves g n (End b) NoCircuit refl
 
 end_leaves : (g : Gateway) (n : ℕ) (s : Circuit) (b : List ℕ) (u : Unfinished) → circuit_of g.common n ≡ Known s → Leaves g n (End b) (ended g n b u)
 unfolding ended at is_one_of
-end_leaves g n s b None known = refused-leaves g n (End b) NotBegun refl
+end_leaves g n s b NoFrame known = refused-leaves g n (End b) NotBegun refl
 end_leaves g n s b (Frame mac octets) known = λ x e.
-    let k = on-stays (with_unfinished g n None) n (Receive mac octets b) (circuit_of g.common n) x e in
-    (rw (received-by (with_unfinished g n None) n s known mac octets b x e) k.0, k.1)
+    let k = on-stays (with_unfinished g n NoFrame) n (Receive mac octets b) (circuit_of g.common n) x e in
+    (rw (received-by (with_unfinished g n NoFrame) n s known mac octets b x e) k.0, k.1)
 
 hand-leaves : (g : Gateway) (n : ℕ) (p : Piece) (q : Chosen) → circuit_of g.common n ≡ q → Leaves g n p (hand_on g n p q)
 unfolding hand_on hand

@@ -27,7 +27,7 @@ use Rattle.settings.specs.declared.circuit.Circuit.{Circuit}
 use Rattle.settings.specs.declared.circuit.Chosen.{Chosen}
 use Rattle.settings.specs.declared.circuit.Chosen.TheVariants.{Known, Unknown}
 use Rattle.control.specs.Common.{Common, circuit_of}
-use Rattle.chunks.specs.Chunks.{Unfinished, None, Frame, Joined, Refused as RefusedChunk, As, join}
+use Rattle.chunks.specs.Chunks.{Unfinished, NoFrame, Frame, Joined, Refused as RefusedChunk, As, join}
 use Rattle.model.specs.Gateway.{Gateway, Room, room_of, unfinished_on, with_unfinished}
 use Rattle.model.specs.Receive.{Acted, refuse, said_of, t1_of, accepted, reacted, decided_in, checked, read_in, is_short, receive}
 use Rattle.model.specs.Step.{Local, Receive, Release, Clear, CsnpComplete, LookUp, LinkMetric, NextHello, Global, Tick, DatabaseComplete, Waiting, Piece, Begin, Chunk, End, Call, At, Over, Hand, asks_level, csnp_complete, look_up, link_metric_of, next_hello, act, lift, on, at, none_of, is_back, tick_of, database_of, judge, carry, chunked, ended, hand, hand_on, step}
@@ -111,8 +111,8 @@ end-moves : (g : Gateway) (n : ℕ) (b : List ℕ) (u : Unfinished)
     → (ended g n b u).next.common.timers
     ≡ moved (where_done (ended g n b u).answer (λ rose. offered_by n g.common rose (End b) u)) g.common.timers
 unfolding ended at offered_by moved where_done
-end-moves g n b None = refl
-end-moves g n b (Frame mac octets) = on-moves (with_unfinished g n None) n (Receive mac octets b) (circuit_of g.common n)
+end-moves g n b NoFrame = refl
+end-moves g n b (Frame mac octets) = on-moves (with_unfinished g n NoFrame) n (Receive mac octets b) (circuit_of g.common n)
 
 hand-moves : (g : Gateway) (n : ℕ) (p : Piece) (q : Chosen)
     → (hand_on g n p q).next.common.timers

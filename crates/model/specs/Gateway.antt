@@ -7,7 +7,7 @@ use Rattle.adjacency.specs.declared.record.Adjacency.{Adjacency}
 use Rattle.adjacency.specs.declared.record.Key.{Key}
 use Rattle.adjacency.specs.declared.place.Slot.{Slot}
 use Rattle.room.specs.Table.{find, empty_room}
-use Rattle.chunks.specs.Chunks.{Unfinished, None}
+use Rattle.chunks.specs.Chunks.{Unfinished, NoFrame}
 use Rattle.timers.specs.Hellos.{Hellos}
 use Rattle.timers.specs.Events.{start_hellos}
 use Rattle.settings.specs.Settings.{settings_ok}
@@ -55,7 +55,7 @@ room_of g n = numbered g.rooms n no_room
 
 -- "Each circuit has its own unfinished frame."
 abbrev pub unfinished_on : Gateway → ℕ → Unfinished
-unfinished_on g n = numbered g.unfinished n None
+unfinished_on g n = numbered g.unfinished n NoFrame
 
 abbrev pub with_frames : Gateway → List Unfinished → Gateway
 with_frames g us = record { common = g.common; rooms = g.rooms; unfinished = us }
@@ -74,7 +74,7 @@ abbrev pub new_room : Circuit → Room
 new_room s = record { slots = empty_room s.kind }
 
 abbrev pub no_frames : List Unfinished
-no_frames = replicate circuits None
+no_frames = replicate circuits NoFrame
 
 unfoldable pub new_gateway : Settings → Gateway
 new_gateway s = record { common = setup_common s; rooms = map new_room s.circuits; unfinished = no_frames }

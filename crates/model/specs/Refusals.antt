@@ -2,7 +2,7 @@
 -- octet of a lent buffer, and no unfinished frame but that of an end which receive refuses. Of every gateway and every call.
 use Rattle.std.specs.Prelude.{ℕ, ◌≡◌, Bool, true, false, cond, ◌||◌, List, [], ◌∷◌, eqb}
 use Rattle.basics.specs.declared.refusal.Refusal.{Refusal}
-use Rattle.chunks.specs.Chunks.{None}
+use Rattle.chunks.specs.Chunks.{NoFrame}
 use Rattle.model.specs.Numbers.{refusal_no}
 use Rattle.model.specs.Answers.{Refused}
 use Rattle.model.specs.Gateway.{Gateway, with_unfinished}
@@ -70,7 +70,7 @@ drops (Hand n p) x = drops_to p x
 abbrev pub left_refused : Gateway → Call → Refusal → Gateway
 left_refused g (At n l) x = g
 left_refused g (Over w) x = g
-left_refused g (Hand n p) x = cond (drops_to p x) (with_unfinished g n None) g
+left_refused g (Hand n p) x = cond (drops_to p x) (with_unfinished g n NoFrame) g
 
 abbrev pub RefusalsKeep : Type 0
 RefusalsKeep = (g : Gateway) (c : Call) (x : Refusal) → (step g c).answer ≡ Refused x → ((step g c).next ≡ left_refused g c x) × ((step g c).reply ≡ lent_by c)

@@ -10,7 +10,7 @@ use Rattle.basics.specs.Levels.{has_level, only_level}
 use Rattle.adjacency.specs.declared.record.Key.{Key}
 use Rattle.room.specs.Table.{find, released, expired, any_expired, first_state, empty_room}
 use Rattle.metric.specs.Metric.{link_metric}
-use Rattle.chunks.specs.Chunks.{Unfinished, None, Frame, begun, Joined, Refused as RefusedChunk, As, join}
+use Rattle.chunks.specs.Chunks.{Unfinished, NoFrame, Frame, begun, Joined, Refused as RefusedChunk, As, join}
 use Rattle.basics.specs.Mask.{circuits}
 use Rattle.timer_parts.specs.T1.{hello_flags}
 use Rattle.timers.specs.Hellos.{Hellos, no_hellos}
@@ -220,8 +220,8 @@ chunked g n (As u) = handed (with_unfinished g n u)
 
 -- 13, or receive on the joined octets: the frame is dropped, "even [by] one that receive refuses"
 unfoldable pub ended : Gateway → ℕ → List ℕ → Unfinished → Outcome
-ended g n b None = refused g b NotBegun
-ended g n b (Frame mac octets) = at (with_unfinished g n None) n (Receive mac octets b)
+ended g n b NoFrame = refused g b NotBegun
+ended g n b (Frame mac octets) = at (with_unfinished g n NoFrame) n (Receive mac octets b)
 
 -- "Beginning again drops it"
 unfoldable pub hand : Gateway → ℕ → Piece → Outcome

@@ -17,7 +17,7 @@ use Rattle.control.specs.Common.{Common, circuit_of}
 use Rattle.adjacency.specs.declared.record.Phase.TheVariants.{Up}
 use Rattle.model.specs.Numbers.{phase_no}
 use Rattle.model.specs.Answers.{Answer, ChangeAnswer, Refused, Received, Ticked, Told}
-use Rattle.chunks.specs.Chunks.{Unfinished, None, Frame}
+use Rattle.chunks.specs.Chunks.{Unfinished, NoFrame, Frame}
 use Rattle.model.specs.Gateway.{Gateway, unfinished_on}
 use Rattle.model.specs.Receive.{said_of, t1_of}
 use Rattle.model.specs.Step.{Local, Receive, Release, Clear, CsnpComplete, LookUp, LinkMetric, NextHello, Global, Tick, DatabaseComplete, Waiting, Piece, Begin, Chunk, End, Call, At, Over, Hand, none_of, step}
@@ -71,7 +71,7 @@ offered_over c Waiting = Nothing
 unfoldable pub offered_by : ℕ → Common → Bool → Piece → Unfinished → TimerEvent
 offered_by n c rose (Begin mac) u = Nothing
 offered_by n c rose (Chunk octets) u = Nothing
-offered_by n c rose (End b) None = Nothing
+offered_by n c rose (End b) NoFrame = Nothing
 offered_by n c rose (End b) (Frame mac octets) = offered_on n c rose (Receive mac octets b) (circuit_of c n)
 
 unfoldable pub offered : Gateway → Call → Bool → TimerEvent

@@ -32,7 +32,7 @@ use Rattle.settings.specs.declared.circuit.Chosen.TheVariants.{Known, Unknown}
 use Rattle.settings.specs.declared.circuit.Circuit.{Circuit}
 use Rattle.control.specs.Common.{Common, circuit_of}
 use Rattle.model.specs.Answers.{Answer, TimersAnswer}
-use Rattle.chunks.specs.Chunks.{Unfinished, None, Frame, Joined, Refused as RefusedChunk, As, join}
+use Rattle.chunks.specs.Chunks.{Unfinished, NoFrame, Frame, Joined, Refused as RefusedChunk, As, join}
 use Rattle.model.specs.Gateway.{Room, Gateway, numbered, no_room, room_of, record_at, unfinished_on, with_frames, with_unfinished}
 use Rattle.model.specs.Receive.{Acted, refuse, accepted, receive}
 use Rattle.model.specs.Step.{Local, Receive, Release, Clear, CsnpComplete, LookUp, LinkMetric, NextHello, Global, Tick, DatabaseComplete, Waiting, Piece, Begin, Chunk, End, Call, At, Over, Hand, asks_level, csnp_complete, look_up, link_metric_of, next_hello, act, lift, on, at, Judged, Refused as RefusedCall, Sweep, Tell, none_of, is_back, tick_of, database_of, judge, swept_room, carry, chunked, ended, hand, hand_on, step}
@@ -224,11 +224,11 @@ module _ (g : Gateway) where
 
   end-hands : (m : ℕ) (b : List ℕ) (u : Unfinished) → Hands g (ended g m b u).next
   unfolding ended at record_at
-  end-hands m b None = same-hands _
+  end-hands m b NoFrame = same-hands _
   end-hands m b (Frame mac octets) =
       record {
-        circuits = on-circuits (with_unfinished g m None) m (Receive mac octets b) (circuit_of g.common m);
-        lost = λ n j v p e. (on-lost (with_unfinished g m None) m (Receive mac octets b) (circuit_of g.common m) n j v p e).1;
+        circuits = on-circuits (with_unfinished g m NoFrame) m (Receive mac octets b) (circuit_of g.common m);
+        lost = λ n j v p e. (on-lost (with_unfinished g m NoFrame) m (Receive mac octets b) (circuit_of g.common m) n j v p e).1;
       }
 
   hands : (m : ℕ) (p : Piece) (q : Chosen) → Hands g (hand_on g m p q).next

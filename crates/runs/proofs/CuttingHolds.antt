@@ -16,7 +16,7 @@ use Rattle.control.specs.Words.{control_words, sealed, count_place, count_in, co
 use Rattle.control.proofs.CommonLaws.{circuits-length}
 use Rattle.basics.specs.Lists.{part}
 use Rattle.model.specs.Gateway.{Gateway, with_unfinished}
-use Rattle.chunks.specs.Chunks.{None, joined}
+use Rattle.chunks.specs.Chunks.{NoFrame, joined}
 use Rattle.model.specs.Step.{Call, At, Hand, Receive, Begin, End, step}
 use Rattle.model.specs.Trace.{Turn, trace, left_by, after}
 use Rattle.own_words.specs.Words.{gateway_of}
@@ -72,5 +72,5 @@ code-cutting m₁ m₂ left₁ left₂ same n mac s known cs others chunks betwe
     record {
       answer = ap (λ (t : Turn). t.outcome.answer) x ∙ c.answer ∙ sym (ap (λ (t : Turn). t.outcome.answer) y);
       reply = ap (λ (t : Turn). t.outcome.reply) x ∙ c.reply ∙ sym (ap (λ (t : Turn). t.outcome.reply) y);
-      next = ap (λ (t : Turn). t.outcome.next) x ∙ c.next ∙ sym (ap (λ (t : Turn). with_unfinished t.outcome.next n None) y);
+      next = ap (λ (t : Turn). t.outcome.next) x ∙ c.next ∙ sym (ap (λ (t : Turn). with_unfinished t.outcome.next n NoFrame) y);
     }

@@ -7,7 +7,7 @@ use Rattle.settings.specs.declared.circuit.Circuit.{Circuit}
 use Rattle.settings.specs.declared.mode.Mode.TheVariants.{Running}
 use Rattle.settings.specs.declared.setup.Settings.{Settings}
 use Rattle.basics.specs.Lists.{part}
-use Rattle.chunks.specs.Chunks.{None, most_octets, joined}
+use Rattle.chunks.specs.Chunks.{NoFrame, most_octets, joined}
 use Rattle.control.specs.Common.{circuit_of}
 use Rattle.model.specs.Answers.{Refused}
 use Rattle.model.specs.Gateway.{with_unfinished}
@@ -58,7 +58,7 @@ CodeInvariants =
 pub record EndsSo (n : ℕ) (e r : Made) : Type 0 where
   pub answer : e.answer ≡ r.answer
   pub reply : e.reply ≡ r.reply
-  pub next : meaning e.left ≡ with_unfinished (meaning r.left) n None
+  pub next : meaning e.left ≡ with_unfinished (meaning r.left) n NoFrame
 
 abbrev pub CodeCutting : Type 0
 CodeCutting =
