@@ -4,7 +4,6 @@ use mathlib.Core.Path.{◌≡◌, refl}
 use mathlib.Core.Bool.{Bool, true, false, cond}
 use mathlib.Core.Logic.{◌⊎◌, inl, inr}
 use Rattle.basics.specs.Octets.{has_bits}
-use Rattle.restart_tlv.specs.declared.reader.Neighbor.{Neighbor}
 use Rattle.restart_tlv.specs.declared.reader.RestartTlv.{RestartTlv}
 use Rattle.restart_tlv.specs.declared.reader.RestartTlv.TheVariants.{Absent as NoTlv, Ignored, Present as Tlv}
 use Rattle.hello.specs.declared.read.Hello.{Hello}
@@ -21,12 +20,11 @@ use Rattle.adjacency.specs.declared.record.Phase.{Phase}
 use Rattle.adjacency.specs.declared.record.Phase.TheVariants.{Gone, Init as InitPhase, Up as UpPhase}
 use Rattle.adjacency.specs.declared.record.Data.{Data}
 use Rattle.adjacency.specs.declared.record.State.TheVariants.{Init, Up}
-use Rattle.adjacency.specs.declared.record.Adjacency.{Adjacency}
-use Rattle.adjacency.specs.declared.record.Adjacency.TheVariants.{Absent, Present}
 use Rattle.adjacency.specs.declared.step.Here.{Here}
 use Rattle.adjacency.specs.declared.marks.Road.{Road}
-use Rattle.adjacency.specs.declared.react.Reaction.{Reaction}
-use Rattle.adjacency.specs.declared.react.Reaction.TheVariants.{Refused, Accepted}
+use Rattle.std.specs.Prelude.{Option, Some, None, Ok, Err}
+use Rattle.adjacency.specs.React.{Reaction}
+use Rattle.adjacency.specs.declared.record.State.{State}
 
 -- line 4 or 5, by the mark alone
 pub clear-line : (tlv : RestartTlv) (mark : Mark) (before after : Phase) → (tlv ≡ NoTlv) ⊎ (tlv ≡ Ignored) → line_of tlv mark before after ≡ last_line mark
@@ -55,16 +53,16 @@ labelled suppressed tlv d =
       last = record { priority = d.last.priority; tlv = tlv; reverse = d.last.reverse };
     }
 
-abbrev labelled_in : Bool → Bool → Adjacency → Adjacency
-labelled_in suppressed tlv Absent = Absent
-labelled_in suppressed tlv (Present (Init d)) = Present (Init (labelled suppressed tlv d))
-labelled_in suppressed tlv (Present (Up d m)) = Present (Up (labelled suppressed tlv d) m)
+abbrev labelled_in : Bool → Bool → Option State → Option State
+labelled_in suppressed tlv None = None
+labelled_in suppressed tlv (Some (Init d)) = Some (Init (labelled suppressed tlv d))
+labelled_in suppressed tlv (Some (Up d m)) = Some (Up (labelled suppressed tlv d) m)
 
 abbrev but : Bool → Bool → Reaction → Reaction
-but suppressed tlv (Refused why) = Refused why
-but suppressed tlv (Accepted after reply line) = Accepted (labelled_in suppressed tlv after) reply line
+but suppressed tlv (Err why) = Err why
+but suppressed tlv (Ok (after, reply, line)) = Ok (labelled_in suppressed tlv after, reply, line)
 
-module _ (here : Here) (h : Hello) (before : Adjacency) (time : ℕ) (n : Neighbor) where
+module _ (here : Here) (h : Hello) (before : Option State) (time : ℕ) (n : Option ℕ) where
   abbrev clear : Hello
   clear = carrying (Tlv all_clear time n) h
 
@@ -92,7 +90,7 @@ module _ (here : Here) (h : Hello) (before : Adjacency) (time : ℕ) (n : Neighb
   refused_as r (P2p t) (inr e) = rw e refl
 
   either : (b : Bool) (suppressed tlv : Bool) (x y : Reaction) → x ≡ but suppressed tlv y
-      → cond b (Refused WrongNeighbor) x ≡ but suppressed tlv (cond b (Refused WrongNeighbor) y)
+      → cond b (Err WrongNeighbor) x ≡ but suppressed tlv (cond b (Err WrongNeighbor) y)
   either true suppressed tlv x y e = refl
   either false suppressed tlv x y e = e
 

@@ -8,7 +8,6 @@ use Rattle.restart_tlv.specs.declared.reader.RestartTlv.{RestartTlv}
 use Rattle.restart_tlv.specs.declared.reader.RestartTlv.TheVariants.{Absent as Bare, Ignored}
 use Rattle.hello.specs.declared.read.Link.{Link}
 use Rattle.hello.specs.declared.read.Link.TheVariants.{Lan}
-use Rattle.hello.specs.declared.reverse.ReverseMetric.TheVariants.{Absent as NoMetric}
 use Rattle.hello.specs.declared.three_way.ThreeWayState.TheVariants.{Up as UpState, Down}
 use Rattle.adjacency.specs.Record.{advertised}
 use Rattle.adjacency.specs.Step.{wrong_id, wrong_neighbor, link_step, kept_up, step_of}
@@ -20,23 +19,21 @@ use Rattle.adjacency.specs.declared.record.State.{State}
 use Rattle.adjacency.specs.declared.record.State.TheVariants.{Init, Up}
 use Rattle.adjacency.specs.declared.record.Record.{Record}
 use Rattle.adjacency.specs.declared.record.Mark.TheVariants.{Clear, Restart, Planned}
-use Rattle.adjacency.specs.declared.record.Adjacency.TheVariants.{Present}
 use Rattle.adjacency.specs.declared.marks.Line.{Line}
 use Rattle.adjacency.specs.declared.marks.Line.TheVariants.{Four, Five}
-use Rattle.adjacency.specs.declared.marks.Acknowledgement.TheVariants.{Nothing}
-use Rattle.adjacency.specs.declared.react.Reaction.TheVariants.{Accepted}
 use Rattle.adjacency.specs.declared.duty.Rank.{Rank}
 use Rattle.adjacency.proofs.SampleRuns.{at, link, heard}
+use Rattle.std.specs.Prelude.{Some, None, Ok}
 
 -- a frame with this TLV on this link makes of one state another, by this line and with no reply
 abbrev Makes : RestartTlv → Link → State → State → Line → Type 0
-Makes r l before after line = react_of (at 100) (heard r l) (Present before) ≡ Accepted (Present after) Nothing line
+Makes r l before after line = react_of (at 100) (heard r l) (Some before) ≡ Ok (Some after, None, line)
 
 -- frames of this priority
 module _ (priority : ℕ) where
   -- expiry, Suppressed, and whether the record counts as having the TLV
   abbrev kept : ℕ → Bool → Bool → Data
-  kept expiry suppressed tlv = record { expiry = expiry; suppressed = suppressed; last = record { priority = priority; tlv = tlv; reverse = NoMetric } }
+  kept expiry suppressed tlv = record { expiry = expiry; suppressed = suppressed; last = record { priority = priority; tlv = tlv; reverse = None } }
 
   -- on links that leave a record UP, and INIT
   module _ (up init : Link) where

@@ -1,5 +1,5 @@
 -- Who sends the CSNPs (document 01, "Marks and holding time"; RFC 8706, 3.2.1): line 1 also orders CSNPs and flooding marks.
-use Rattle.std.specs.Prelude.{ℕ, Bool, true, false, not, cond, ◌||◌, ◌&&◌, eqb, ltb}
+use Rattle.std.specs.Prelude.{ℕ, Bool, true, false, not, cond, ◌||◌, ◌&&◌, eqb, ltb, Option, Some, None}
 use Rattle.basics.specs.Levels.{only_level}
 use Rattle.basics.specs.declared.levels.Levels.{Levels}
 use Rattle.hello.specs.declared.read.Link.{Link}
@@ -12,8 +12,6 @@ use Rattle.adjacency.specs.declared.record.Record.{Record}
 use Rattle.adjacency.specs.declared.marks.Line.{Line}
 use Rattle.adjacency.specs.declared.marks.Line.TheVariants.{One, Two, Three, Four, Five}
 use Rattle.adjacency.specs.declared.duty.Rank.{Rank}
-use Rattle.adjacency.specs.declared.duty.Csnps.{Csnps}
-use Rattle.adjacency.specs.declared.duty.Csnps.TheVariants.{Nothing, Ordered}
 
 -- a greater pair (priority, MAC) than ours; equal pairs are not greater
 abbrev pub greater : Rank → ℕ → ℕ → Bool
@@ -33,13 +31,13 @@ unfoldable pub outranks : Rank → Record → Bool
 outranks own r = eqb r.key.level own.level && rival own r.key.mac r.state
 
 -- on P2P always, for all the circuit's levels; on a LAN for the frame's level, unless some other router has the greater pair
-abbrev pub link_csnps : Levels → Link → Bool → Csnps
-link_csnps l (P2p t) outranked = Ordered l
-link_csnps l (Lan level priority listed) outranked = cond outranked Nothing (Ordered (only_level level))
+abbrev pub link_csnps : Levels → Link → Bool → Option Levels
+link_csnps l (P2p t) outranked = Some l
+link_csnps l (Lan level priority listed) outranked = cond outranked None (Some (only_level level))
 
-unfoldable pub csnps_of : Line → Levels → Link → Bool → Csnps
+unfoldable pub csnps_of : Line → Levels → Link → Bool → Option Levels
 csnps_of One l k outranked = link_csnps l k outranked
-csnps_of Two l k outranked = Nothing
-csnps_of Three l k outranked = Nothing
-csnps_of Four l k outranked = Nothing
-csnps_of Five l k outranked = Nothing
+csnps_of Two l k outranked = None
+csnps_of Three l k outranked = None
+csnps_of Four l k outranked = None
+csnps_of Five l k outranked = None

@@ -1,5 +1,5 @@
 -- Marks, expiry and reply of an accepted frame (document 01, "Marks and holding time"; RFC 8706, 3.2.1 to 3.2.3).
-use Rattle.std.specs.Prelude.{ℕ, ◌+◌, ◌-◌, min, Bool, cond, ◌&&◌}
+use Rattle.std.specs.Prelude.{ℕ, ◌+◌, ◌-◌, min, Bool, cond, ◌&&◌, Option, Some, None}
 use Rattle.basics.specs.Octets.{has_bits}
 use Rattle.restart_tlv.specs.Flags.{RR, SA, PR}
 use Rattle.restart_tlv.specs.declared.flags.Flags.{Flags}
@@ -14,8 +14,7 @@ use Rattle.adjacency.specs.declared.marks.Line.{Line}
 use Rattle.adjacency.specs.declared.marks.Line.TheVariants.{One, Two, Three, Four, Five}
 use Rattle.adjacency.specs.declared.marks.Road.{Road}
 use Rattle.adjacency.specs.declared.marks.Times.{Times}
-use Rattle.adjacency.specs.declared.marks.Acknowledgement.{Acknowledgement}
-use Rattle.adjacency.specs.declared.marks.Acknowledgement.TheVariants.{Nothing, Send}
+use Rattle.restart_tlv.specs.declared.writer.Ack.{Ack}
 
 -- the first line that fits, of a mark and of the record's phase before and after: 4 where Planned is marked, else 5
 abbrev pub last_line : Mark → Line
@@ -99,9 +98,9 @@ abbrev pub remaining_of : ℕ → ℕ → ℕ
 remaining_of expiry clock = min (expiry - clock) 65535
 
 -- lines 1 and 2 reply RA, line 3 replies PA, with this Remaining Time
-abbrev pub reply_by : Line → ℕ → Acknowledgement
-reply_by One time = Send RestartAck time
-reply_by Two time = Send RestartAck time
-reply_by Three time = Send PlannedAck time
-reply_by Four time = Nothing
-reply_by Five time = Nothing
+abbrev pub reply_by : Line → ℕ → Option (Ack × ℕ)
+reply_by One time = Some (RestartAck, time)
+reply_by Two time = Some (RestartAck, time)
+reply_by Three time = Some (PlannedAck, time)
+reply_by Four time = None
+reply_by Five time = None

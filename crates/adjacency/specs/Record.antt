@@ -1,11 +1,9 @@
 -- A record and its state (document 01, "What the gateway holds").
-use Rattle.std.specs.Prelude.{ℕ, Bool, true, false, not}
+use Rattle.std.specs.Prelude.{ℕ, Bool, true, false, not, Option, Some, None}
 use Rattle.adjacency.specs.declared.record.Mark.{Mark}
 use Rattle.adjacency.specs.declared.record.Mark.TheVariants.{Clear}
 use Rattle.adjacency.specs.declared.record.State.{State}
 use Rattle.adjacency.specs.declared.record.State.TheVariants.{Init, Up}
-use Rattle.adjacency.specs.declared.record.Adjacency.{Adjacency}
-use Rattle.adjacency.specs.declared.record.Adjacency.TheVariants.{Absent, Present}
 use Rattle.adjacency.specs.declared.record.Phase.{Phase}
 use Rattle.adjacency.specs.declared.record.Phase.TheVariants.{Gone, Init as InitPhase, Up as UpPhase}
 
@@ -14,10 +12,10 @@ abbrev pub advertised : State → Bool
 advertised (Init d) = false
 advertised (Up d m) = not d.suppressed
 
-abbrev pub phase_of : Adjacency → Phase
-phase_of Absent = Gone
-phase_of (Present (Init d)) = InitPhase
-phase_of (Present (Up d m)) = UpPhase
+abbrev pub phase_of : Option State → Phase
+phase_of None = Gone
+phase_of (Some (Init d)) = InitPhase
+phase_of (Some (Up d m)) = UpPhase
 
 abbrev pub is_up : Phase → Bool
 is_up Gone = false
@@ -29,12 +27,12 @@ expiry_of (Init d) = d.expiry
 expiry_of (Up d m) = d.expiry
 
 -- a new record starts unmarked
-abbrev pub mark_of : Adjacency → Mark
-mark_of Absent = Clear
-mark_of (Present (Init d)) = Clear
-mark_of (Present (Up d m)) = m
+abbrev pub mark_of : Option State → Mark
+mark_of None = Clear
+mark_of (Some (Init d)) = Clear
+mark_of (Some (Up d m)) = m
 
-abbrev pub suppressed_of : Adjacency → Bool
-suppressed_of Absent = false
-suppressed_of (Present (Init d)) = d.suppressed
-suppressed_of (Present (Up d m)) = d.suppressed
+abbrev pub suppressed_of : Option State → Bool
+suppressed_of None = false
+suppressed_of (Some (Init d)) = d.suppressed
+suppressed_of (Some (Up d m)) = d.suppressed

@@ -13,13 +13,6 @@ pub struct Rank {
     pub mac: u64,
 }
 
-// The order (an action the caller must take) to send CSNPs and set flooding marks, for these levels.
-#[derive(Clone, Copy)]
-pub enum Csnps {
-    Nothing,
-    Ordered(Levels),
-}
-
 fn is_greater(own: Rank, priority: u8, mac: u64) -> bool
     ensures { result ≡ greater own priority mac }
 {

@@ -8,6 +8,9 @@ use restart_tlv::flags::Flags;
 use restart_tlv::reader::RestartTlv;
 use restart_tlv::writer::Ack;
 
+// A reply: RA or PA, and its Remaining Time.
+pub type Reply = (Ack, u16);
+
 // The line of document 01 that fits a frame.
 #[derive(Clone, Copy)]
 pub enum Line {
@@ -34,13 +37,6 @@ pub struct Times {
     pub configured: u16,
     pub remaining: u16,
     pub expiry: u64,
-}
-
-// The reply: none, or RA or PA with a Remaining Time.
-#[derive(Clone, Copy)]
-pub enum Acknowledgement {
-    Nothing,
-    Send(Ack, u16),
 }
 
 fn last_line(mark: Mark) -> Line
@@ -187,14 +183,14 @@ pub fn remaining_of(expiry: u64, clock: u32) -> u16
 }
 
 // The reply by the line that fitted.
-pub fn reply_by(line: Line, time: u16) -> Acknowledgement
+pub fn reply_by(line: Line, time: u16) -> Option<Reply>
     ensures { result ≡ reply_by line time }
 {
     match line {
-        Line::One => Acknowledgement::Send(Ack::Restart, time),
-        Line::Two => Acknowledgement::Send(Ack::Restart, time),
-        Line::Three => Acknowledgement::Send(Ack::Planned, time),
-        Line::Four => Acknowledgement::Nothing,
-        Line::Five => Acknowledgement::Nothing,
+        Line::One => Some((Ack::Restart, time)),
+        Line::Two => Some((Ack::Restart, time)),
+        Line::Three => Some((Ack::Planned, time)),
+        Line::Four => None,
+        Line::Five => None,
     }
 }

@@ -4,11 +4,9 @@ ghost use Rattle.adjacency.specs.React.{priority_of, has_tlv, last_of, expiry_in
 ghost use Rattle.adjacency.specs.Marks.{time_in, reply_by};
 ghost use Rattle.adjacency.specs.Step.{wrong_of};
 
-use crate::marks::{
-    Acknowledgement, Line, Road, Times, expiry_by, mark_by, remaining_of, reply_by, road_of,
-};
+use crate::marks::{Line, Reply, Road, Times, expiry_by, mark_by, remaining_of, reply_by, road_of};
 use crate::record::{
-    Adjacency, Data, Last, Mark, Phase, State, is_suppressed, mark_of, phase_of, state_expiry,
+    Data, Last, Mark, Phase, State, is_suppressed, mark_of, phase_of, state_expiry,
 };
 use crate::step::{Here, Wrong, is_wrong_neighbor, step_of};
 use basics::refusal::Refusal;
@@ -16,11 +14,7 @@ use hello::read::{Hello, Link};
 use restart_tlv::reader::RestartTlv;
 
 // Refused (8), or the record afterwards, the reply, and the line that fitted.
-#[derive(Clone, Copy)]
-pub enum Reaction {
-    Refused(Refusal),
-    Accepted(Adjacency, Acknowledgement, Line),
-}
+pub type Reaction = Result<(Option<State>, Option<Reply>, Line), Refusal>;
 
 fn priority_of(link: Link) -> u8
     ensures { result ≡ priority_of link }
@@ -62,16 +56,16 @@ fn last_of(frame: Hello) -> Last
     }
 }
 
-fn expiry_in(adjacency: Adjacency) -> u64
+fn expiry_in(adjacency: Option<State>) -> u64
     ensures { result ≡ expiry_in adjacency }
 {
-    let Adjacency::Present(state) = adjacency else {
+    let Some(state) = adjacency else {
         return 0;
     };
     state_expiry(state)
 }
 
-fn times_of(here: Here, frame: Hello, remaining: u16, adjacency: Adjacency) -> Times
+fn times_of(here: Here, frame: Hello, remaining: u16, adjacency: Option<State>) -> Times
     requires { remaining ≡ time_in frame.restart }
     ensures { result ≡ times_of here frame adjacency }
 {
@@ -84,18 +78,18 @@ fn times_of(here: Here, frame: Hello, remaining: u16, adjacency: Adjacency) -> T
     }
 }
 
-fn state_as(after: Phase, kept: Data, mark: Mark) -> Adjacency
+fn state_as(after: Phase, kept: Data, mark: Mark) -> Option<State>
     ensures { result ≡ state_as after kept mark }
 {
     match after {
-        Phase::Gone => Adjacency::Absent,
-        Phase::Init => Adjacency::Present(State::Init(kept)),
-        Phase::Up => Adjacency::Present(State::Up(kept, mark)),
+        Phase::Gone => None,
+        Phase::Init => Some(State::Init(kept)),
+        Phase::Up => Some(State::Up(kept, mark)),
     }
 }
 
 // The road is that of the frame's own TLV.
-fn data_by(road: Road, here: Here, frame: Hello, adjacency: Adjacency) -> Data
+fn data_by(road: Road, here: Here, frame: Hello, adjacency: Option<State>) -> Data
     requires { OwnRoad road frame adjacency }
     ensures { result ≡ data_by road.line here frame adjacency }
 {
@@ -122,16 +116,16 @@ fn remaining_in(after: Phase, expiry: u64, clock: u32) -> u16
 }
 
 // The reply by the line that fitted. Its Remaining Time is counted only where there is one.
-fn reply_in(line: Line, after: Phase, expiry: u64, clock: u32) -> Acknowledgement
+fn reply_in(line: Line, after: Phase, expiry: u64, clock: u32) -> Option<Reply>
     ensures { result ≡ reply_by line (remaining_in after expiry clock) }
 {
-    let Acknowledgement::Send(ack, _) = reply_by(line, 0) else {
-        return Acknowledgement::Nothing;
+    let Some((ack, _)) = reply_by(line, 0) else {
+        return None;
     };
-    Acknowledgement::Send(ack, remaining_in(after, expiry, clock))
+    Some((ack, remaining_in(after, expiry, clock)))
 }
 
-fn accept(road: Road, after: Phase, here: Here, frame: Hello, adjacency: Adjacency) -> Reaction
+fn accept(road: Road, after: Phase, here: Here, frame: Hello, adjacency: Option<State>) -> Reaction
     requires { OwnRoad road frame adjacency }
     ensures { result ≡ accepted_by road.line after here frame adjacency }
 {
@@ -140,18 +134,18 @@ fn accept(road: Road, after: Phase, here: Here, frame: Hello, adjacency: Adjacen
     let expiry = data.expiry;
     let state = state_as(after, data, mark_by(line, mark_of(adjacency)));
     let reply = reply_in(line, after, expiry, here.clock);
-    Reaction::Accepted(state, reply, line)
+    Ok((state, reply, line))
 }
 
 // Refusal 8, or the frame's effect on the record with its key.
-pub fn react_to(here: Here, wrong: Wrong, frame: Hello, adjacency: Adjacency) -> Reaction
+pub fn react_to(here: Here, wrong: Wrong, frame: Hello, adjacency: Option<State>) -> Reaction
     requires { wrong ≡ wrong_of here frame.link }
     ensures { result ≡ react_of here frame adjacency }
 {
     let tlv = frame.restart;
     let phase = phase_of(adjacency);
     if is_wrong_neighbor(here, wrong, phase, frame) {
-        return Reaction::Refused(Refusal::WrongNeighbor);
+        return Err(Refusal::WrongNeighbor);
     }
     let after = step_of(here, wrong, phase, frame);
     let road = road_of(

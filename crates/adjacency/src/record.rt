@@ -17,7 +17,7 @@ pub enum Mark {
 pub struct Last {
     pub priority: u8,
     pub tlv: bool,
-    pub reverse: ReverseMetric,
+    pub reverse: Option<ReverseMetric>,
 }
 
 // The data of either state.
@@ -48,13 +48,6 @@ pub struct Record {
     pub state: State,
 }
 
-// The record with a key, if one stands.
-#[derive(Clone, Copy)]
-pub enum Adjacency {
-    Absent,
-    Present(State),
-}
-
 // No record, INIT or UP.
 #[derive(Clone, Copy)]
 pub enum Phase {
@@ -74,10 +67,10 @@ pub fn is_advertised(state: State) -> bool
 }
 
 // No record, INIT or UP.
-pub fn phase_of(adjacency: Adjacency) -> Phase
+pub fn phase_of(adjacency: Option<State>) -> Phase
     ensures { result ≡ phase_of adjacency }
 {
-    let Adjacency::Present(state) = adjacency else {
+    let Some(state) = adjacency else {
         return Phase::Gone;
     };
     match state {
@@ -97,10 +90,10 @@ pub fn state_expiry(state: State) -> u64
 }
 
 // The mark; of no record and of INIT none.
-pub fn mark_of(adjacency: Adjacency) -> Mark
+pub fn mark_of(adjacency: Option<State>) -> Mark
     ensures { result ≡ mark_of adjacency }
 {
-    let Adjacency::Present(state) = adjacency else {
+    let Some(state) = adjacency else {
         return Mark::Clear;
     };
     match state {
@@ -110,10 +103,10 @@ pub fn mark_of(adjacency: Adjacency) -> Mark
 }
 
 // Whether Suppressed is marked; of no record it is not.
-pub fn is_suppressed(adjacency: Adjacency) -> bool
+pub fn is_suppressed(adjacency: Option<State>) -> bool
     ensures { result ≡ suppressed_of adjacency }
 {
-    let Adjacency::Present(state) = adjacency else {
+    let Some(state) = adjacency else {
         return false;
     };
     match state {

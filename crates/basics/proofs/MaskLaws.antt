@@ -12,8 +12,8 @@ use lib.Bits.{bit_and, bit_or, and_step, or_step, or_zero_r, and_mask}
 use lib.Count.{ones, ones_step, count_trailing_zeros}
 use Rattle.basics.proofs.BoolLaws.{by-test}
 use borrow.Author.Tests.{eq-eqb, ne_eqb, eqb-true, eqb-false}
-use Rattle.basics.specs.declared.places.Lowest.TheVariants.{Circuit, Nothing}
 use Rattle.basics.specs.Mask.{bits_of, count_true, any_true, any_shared, first_pair}
+use Rattle.std.specs.Prelude.{Some, None}
 
 -- one digit as a Bool
 digit : (d : ℕ) → d < 2 → d ≡ cond (eqb d 1) 1 0
@@ -58,17 +58,17 @@ double zero = zero
 double (suc n) = suc (suc (double n))
 
 pub trailing-first_pair : (n m k : ℕ) → m < 2 ^ double n
-    → first_pair (bits_of (double n) m) k ≡ cond (eqb m 0) Nothing (Circuit (k + count_trailing_zeros (double n) m / 2))
+    → first_pair (bits_of (double n) m) k ≡ cond (eqb m 0) None (Some (k + count_trailing_zeros (double n) m / 2))
 unfolding bits_of first_pair count_trailing_zeros double
 trailing-first_pair zero m k h = let z : m ≡ 0 = omega arith in rw z
 trailing-first_pair (suc n) m k h =
     by-test (eqb (m % 2) 1)
     (λ e. let o : m % 2 ≡ 1 = eqb-true _ _ e in
-    rw (e, ne_eqb m 0 (λ (q : m ≡ 0). omega arith), o) (ap Circuit (sym (add-zero k))))
+    rw (e, ne_eqb m 0 (λ (q : m ≡ 0). omega arith), o) (ap Some (sym (add-zero k))))
     (λ e. let z = low-zero m e in
     by-test (eqb (m / 2 % 2) 1)
     (λ f. let o : m / 2 % 2 ≡ 1 = eqb-true _ _ f in
-    rw (e, f, ne_eqb m 0 (λ (q : m ≡ 0). omega arith), z, o) (ap Circuit (sym (add-zero k))))
+    rw (e, f, ne_eqb m 0 (λ (q : m ≡ 0). omega arith), z, o) (ap Some (sym (add-zero k))))
     (λ f. let y = low-zero (m / 2) f in
     let ih = trailing-first_pair n (m / 2 / 2) (suc k) (half-below (double n) (m / 2) (half-below (suc (double n)) m h)) in
     rw (e, f, ih, z, y)
@@ -77,7 +77,7 @@ trailing-first_pair (suc n) m k h =
     (λ g. let q = eqb-false m 0 g in
     rw (g, ne_eqb (m / 2 / 2) 0 (λ (w : m / 2 / 2 ≡ 0). omega arith))
     (let t = count_trailing_zeros (double n) (m / 2 / 2) in
-    let w : suc k + t / 2 ≡ k + suc (suc t) / 2 = omega arith in ap Circuit w)))))
+    let w : suc k + t / 2 ≡ k + suc (suc t) / 2 = omega arith in ap Some w)))))
 
 -- a number's digits from its lowest one and the rest
 bits_of-cons : (n a d : ℕ) → d < 2 → bits_of (suc n) (a * 2 + d) ≡ eqb d 1 ∷ bits_of n a

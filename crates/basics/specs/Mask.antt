@@ -1,8 +1,6 @@
 -- What a mask over circuits means: a Bool for each circuit, circuit 1 (the lowest digit) first; and a mask with two places for each circuit.
 -- Document 01, "What the gateway holds": 1 to 8 circuits. Document 02, W-202: the count of T1s that wait, "the lowest still a circuit".
-use Rattle.std.specs.Prelude.{ℕ, zero, suc, ◌+◌, ◌*◌, ◌/◌, ◌%◌, Bool, false, cond, ◌&&◌, ◌||◌, List, [], ◌∷◌, eqb}
-use Rattle.basics.specs.declared.places.Lowest.{Lowest}
-use Rattle.basics.specs.declared.places.Lowest.TheVariants.{Circuit, Nothing}
+use Rattle.std.specs.Prelude.{ℕ, zero, suc, ◌+◌, ◌*◌, ◌/◌, ◌%◌, Bool, false, cond, ◌&&◌, ◌||◌, List, [], ◌∷◌, eqb, Option, Some, None}
 
 -- the most circuits that a gateway has
 abbrev pub circuits : ℕ
@@ -41,7 +39,7 @@ any_shared (a ∷ xs) [] = false
 any_shared (a ∷ xs) (b ∷ ys) = (a && b) || any_shared xs ys
 
 -- the first circuit with a true one, where the list's first two are those of circuit k
-unfoldable pub first_pair : List Bool → ℕ → Lowest
-first_pair [] k = Nothing
-first_pair (a ∷ []) k = cond a (Circuit k) Nothing
-first_pair (a ∷ b ∷ bs) k = cond (a || b) (Circuit k) (first_pair bs (suc k))
+unfoldable pub first_pair : List Bool → ℕ → Option ℕ
+first_pair [] k = None
+first_pair (a ∷ []) k = cond a (Some k) None
+first_pair (a ∷ b ∷ bs) k = cond (a || b) (Some k) (first_pair bs (suc k))

@@ -7,13 +7,6 @@ use crate::mask::CIRCUITS;
 // The digits of a mask.
 pub const T1_PLACES: usize = 2 * CIRCUITS;
 
-// The lowest circuit of a mask, by its number from 1.
-#[derive(Clone, Copy)]
-pub enum Lowest {
-    Circuit(u8),
-    Nothing,
-}
-
 fn place_bit(i: usize) -> u16
     requires { i < t1_places }
     ensures { result ≡ 2 ^ i }
@@ -59,12 +52,12 @@ pub fn count_places(m: u16) -> u32
     u16::count_ones(m)
 }
 
-// The lowest circuit with a digit that is set.
-pub fn lowest_circuit(m: u16) -> Lowest
+// The lowest circuit with a digit that is set, by its number from 1.
+pub fn lowest_circuit(m: u16) -> Option<u8>
     ensures { result ≡ first_pair (place_bits m) 1 }
 {
     if m == 0 {
-        return Lowest::Nothing;
+        return None;
     }
-    Lowest::Circuit(1 + (u16::trailing_zeros(m) / 2) as u8)
+    Some(1 + (u16::trailing_zeros(m) / 2) as u8)
 }

@@ -1,9 +1,8 @@
 -- A batch (document 02, W-207): what a caller lends for a whole queue of frames, refusals 15 and 16, and how many frames are taken. The frames themselves are
 -- receives, in crate model.
-use Rattle.std.specs.Prelude.{ℕ, ◌+◌, ◌*◌, Bool, cond, not, ◌||◌, List, [], ◌∷◌, length, eqb, ltb}
+use Rattle.std.specs.Prelude.{ℕ, ◌+◌, ◌*◌, Bool, cond, not, ◌||◌, List, [], ◌∷◌, length, eqb, ltb, Result, Ok, Err}
 use Rattle.batches.specs.declared.lists.Misfit.TheVariants.{UnevenLists, WrongSum}
-use Rattle.batches.specs.declared.lists.Queued.{Queued}
-use Rattle.batches.specs.declared.lists.Queued.TheVariants.{Refused, Taken}
+use Rattle.batches.specs.declared.lists.Misfit.{Misfit}
 
 -- "up to 64 frames"
 abbrev pub most_frames : ℕ
@@ -50,10 +49,10 @@ unfoldable pub smaller : ℕ → ℕ → ℕ
 smaller a b = cond (ltb a b) a b
 
 -- by the lengths, and by how long the buffer and the other lists are
-unfoldable pub checked_by : (limit octets : ℕ) (lengths : List ℕ) (circuits sources places room : ℕ) → Queued
+unfoldable pub checked_by : (limit octets : ℕ) (lengths : List ℕ) (circuits sources places room : ℕ) → Result ℕ Misfit
 checked_by limit octets ls circuits sources places room =
-    cond (uneven (length ls) circuits sources places room) (Refused UnevenLists)
-    (cond (eqb (sum ls) octets) (Taken (smaller limit (length ls))) (Refused WrongSum))
+    cond (uneven (length ls) circuits sources places room) (Err UnevenLists)
+    (cond (eqb (sum ls) octets) (Ok (smaller limit (length ls))) (Err WrongSum))
 
-abbrev pub checked : Batch → Queued
+abbrev pub checked : Batch → Result ℕ Misfit
 checked q = checked_by q.limit (length q.buffer) q.lengths (length q.circuits) (length q.sources) q.places (length q.room)

@@ -19,13 +19,6 @@ pub enum Misfit {
     WrongSum,
 }
 
-// Of a batch: how many frames were taken.
-#[derive(Clone, Copy)]
-pub enum Queued {
-    Refused(Misfit),
-    Taken(u8),
-}
-
 pub fn wide(length: u16) -> usize
     ensures { (result ≡ length) × (result < 65536) }
 {
@@ -80,16 +73,16 @@ pub fn check(
     sources: usize,
     places: usize,
     room: usize,
-) -> Queued
+) -> Result<u8, Misfit>
     ensures { result ≡ checked_by limit octets lengths.now circuits sources places room }
 {
     let n = lengths.len();
     if is_uneven(n, circuits, sources, places, room) {
-        return Queued::Refused(Misfit::UnevenLists);
+        return Err(Misfit::UnevenLists);
     }
     if total(lengths) != octets {
-        return Queued::Refused(Misfit::WrongSum);
+        return Err(Misfit::WrongSum);
     }
     let k = smaller_of(limit, n);
-    Queued::Taken(k as u8)
+    Ok(k as u8)
 }

@@ -13,40 +13,26 @@ pub const SLOT_WORDS: usize = 2;
 
 pub const MOST_OCTETS: usize = 1500;
 
-// What the words say: the MAC and the length of a frame that was begun.
-#[derive(Clone, Copy)]
-pub enum Pending {
-    Idle,
-    Begun(u64, usize),
-}
-
-// Of a begin or a chunk.
-#[derive(Clone, Copy)]
-pub enum Handed {
-    Refused(Refusal),
-    Done,
-}
-
-pub fn load(slot: &[u64]) -> Pending
+pub fn load(slot: &[u64]) -> Option<(u64, usize)>
     requires { length slot.now ≡ slot_words }
     ensures { Loads slot.now result }
 {
     let w = slot[0];
     if w == 0 {
-        return Pending::Idle;
+        return None;
     }
     if MOST_OCTETS as u64 + 1 < w {
-        return Pending::Idle;
+        return None;
     }
     let n = (w - 1) as usize;
     let mac = slot[1] % 281474976710656;
-    Pending::Begun(mac, n)
+    Some((mac, n))
 }
 
 // A frame is begun, with no octet yet.
 pub fn begin(slot: &mut [u64], source: &[u8])
     requires { (length slot.old ≡ slot_words) × (length source.now ≡ 6) }
-    ensures { pending_of slot.new ≡ Pending.Begun (big 6 source.now 0) 0 }
+    ensures { pending_of slot.new ≡ Some (big 6 source.now 0, 0) }
 {
     let mac = six(source, 0);
     slot[0] = 1;
@@ -56,7 +42,7 @@ pub fn begin(slot: &mut [u64], source: &[u8])
 // No frame is begun.
 pub fn clear(slot: &mut [u64])
     requires { length slot.old ≡ slot_words }
-    ensures { pending_of slot.new ≡ Pending.Idle }
+    ensures { pending_of slot.new ≡ None }
 {
     slot[0] = 0;
 }
@@ -73,17 +59,17 @@ fn copy_in(frame: &mut [u8], at: usize, octets: &[u8])
 }
 
 // Refusals 13 and 14, or the chunk is joined.
-pub fn add(slot: &mut [u64], frame: &mut [u8], octets: &[u8]) -> Handed
+pub fn add(slot: &mut [u64], frame: &mut [u8], octets: &[u8]) -> Result<(), Refusal>
     requires { (length slot.old ≡ slot_words) × (length frame.old ≡ most_octets) }
     ensures { Adds octets.now slot.old frame.old result slot.new frame.new }
 {
-    let Pending::Begun(_, n) = load(slot) else {
-        return Handed::Refused(Refusal::NotBegun);
+    let Some((_, n)) = load(slot) else {
+        return Err(Refusal::NotBegun);
     };
     if MOST_OCTETS - n < octets.len() {
-        return Handed::Refused(Refusal::TooLong);
+        return Err(Refusal::TooLong);
     }
     copy_in(frame, n, octets);
     slot[0] = (n + octets.len() + 1) as u64;
-    Handed::Done
+    Ok(())
 }

@@ -18,7 +18,7 @@ use Rattle.settings.specs.declared.circuit.Circuit.{Circuit}
 use Rattle.control.specs.Words.{control_words, seal_place, count_place, clock_place, system_place, lengths_place, head_place, serving_place, entries_place, circuits_place, sealed, count_in, count_of, circuit_at, circuits_from, head_of, serving_in, serving_of, entries_of, lengths_in, common_of}
 use Rattle.control.specs.Common.{with_clock, with_timers, circuit_of, Chooses, no_circuit}
 use Rattle.basics.specs.Mask.{circuits}
-use Rattle.settings.specs.declared.circuit.Chosen.TheVariants.{Known, Unknown}
+use Rattle.std.specs.Prelude.{Some, None}
 
 -- ---- the circuits
 
@@ -46,19 +46,19 @@ module _ (ws : List ℕ) where
       let e : 0 + i ≡ i = omega arith in
       circuits-at ws 0 (count_of ws) i d lt ∙ ap (circuit_at ws) e
 
-  pub chooses-zero : (n : ℕ) → n ≡ 0 → Chooses (common_of ws) n Unknown
+  pub chooses-zero : (n : ℕ) → n ≡ 0 → Chooses (common_of ws) n None
   unfolding circuit_of
   chooses-zero zero e = record { is = refl; range = tt }
   chooses-zero (suc i) e = absurd (omega arith)
 
-  pub chooses-past : (n : ℕ) → 0 < n → count_of ws ≤ n - 1 → Chooses (common_of ws) n Unknown
+  pub chooses-past : (n : ℕ) → 0 < n → count_of ws ≤ n - 1 → Chooses (common_of ws) n None
   unfolding circuit_of
   chooses-past zero p e = absurd (omega arith)
   chooses-past (suc i) p e =
       let q : length (common_of ws).circuits ≤ i = omega (arith, circuits-length) in
       record { is = rw (le-ltb i (length (common_of ws).circuits) q) refl; range = tt }
 
-  pub chooses-known : (n : ℕ) → 0 < n → n - 1 < count_of ws → count_of ws ≤ circuits → Chooses (common_of ws) n (Known (circuit_at ws (n - 1)))
+  pub chooses-known : (n : ℕ) → 0 < n → n - 1 < count_of ws → count_of ws ≤ circuits → Chooses (common_of ws) n (Some (circuit_at ws (n - 1)))
   unfolding circuit_of
   chooses-known zero p e h = absurd (omega arith)
   chooses-known (suc i) p e h =
@@ -66,12 +66,12 @@ module _ (ws : List ℕ) where
       let z : suc i - 1 ≡ i = omega arith in
       let l : i < count_of ws = omega arith in
       record {
-        is = rw (lt-ltb i (length (common_of ws).circuits) q) (ap Known (ap (circuit_at ws) z ∙ sym (circuits-nth i no_circuit l)));
+        is = rw (lt-ltb i (length (common_of ws).circuits) q) (ap Some (ap (circuit_at ws) z ∙ sym (circuits-nth i no_circuit l)));
         range = (omega arith, omega arith);
       }
 
   -- the circuit of a number stands in its own words
-  pub known_at : (n : ℕ) (s : Circuit) → circuit_of (common_of ws) n ≡ Known s → s ≡ circuit_at ws (n - 1)
+  pub known_at : (n : ℕ) (s : Circuit) → circuit_of (common_of ws) n ≡ Some s → s ≡ circuit_at ws (n - 1)
   unfolding circuit_of
   known_at zero s e = absurd (let z : ◌≡◌ {A = ℕ} 0 1 = cc in omega arith)
   known_at (suc i) s e =
@@ -79,10 +79,10 @@ module _ (ws : List ℕ) where
       let l = length (common_of ws).circuits in
       by-test (ltb i l)
       (λ q.
-      let z : Known (get_or (common_of ws).circuits i no_circuit) ≡ Known s = rw q at e in
+      let z : Some (get_or (common_of ws).circuits i no_circuit) ≡ Some s = rw q at e in
       let w : get_or (common_of ws).circuits i no_circuit ≡ s = cc in
       sym w ∙ circuits-nth i no_circuit (omega (arith, ltb-true i l q, circuits-length)) ∙ ap (circuit_at ws) (sym at))
-      (λ q. let y : Unknown ≡ Known s = rw q at e in absurd (let z : ◌≡◌ {A = ℕ} 0 1 = cc in omega arith))
+      (λ q. let y : None ≡ Some s = rw q at e in absurd (let z : ◌≡◌ {A = ℕ} 0 1 = cc in omega arith))
 
   -- the levels found before circuit i, with its own
   pub levels-step : (found next : Levels) (i : ℕ) (s : Circuit) → i < count_of ws → s ≡ circuit_at ws i → next ≡ union found s.levels

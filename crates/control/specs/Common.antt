@@ -1,5 +1,5 @@
 -- What is not one circuit's own records (document 01, "What the gateway holds"): the settings, the clock and the timers.
-use Rattle.std.specs.Prelude.{ℕ, zero, suc, ◌<◌, ◌≤◌, false, cond, ◌≡◌, List, ltb, length, get_or}
+use Rattle.std.specs.Prelude.{ℕ, zero, suc, ◌<◌, ◌≤◌, false, cond, ◌≡◌, List, ltb, length, get_or, Option, Some, None}
 use Rattle.basics.specs.Mask.{circuits}
 use Rattle.basics.specs.declared.kind.CircuitKind.TheVariants.{Lan}
 use Rattle.settings.specs.declared.lengths.Lengths.{Lengths}
@@ -10,8 +10,6 @@ use Rattle.settings.specs.declared.circuit.Circuit.{Circuit}
 use Rattle.settings.specs.declared.setup.Settings.{Settings}
 use Rattle.settings.specs.Settings.{circuits_of, enabled_levels}
 use Rattle.settings.specs.Serving.{serving}
-use Rattle.settings.specs.declared.circuit.Chosen.{Chosen}
-use Rattle.settings.specs.declared.circuit.Chosen.TheVariants.{Known, Unknown}
 
 pub record Common : Type 0 where
   pub system : ℕ
@@ -31,16 +29,16 @@ abbrev pub no_circuit : Circuit
 no_circuit = record { kind = Lan; levels = record { one = false; two = false }; mac = 0; priority = 0; hold = 0; metric = 0; id = 0 }
 
 -- "1 to 8 circuits, numbered from 1"; document 01, "Refusals by number": 1 where there is no circuit of that number
-unfoldable pub circuit_of : Common → ℕ → Chosen
-circuit_of c zero = Unknown
-circuit_of c (suc i) = cond (ltb i (length c.circuits)) (Known (get_or c.circuits i no_circuit)) Unknown
+unfoldable pub circuit_of : Common → ℕ → Option Circuit
+circuit_of c zero = None
+circuit_of c (suc i) = cond (ltb i (length c.circuits)) (Some (get_or c.circuits i no_circuit)) None
 
-abbrev pub InRange : ℕ → Chosen → Type 0
-InRange n (Known s) = (0 < n) × (n ≤ circuits)
-InRange n Unknown = Unit {0}
+abbrev pub InRange : ℕ → Option Circuit → Type 0
+InRange n (Some s) = (0 < n) × (n ≤ circuits)
+InRange n None = Unit {0}
 
 -- the circuit of the number n, with the number's range
-pub record Chooses (c : Common) (n : ℕ) (r : Chosen) : Type 0 where
+pub record Chooses (c : Common) (n : ℕ) (r : Option Circuit) : Type 0 where
   pub is : r ≡ circuit_of c n
   pub range : InRange n r
 

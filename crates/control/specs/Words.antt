@@ -1,12 +1,10 @@
 -- The control words (house): where each thing stands, and what any words mean. They hold the common part: what is not one circuit's own
 -- records.
-use Rattle.std.specs.Prelude.{ℕ, zero, suc, ◌+◌, ◌*◌, ◌/◌, ◌%◌, cond, List, [], ◌∷◌, eqb, ltb, get_or, take, drop}
+use Rattle.std.specs.Prelude.{ℕ, zero, suc, ◌+◌, ◌*◌, ◌/◌, ◌%◌, cond, List, [], ◌∷◌, eqb, ltb, get_or, take, drop, Option, Some, None}
 use Rattle.basics.specs.declared.kind.CircuitKind.{CircuitKind}
 use Rattle.basics.specs.declared.kind.CircuitKind.TheVariants.{Lan, P2p}
 use Rattle.settings.specs.declared.lengths.Lengths.{Lengths}
 use Rattle.settings.specs.declared.serving.Serving.{Serving}
-use Rattle.timer_parts.specs.declared.t2.Timer.{Timer}
-use Rattle.timer_parts.specs.declared.t2.Timer.TheVariants.{Stopped, Until}
 use Rattle.timer_parts.specs.declared.t2.T2.{T2}
 use Rattle.timer_parts.specs.declared.t3.T3.{T3}
 use Rattle.timer_parts.specs.declared.t3.T3.TheVariants.{Idle, Runs, Expired}
@@ -111,8 +109,8 @@ count_of ws = count_in (sealed ws count_place)
 abbrev pub mode_in : ℕ → Mode
 mode_in d = cond (eqb d 1) Restarting (cond (eqb d 2) Starting Running)
 
-abbrev pub timer_in : ℕ → ℕ → Timer
-timer_in d deadline = cond (eqb d 1) (Until deadline) Stopped
+abbrev pub timer_in : ℕ → ℕ → Option ℕ
+timer_in d deadline = cond (eqb d 1) (Some deadline) None
 
 abbrev pub t2_in : ℕ → ℕ → ℕ → T2
 t2_in d n deadline = record { timer = timer_in d deadline; noticed = eqb n 1 }
@@ -144,9 +142,9 @@ abbrev pub entries_of : List ℕ → List ℕ
 entries_of ws = take word_count (drop entries_place ws)
 
 -- the deadline that is stored; of a timer that does not run any will do
-abbrev pub timer_deadline : Timer → ℕ
-timer_deadline Stopped = 0
-timer_deadline (Until deadline) = deadline
+abbrev pub timer_deadline : Option ℕ → ℕ
+timer_deadline None = 0
+timer_deadline (Some deadline) = deadline
 
 abbrev pub t3_deadline : T3 → ℕ
 t3_deadline Idle = 0

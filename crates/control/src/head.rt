@@ -13,7 +13,7 @@ ghost use Rattle.control.specs.Common.{with_timers};
 use crate::words::{HEAD_AT, sealed_at};
 use basics::bits::digit;
 use settings::mode::Mode;
-use timer_parts::t2::{T2, T2s, Timer};
+use timer_parts::t2::{T2, T2s};
 use timer_parts::t3::T3;
 use timers::head::Head;
 
@@ -29,13 +29,13 @@ fn mode_in(d: u64) -> Mode
     Mode::Running
 }
 
-fn timer_in(d: u64, deadline: u64) -> Timer
+fn timer_in(d: u64, deadline: u64) -> Option<u64>
     ensures { result ≡ timer_in d deadline }
 {
     if d == 1 {
-        return Timer::Until(deadline);
+        return Some(deadline);
     }
-    Timer::Stopped
+    None
 }
 
 fn t2_in(d: u64, n: u64, deadline: u64) -> T2
@@ -109,21 +109,21 @@ fn mode_digit(m: Mode) -> u64
     }
 }
 
-fn timer_digit(t: Timer) -> u64
+fn timer_digit(t: Option<u64>) -> u64
     ensures { (timer_in result (timer_deadline t) ≡ t) × (result < 2) }
 {
     match t {
-        Timer::Stopped => 0,
-        Timer::Until(_) => 1,
+        None => 0,
+        Some(_) => 1,
     }
 }
 
-fn timer_deadline(t: Timer) -> u64
+fn timer_deadline(t: Option<u64>) -> u64
     ensures { result ≡ timer_deadline t }
 {
     match t {
-        Timer::Stopped => 0,
-        Timer::Until(deadline) => deadline,
+        None => 0,
+        Some(deadline) => deadline,
     }
 }
 

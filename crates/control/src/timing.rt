@@ -13,7 +13,6 @@ use crate::head::{load_head, mode_of, store_head};
 use crate::words::{ENTRIES_AT, ENTRIES_END, clock_of, lengths_of, move_clock, serving_of};
 use basics::kind::CircuitKind;
 use basics::levels::Levels;
-use basics::places::Lowest;
 use restart_tlv::flags::Flags;
 use settings::mode::is_running;
 use settings::serving::t1_place;
@@ -164,7 +163,7 @@ pub fn count_waiting(words: &[u64]) -> u32
 }
 
 // The lowest circuit with one, by its number from 1.
-pub fn lowest_waiting(words: &[u64]) -> Lowest
+pub fn lowest_waiting(words: &[u64]) -> Option<u8>
     requires { length words.now ≡ control_words }
     ensures { result ≡ lowest_runs (common_of words.now).timers.t1s }
 {

@@ -16,7 +16,7 @@ ghost use Rattle.control.specs.Common.{with_clock, Chooses};
 use basics::kind::CircuitKind;
 use basics::levels::{Levels, join_levels};
 use basics::mask::CIRCUITS;
-use settings::circuit::{Chosen, Circuit};
+use settings::circuit::Circuit;
 use settings::lengths::Lengths;
 use settings::serving::{Serving, serve_circuit};
 use timers::entries::WORDS;
@@ -110,19 +110,19 @@ pub fn load_circuit(words: &[u64], i: usize) -> Circuit
 }
 
 // The circuit of the number n; where there is none, a call on it is refused (1).
-pub fn circuit_of(words: &[u64], n: u8) -> Chosen
+pub fn circuit_of(words: &[u64], n: u8) -> Option<Circuit>
     requires { length words.now ≡ control_words }
     ensures { Chooses (common_of words.now) n result }
 {
     if n == 0 {
-        return Chosen::Unknown;
+        return None;
     }
     let i = n as usize - 1;
     if count_of(words) <= i {
-        return Chosen::Unknown;
+        return None;
     }
     let circuit = load_circuit(words, i);
-    Chosen::Known(circuit)
+    Some(circuit)
 }
 
 // The held clock.

@@ -21,12 +21,6 @@ use Rattle.basics.proofs.OctetsLaws.{big-octets_of}
 use Rattle.basics.proofs.PartLaws.{part_same}
 use Rattle.chunks.specs.Chunks.{Unfinished, NoFrame, begun, most_octets, Joined, Refused as RefusedChunk, As, join, after}
 use Rattle.chunks.specs.Words.{slot_words, pending_of, meant, answered, Adds}
-use Rattle.chunks.specs.declared.slot.Handed.{Handed}
-use Rattle.chunks.specs.declared.slot.Handed.TheVariants.{Refused as RefusedPiece, Done as DonePiece}
-use Rattle.chunks.specs.declared.slot.Pending.{Pending}
-use Rattle.chunks.specs.declared.slot.Pending.TheVariants.{Idle, Begun}
-use Rattle.settings.specs.declared.circuit.Chosen.{Chosen}
-use Rattle.settings.specs.declared.circuit.Chosen.TheVariants.{Known, Unknown}
 use Rattle.settings.specs.declared.circuit.Circuit.{Circuit}
 use Rattle.control.specs.Common.{circuit_of, Chooses}
 use Rattle.control.specs.Words.{common_of, control_words}
@@ -34,17 +28,16 @@ use Rattle.model.specs.Answers.{Answer, Refused, Told, Done, handed_of}
 use Rattle.model.specs.Gateway.{Gateway, with_frames, with_unfinished, unfinished_on}
 use Rattle.model.specs.Step.{Outcome, At, Receive, Piece, Begin, Chunk, End, Hand, refused, handed, chunked, ended, hand, hand_on, lent_to, step}
 use Rattle.model.proofs.NumberLaws.{received-by}
-use Rattle.gateway.specs.declared.pieces.Taken.{Taken}
-use Rattle.gateway.specs.declared.pieces.Taken.TheVariants.{Refused as RefusedTaken, Frame as FrameTaken}
 use Rattle.own_words.specs.Words.{gateway_of}
 use Rattle.gateway.specs.Whole.{gateway_words, frame_octets, slot_place, octets_place, unfinished_at, whole_of, DoesWith}
 use Rattle.gateway.specs.Pieces.{TakesFrame, Takes}
 use Rattle.own_words.proofs.WordLaws.{part-other, renew-at, numbered-at, choice}
 use Rattle.gateway.proofs.PieceLaws.{slot-own, slot-put}
+use Rattle.std.specs.Prelude.{Option, Some, None, Result, Ok, Err}
 
 -- ---- the circuit of the number
 
-pub chosen : (ws fs : List ℕ) (n : ℕ) (r r' : Chosen) → Chooses (common_of (part 0 control_words ws)) n r → r ≡ r' → circuit_of (whole_of ws fs).common n ≡ r'
+pub chosen : (ws fs : List ℕ) (n : ℕ) (r r' : Option Circuit) → Chooses (common_of (part 0 control_words ws)) n r → r ≡ r' → circuit_of (whole_of ws fs).common n ≡ r'
 unfolding whole_of
 chosen ws fs n r r' c e = choice ws n r r' c e
 
@@ -62,11 +55,11 @@ refuses ws fs b n p x e =
       kept = λ y q h. refl;
     }
 
-unknown : (ws fs : List ℕ) (n : ℕ) (p : Piece) → circuit_of (whole_of ws fs).common n ≡ Unknown → step (whole_of ws fs) (Hand n p) ≡ refused (whole_of ws fs) (lent_to p) NoCircuit
+unknown : (ws fs : List ℕ) (n : ℕ) (p : Piece) → circuit_of (whole_of ws fs).common n ≡ None → step (whole_of ws fs) (Hand n p) ≡ refused (whole_of ws fs) (lent_to p) NoCircuit
 unfolding step hand_on
 unknown ws fs n p e = rw e refl
 
-pub no-circuit : (ws fs : List ℕ) (n : ℕ) (p : Piece) → circuit_of (whole_of ws fs).common n ≡ Unknown → DoesWith (Hand n p) (Refused NoCircuit) ws fs ws fs (lent_to p)
+pub no-circuit : (ws fs : List ℕ) (n : ℕ) (p : Piece) → circuit_of (whole_of ws fs).common n ≡ None → DoesWith (Hand n p) (Refused NoCircuit) ws fs ws fs (lent_to p)
 no-circuit ws fs n p e = refuses ws fs (lent_to p) n p NoCircuit (unknown ws fs n p e)
 
 -- ---- its frame
@@ -91,7 +84,7 @@ module _ (ws fs : List ℕ) (n : ℕ) (lo : 0 < n) (hi : n ≤ circuits) where
         slot-put ws t len (n - 1) (omega arith) long fs fs' others
         ∙ ap (with_frames (gateway_of ws)) (sym (renew-at (whole_of ws fs).unfinished n (meant (part f most_octets fs') (pending_of t)) lo))
 
-  module _ (s : Circuit) (known : circuit_of (whole_of ws fs).common n ≡ Known s) where
+  module _ (s : Circuit) (known : circuit_of (whole_of ws fs).common n ≡ Some s) where
     begin-is : (mac : ℕ) → step (whole_of ws fs) (Hand n (Begin mac)) ≡ handed (with_unfinished (whole_of ws fs) n (begun mac))
     unfolding step hand_on hand
     begin-is mac = rw known refl
@@ -106,7 +99,7 @@ module _ (ws fs : List ℕ) (n : ℕ) (lo : 0 < n) (hi : n ≤ circuits) where
 
     -- ---- begin
 
-    pub begins : length ws ≡ gateway_words → (mac : ℕ) (t : List ℕ) → length t ≡ a + slot_words - a → pending_of t ≡ Begun mac 0
+    pub begins : length ws ≡ gateway_words → (mac : ℕ) (t : List ℕ) → length t ≡ a + slot_words - a → pending_of t ≡ Some (mac, 0)
         → DoesWith (Hand n (Begin mac)) (Told Done) ws fs (put_mid a (a + slot_words - a) ws t) fs []
     begins len mac t long p =
         let e = begin-is mac in
@@ -173,17 +166,17 @@ module _ (ws fs : List ℕ) (n : ℕ) (lo : 0 < n) (hi : n ≤ circuits) where
             let w : f + most_octets - f ≡ most_octets = omega arith in
             ap (λ (k : ℕ). take k (drop f fs')) (sym w) ∙ part_same f (f + most_octets) fs os' (omega arith) (omega arith) lo'
 
-        by-joined : (r : Handed) (j : Joined) → join (unfinished_at ws fs (n - 1)) octets ≡ j
+        by-joined : (r : Result (Unit {0}) Refusal) (j : Joined) → join (unfinished_at ws fs (n - 1)) octets ≡ j
             → Adds octets (part a slot_words ws) (part f most_octets fs) r us' os' → DoesWith (Hand n (Chunk octets)) (handed_of r) ws fs ws' fs' []
         unfolding unfinished_at after
         by-joined r (RefusedChunk x) e m =
-            let told : r ≡ RefusedPiece x = m.answer ∙ ap answered e in
+            let told : r ≡ Err x = m.answer ∙ ap answered e in
             let left = m.kept x told in
             let wa : a + slot_words - a ≡ slot_words = omega arith in
             let wf : f + most_octets - f ≡ most_octets = omega arith in
             rw told (chunk-refused x e (left.0 ∙ ap (λ (k : ℕ). part a k ws) (sym wa)) (left.1 ∙ ap (λ (k : ℕ). part f k fs) (sym wf)))
         by-joined r (As v) e m =
-            let told : r ≡ DonePiece = m.answer ∙ ap answered e in
+            let told : r ≡ Ok tt = m.answer ∙ ap answered e in
             rw told
             (chunk-joined v e
             (frame-put len us' lu fs' octets-other
@@ -191,7 +184,7 @@ module _ (ws fs : List ℕ) (n : ℕ) (lo : 0 < n) (hi : n ≤ circuits) where
             ∙ ap (with_unfinished (whole_of ws fs) n) (m.next ∙ ap (after (unfinished_at ws fs (n - 1))) e))
             octets-other)
 
-        pub chunks : (r : Handed) → Adds octets (part a (a + slot_words - a) ws) (part f (f + most_octets - f) fs) r us' os'
+        pub chunks : (r : Result (Unit {0}) Refusal) → Adds octets (part a (a + slot_words - a) ws) (part f (f + most_octets - f) fs) r us' os'
             → DoesWith (Hand n (Chunk octets)) (handed_of r) ws fs ws' fs' []
         chunks r m =
             let wa : a + slot_words - a ≡ slot_words = omega arith in
@@ -200,10 +193,10 @@ module _ (ws fs : List ℕ) (n : ℕ) (lo : 0 < n) (hi : n ≤ circuits) where
 
 -- ---- end: what it takes
 
-pub takes-nothing : (ws : List ℕ) (n : ℕ) → ((fs : List ℕ) → circuit_of (whole_of ws fs).common n ≡ Unknown) → Takes n ws ws (RefusedTaken NoCircuit)
+pub takes-nothing : (ws : List ℕ) (n : ℕ) → ((fs : List ℕ) → circuit_of (whole_of ws fs).common n ≡ None) → Takes n ws ws (Err NoCircuit)
 takes-nothing ws n e = (refl, λ fs b. unknown ws fs n (End b) (e fs))
 
-module _ (ws : List ℕ) (n : ℕ) (lo : 0 < n) (hi : n ≤ circuits) (s : Circuit) (known : (fs : List ℕ) → circuit_of (whole_of ws fs).common n ≡ Known s) where
+module _ (ws : List ℕ) (n : ℕ) (lo : 0 < n) (hi : n ≤ circuits) (s : Circuit) (known : (fs : List ℕ) → circuit_of (whole_of ws fs).common n ≡ Some s) where
   abbrev p : ℕ
   p = slot_place (n - 1)
 
@@ -211,18 +204,18 @@ module _ (ws : List ℕ) (n : ℕ) (lo : 0 < n) (hi : n ≤ circuits) (s : Circu
   q = octets_place (n - 1)
 
   -- the frame, from its words
-  frame_is : (fs : List ℕ) (x : Pending) → pending_of (part p (p + slot_words - p) ws) ≡ x → unfinished_at ws fs (n - 1) ≡ meant (part q most_octets fs) x
+  frame_is : (fs : List ℕ) (x : Option (ℕ × ℕ)) → pending_of (part p (p + slot_words - p) ws) ≡ x → unfinished_at ws fs (n - 1) ≡ meant (part q most_octets fs) x
   unfolding unfinished_at
   frame_is fs x e =
       let w : p + slot_words - p ≡ slot_words = omega arith in
       ap (λ (k : ℕ). meant (part q most_octets fs) (pending_of (part p k ws))) (sym w) ∙ ap (meant (part q most_octets fs)) e
 
-  pub takes_none : pending_of (part p (p + slot_words - p) ws) ≡ Idle → Takes n ws ws (RefusedTaken NotBegun)
+  pub takes_none : pending_of (part p (p + slot_words - p) ws) ≡ None → Takes n ws ws (Err NotBegun)
   unfolding ended
-  takes_none e = (refl, λ fs b. end_is ws fs n lo hi s (known fs) b ∙ ap (ended (whole_of ws fs) n b) (frame_is fs Idle e))
+  takes_none e = (refl, λ fs b. end_is ws fs n lo hi s (known fs) b ∙ ap (ended (whole_of ws fs) n b) (frame_is fs None e))
 
-  pub takes-frame : length ws ≡ gateway_words → (mac k : ℕ) (t : List ℕ) → k ≤ most_octets → mac < 2 ^ 48 → pending_of (part p (p + slot_words - p) ws) ≡ Begun mac k
-      → length t ≡ p + slot_words - p → pending_of t ≡ Idle → TakesFrame n ws (put_mid p (p + slot_words - p) ws t) mac q (q + k)
+  pub takes-frame : length ws ≡ gateway_words → (mac k : ℕ) (t : List ℕ) → k ≤ most_octets → mac < 2 ^ 48 → pending_of (part p (p + slot_words - p) ws) ≡ Some (mac, k)
+      → length t ≡ p + slot_words - p → pending_of t ≡ None → TakesFrame n ws (put_mid p (p + slot_words - p) ws t) mac q (q + k)
   unfolding ended step
   takes-frame len mac k t fit fits e long idle =
       record {
@@ -235,23 +228,23 @@ module _ (ws : List ℕ) (n : ℕ) (lo : 0 < n) (hi : n ≤ circuits) (s : Circu
             let cut : take k (part q most_octets fs) ≡ part q (q + k - q) fs = take-take k most_octets (drop q fs) fit ∙ ap (λ (z : ℕ). part q z fs) (sym w) in
             let left : whole_of (put_mid p (p + slot_words - p) ws t) fs ≡ with_unfinished (whole_of ws fs) n NoFrame =
             frame-put ws fs n lo hi len t long fs (λ j lj ne. refl) ∙ ap (λ x. with_unfinished (whole_of ws fs) n (meant (part q most_octets fs) x)) idle in
-            end_is ws fs n lo hi s (known fs) b ∙ ap (ended (whole_of ws fs) n b) (frame_is fs (Begun mac k) e)
+            end_is ws fs n lo hi s (known fs) b ∙ ap (ended (whole_of ws fs) n b) (frame_is fs (Some (mac, k)) e)
             ∙ ap (λ (o : List ℕ). step (with_unfinished (whole_of ws fs) n NoFrame) (At n (Receive mac o b))) cut
             ∙ ap (λ (g : Gateway). step g (At n (Receive mac (part q (q + k - q) fs) b))) (sym left);
         dropped = λ fs b x z.
             received-by (with_unfinished (whole_of ws fs) n NoFrame) n s (known fs) mac (take k (part q most_octets fs)) b x
-            (sym (ap (λ (o : Outcome). o.answer) (end_is ws fs n lo hi s (known fs) b ∙ ap (ended (whole_of ws fs) n b) (frame_is fs (Begun mac k) e))) ∙ z);
+            (sym (ap (λ (o : Outcome). o.answer) (end_is ws fs n lo hi s (known fs) b ∙ ap (ended (whole_of ws fs) n b) (frame_is fs (Some (mac, k)) e))) ∙ z);
       }
 
 -- .. and what it then does
 
-pub ends-refused : {n : ℕ} {ws ws' : List ℕ} {r : Taken} {x : Refusal} (fs b : List ℕ) → Takes n ws ws' r → r ≡ RefusedTaken x
+pub ends-refused : {n : ℕ} {ws ws' : List ℕ} {r : Result (ℕ × ℕ × ℕ) Refusal} {x : Refusal} (fs b : List ℕ) → Takes n ws ws' r → r ≡ Err x
     → DoesWith (Hand n (End b)) (Refused x) ws fs ws' fs b
 ends-refused {n} {ws} {ws'} {r} {x} fs b m e =
-    let t : Takes n ws ws' (RefusedTaken x) = rw e at m in
+    let t : Takes n ws ws' (Err x) = rw e at m in
     rw t.0 (refuses ws fs b n (End b) x (t.1 fs b))
 
-pub takes-as : {n : ℕ} {ws ws' : List ℕ} {r : Taken} {mac start end : ℕ} → Takes n ws ws' r → r ≡ FrameTaken mac start end → TakesFrame n ws ws' mac start end
+pub takes-as : {n : ℕ} {ws ws' : List ℕ} {r : Result (ℕ × ℕ × ℕ) Refusal} {mac start end : ℕ} → Takes n ws ws' r → r ≡ Ok (mac, start, end) → TakesFrame n ws ws' mac start end
 takes-as m e = rw e at m
 
 -- a MAC of six octets, there and back

@@ -15,12 +15,9 @@ use Rattle.basics.proofs.ListLaws.{tabulate-set, tabulate-same}
 use Rattle.basics.proofs.PartLaws.{length_back, part_same}
 use Rattle.chunks.specs.Chunks.{NoFrame, most_octets}
 use Rattle.chunks.specs.Words.{slot_words, pending_of, meant}
-use Rattle.chunks.specs.declared.slot.Pending.TheVariants.{Idle}
 use Rattle.basics.specs.declared.refusal.Refusal.{Refusal}
 use Rattle.settings.specs.declared.setup.Settings.{Settings}
 use Rattle.timers.specs.declared.hellos.HelloOrders.{HelloOrders}
-use Rattle.model.specs.declared.answers.SetUp.{SetUp}
-use Rattle.model.specs.declared.answers.SetUp.TheVariants.{Refused as RefusedAnswer, Done}
 use Rattle.model.specs.Numbers.{refusal_no}
 use Rattle.settings.specs.declared.circuit.Circuit.{Circuit}
 use Rattle.timers.specs.Hellos.{Hellos}
@@ -35,6 +32,7 @@ use Rattle.own_words.specs.Setup.{Refused, report_of, report_in, started_in, Put
 use Rattle.gateway.specs.Whole.{gateway_words, slot_place, octets_place, unfinished_at, whole_of, Starts, SetsUpWhole}
 use Rattle.own_words.proofs.WordLaws.{part-other}
 use Rattle.gateway.proofs.WholeLaws.{own-part, own-control, own_back, gateway-back}
+use Rattle.std.specs.Prelude.{None, Result, Ok, Err}
 
 -- ---- the words of circuit i (from 0), as the code lends them
 
@@ -89,7 +87,7 @@ pub dropped-none : (ws : List ℕ) → Dropped ws ws 0
 dropped-none ws = record { own = refl; none = λ fs j h. absurd (omega arith) }
 
 pub dropped-next : (ws₀ ws t : List ℕ) (len : length ws ≡ gateway_words) (i : ℕ) (lt : i < circuits) (long : length t ≡ slot_place i + slot_words - slot_place i)
-    → pending_of t ≡ Idle → Dropped ws₀ ws i → Dropped ws₀ (put_mid (slot_place i) (slot_place i + slot_words - slot_place i) ws t) (i + 1)
+    → pending_of t ≡ None → Dropped ws₀ ws i → Dropped ws₀ (put_mid (slot_place i) (slot_place i + slot_words - slot_place i) ws t) (i + 1)
 unfolding unfinished_at
 dropped-next ws₀ ws t len i lt long idle d =
     record {
@@ -120,7 +118,7 @@ stood : (ws fs : List ℕ) (x : ℕ) (o : Setup) → Refused x ≡ report_in o �
 stood ws fs x (RefusedSetup n) e = refl
 stood ws fs x (Started g hellos) e = absurd (let z : ◌≡◌ {A = ℕ} 0 1 = cc in omega arith)
 
-pub own-refused : {o : Setup} {ws ws' : List ℕ} {x : Refusal} → SetsUp o ws ws' (RefusedAnswer x) → SetsUpWhole o ws ws' (RefusedAnswer x)
+pub own-refused : {o : Setup} {ws ws' : List ℕ} {x : Refusal} → SetsUp o ws ws' (Err x) → SetsUpWhole o ws ws' (Err x)
 own-refused {o} {ws} {ws'} {x} m fs =
     record {
       answer = m.answer;
@@ -129,12 +127,12 @@ own-refused {o} {ws} {ws'} {x} m fs =
     }
 
 -- done: a new gateway, whatever stood before
-new : (g before before' : Gateway) (hellos : HelloOrders) (o : Setup) → report_of (Done hellos) ≡ report_in o → g ≡ started_in before o → g ≡ started_in before' o
+new : (g before before' : Gateway) (hellos : HelloOrders) (o : Setup) → report_of (Ok hellos) ≡ report_in o → g ≡ started_in before o → g ≡ started_in before' o
 new g before before' hellos (RefusedSetup n) e q = absurd (let z : ◌≡◌ {A = ℕ} 0 1 = cc in omega arith)
 new g before before' hellos (Started d h) e q = q
 
-pub own-started : {o : Setup} {ws ws' : List ℕ} {hellos : HelloOrders} → SetsUp o ws ws' (Done hellos) → ((fs : List ℕ) → (whole_of ws' fs).unfinished ≡ no_frames)
-    → SetsUpWhole o ws ws' (Done hellos)
+pub own-started : {o : Setup} {ws ws' : List ℕ} {hellos : HelloOrders} → SetsUp o ws ws' (Ok hellos) → ((fs : List ℕ) → (whole_of ws' fs).unfinished ≡ no_frames)
+    → SetsUpWhole o ws ws' (Ok hellos)
 unfolding whole_of gateway_of
 own-started {o} {ws} {ws'} {hellos} m d fs =
     record {
@@ -144,13 +142,13 @@ own-started {o} {ws} {ws'} {hellos} m d fs =
     }
 
 -- with equal settings
-pub same_whole : {s s' : Settings} {ws ws' : List ℕ} {r : SetUp} → s ≡ s' → SetsUpWhole (setup s) ws ws' r → SetsUpWhole (setup s') ws ws' r
+pub same_whole : {s s' : Settings} {ws ws' : List ℕ} {r : Result HelloOrders Refusal} → s ≡ s' → SetsUpWhole (setup s) ws ws' r → SetsUpWhole (setup s') ws ws' r
 same_whole e m = rw e at m
 
 -- ---- the own words lent and put back
 
 module _ (ws t : List ℕ) (len : length ws ≡ gateway_words) (lt : length t ≡ length (part 0 own_words ws)) where
-  setup-back : {o : Setup} {r : SetUp} → SetsUp o (part 0 own_words ws) t r → SetsUp o ws (put_mid 0 own_words ws t) r
+  setup-back : {o : Setup} {r : Result HelloOrders Refusal} → SetsUp o (part 0 own_words ws) t r → SetsUp o ws (put_mid 0 own_words ws t) r
   setup-back {o} m =
       record {
         answer = m.answer;
@@ -158,14 +156,14 @@ module _ (ws t : List ℕ) (len : length ws ≡ gateway_words) (lt : length t �
         kept = λ x e. ap (put_mid 0 own_words ws) (m.kept x e) ∙ put_same 0 own_words ws;
       }
 
-  pub whole-refused : {o : Setup} {r : SetUp} {x : Refusal} → SetsUp o (part 0 own_words ws) t r → r ≡ RefusedAnswer x
-      → SetsUpWhole o ws (put_mid 0 own_words ws t) (RefusedAnswer x)
+  pub whole-refused : {o : Setup} {r : Result HelloOrders Refusal} {x : Refusal} → SetsUp o (part 0 own_words ws) t r → r ≡ Err x
+      → SetsUpWhole o ws (put_mid 0 own_words ws t) (Err x)
   whole-refused m e = own-refused (rw e at (setup-back m))
 
-  pub whole-started : {o : Setup} {r : SetUp} {hellos : HelloOrders} (ws' : List ℕ) → SetsUp o (part 0 own_words ws) t r → r ≡ Done hellos
-      → ((fs : List ℕ) → whole_of ws' fs ≡ with_frames (whole_of (put_mid 0 own_words ws t) fs) no_frames) → SetsUpWhole o ws ws' (Done hellos)
+  pub whole-started : {o : Setup} {r : Result HelloOrders Refusal} {hellos : HelloOrders} (ws' : List ℕ) → SetsUp o (part 0 own_words ws) t r → r ≡ Ok hellos
+      → ((fs : List ℕ) → whole_of ws' fs ≡ with_frames (whole_of (put_mid 0 own_words ws t) fs) no_frames) → SetsUpWhole o ws ws' (Ok hellos)
   whole-started {o} {r} {hellos} ws' m e d =
-      let b : SetsUp o ws (put_mid 0 own_words ws t) (Done hellos) = rw e at (setup-back m) in
+      let b : SetsUp o ws (put_mid 0 own_words ws t) (Ok hellos) = rw e at (setup-back m) in
       own-started
       (record {
         answer = b.answer;

@@ -1,12 +1,11 @@
 -- The lent memories whole (house): after the gateway's own words two words for each circuit's unfinished frame (document 02, W-205), and in a second
 -- memory, which begins, chunks and ends alone take, 1,500 octets for each. And the promise of every call.
-use Rattle.std.specs.Prelude.{ℕ, ◌+◌, ◌*◌, ◌<◌, ◌≡◌, Bool, false, List, eqb}
+use Rattle.std.specs.Prelude.{ℕ, ◌+◌, ◌*◌, ◌<◌, ◌≡◌, Bool, false, List, eqb, Result}
 use Rattle.basics.specs.declared.refusal.Refusal.{Refusal}
 use Rattle.basics.specs.Mask.{circuits}
 use Rattle.basics.specs.Lists.{part, tabulate}
 use Rattle.chunks.specs.Chunks.{Unfinished, most_octets}
 use Rattle.chunks.specs.Words.{slot_words, pending_of, meant}
-use Rattle.model.specs.declared.answers.SetUp.{SetUp}
 use Rattle.model.specs.Answers.{Answer, Refused}
 use Rattle.control.specs.declared.setup.Basis.{Basis}
 use Rattle.timers.specs.Hellos.{Hellos}
@@ -15,6 +14,7 @@ use Rattle.model.specs.Step.{Call, At, Over, Hand, step}
 use Rattle.model.specs.Refusals.{drops}
 use Rattle.own_words.specs.Words.{own_words, gateway_of}
 use Rattle.own_words.specs.Setup.{Refused as RefusedReport, report_of, report_in, started_in, Begins}
+use Rattle.timers.specs.declared.hellos.HelloOrders.{HelloOrders}
 
 abbrev pub gateway_words : ℕ
 gateway_words = own_words + slot_words * circuits
@@ -66,10 +66,10 @@ pub record Starts (b : Basis) (ws ws' : List ℕ) (hellos : Hellos) : Type 0 whe
   pub frames : (fs : List ℕ) → (whole_of ws' fs).unfinished ≡ no_frames
 
 -- setup, o being its outcome: a new gateway, with no frame begun, or every word as it was
-pub record SetsUpWith (o : Setup) (ws fs ws' : List ℕ) (r : SetUp) : Type 0 where
+pub record SetsUpWith (o : Setup) (ws fs ws' : List ℕ) (r : Result HelloOrders Refusal) : Type 0 where
   pub answer : report_of r ≡ report_in o
   pub next : whole_of ws' fs ≡ started_in (whole_of ws fs) o
   pub kept : (x : ℕ) → report_of r ≡ RefusedReport x → ws' ≡ ws
 
-abbrev pub SetsUpWhole : Setup → List ℕ → List ℕ → SetUp → Type 0
+abbrev pub SetsUpWhole : Setup → List ℕ → List ℕ → Result HelloOrders Refusal → Type 0
 SetsUpWhole o ws ws' r = (fs : List ℕ) → SetsUpWith o ws fs ws' r

@@ -18,13 +18,17 @@ use crate::whole::{
 };
 use adjacency::record::Key;
 use basics::octets::six;
-use chunks::slot::Handed;
-use model::answers::{
-    Looked, Metric, NextFlags, Noticed, Received, Released, SetUp, Ticked, Waiting,
-};
+use basics::refusal::Refusal;
+use model::answers::{Found, Orders, Ticked, Waiting};
+use restart_tlv::flags::Flags;
+use timers::hellos::HelloOrders;
+use timers::outcome::TimerOutcome;
 
 // A new gateway, whatever the memory was; the answer says which hellos are ordered.
-pub fn set_up(gateway: &mut [u64; GATEWAY_WORDS], settings: GatewaySettings) -> SetUp
+pub fn set_up(
+    gateway: &mut [u64; GATEWAY_WORDS],
+    settings: GatewaySettings,
+) -> Result<HelloOrders, Refusal>
     ensures { SetsUpWhole (setup (settings_given settings)) gateway.old gateway.new result }
 {
     set_up_at(gateway, settings_given(settings))
@@ -37,14 +41,18 @@ pub fn receive(
     source: &[u8; 6],
     frame: &[u8],
     reply: &mut [u8],
-) -> Received
+) -> Result<Orders, Refusal>
     ensures { Does (At circuit (Receive (big 6 source.now 0) frame.now reply.old)) (received_of result) gateway.old gateway.new reply.new }
 {
     receive_at(gateway, circuit, source, frame, reply)
 }
 
 // A frame in chunks is begun on a circuit, from a source MAC; one that was begun there before is dropped.
-pub fn begin_frame(gateway: &mut [u64; GATEWAY_WORDS], circuit: u8, source: &[u8; 6]) -> Handed
+pub fn begin_frame(
+    gateway: &mut [u64; GATEWAY_WORDS],
+    circuit: u8,
+    source: &[u8; 6],
+) -> Result<(), Refusal>
     ensures { Does (Hand circuit (Begin (big 6 source.now 0))) (handed_of result) gateway.old gateway.new [] }
 {
     begin_at(gateway, circuit, source)
@@ -56,7 +64,7 @@ pub fn add_chunk(
     frames: &mut [u8; FRAME_OCTETS],
     circuit: u8,
     octets: &[u8],
-) -> Handed
+) -> Result<(), Refusal>
     ensures { DoesWith (Hand circuit (Chunk octets.now)) (handed_of result) gateway.old frames.old gateway.new frames.new [] }
 {
     chunk_at(gateway, frames, circuit, octets)
@@ -68,42 +76,49 @@ pub fn end_frame(
     frames: &[u8; FRAME_OCTETS],
     circuit: u8,
     reply: &mut [u8],
-) -> Received
+) -> Result<Orders, Refusal>
     ensures { DoesWith (Hand circuit (End reply.old)) (received_of result) gateway.old frames.now gateway.new frames.now reply.new }
 {
     end_at(gateway, frames, circuit, reply)
 }
 
 // The clock: records whose expiry is reached go, and the timers move.
-pub fn tick(gateway: &mut [u64; GATEWAY_WORDS], clock: u32) -> Ticked
+pub fn tick(gateway: &mut [u64; GATEWAY_WORDS], clock: u32) -> Result<Ticked, Refusal>
     ensures { Does (Over (Tick clock)) (ticked_of result) gateway.old gateway.new [] }
 {
     tick_at(gateway, clock)
 }
 
 // The circuit's Planned records go.
-pub fn release(gateway: &mut [u64; GATEWAY_WORDS], circuit: u8) -> Released
+pub fn release(gateway: &mut [u64; GATEWAY_WORDS], circuit: u8) -> Result<(), Refusal>
     ensures { Does (At circuit Release) (released_of result) gateway.old gateway.new [] }
 {
     release_at(gateway, circuit)
 }
 
 // The link went down: all records of the circuit go, and no timer is touched.
-pub fn clear(gateway: &mut [u64; GATEWAY_WORDS], circuit: u8) -> Released
+pub fn clear(gateway: &mut [u64; GATEWAY_WORDS], circuit: u8) -> Result<(), Refusal>
     ensures { Does (At circuit Clear) (released_of result) gateway.old gateway.new [] }
 {
     clear_at(gateway, circuit)
 }
 
 // The CSNP set of a level is complete on a circuit.
-pub fn csnp_complete(gateway: &mut [u64; GATEWAY_WORDS], circuit: u8, level: u8) -> Noticed
+pub fn csnp_complete(
+    gateway: &mut [u64; GATEWAY_WORDS],
+    circuit: u8,
+    level: u8,
+) -> Result<TimerOutcome, Refusal>
     ensures { Does (At circuit (CsnpComplete level)) (noticed_of result) gateway.old gateway.new [] }
 {
     csnp_at(gateway, circuit, level)
 }
 
 // The database of a level is complete.
-pub fn database_complete(gateway: &mut [u64; GATEWAY_WORDS], level: u8) -> Noticed
+pub fn database_complete(
+    gateway: &mut [u64; GATEWAY_WORDS],
+    level: u8,
+) -> Result<TimerOutcome, Refusal>
     ensures { Does (Over (DatabaseComplete level)) (noticed_of result) gateway.old gateway.new [] }
 {
     database_at(gateway, level)
@@ -127,21 +142,25 @@ pub fn look_up(
     level: u8,
     system: &[u8; 6],
     mac: &[u8; 6],
-) -> Looked
+) -> Result<Option<Found>, Refusal>
     ensures { Does (At circuit (LookUp (key_given level system.now mac.now))) (looked_of result) gateway.now gateway.now [] }
 {
     look_at(gateway, circuit, key_given(level, system, mac))
 }
 
 // The metric of a circuit's link, with a P2P neighbour's reverse metric.
-pub fn link_metric(gateway: &[u64; GATEWAY_WORDS], circuit: u8) -> Metric
+pub fn link_metric(gateway: &[u64; GATEWAY_WORDS], circuit: u8) -> Result<u32, Refusal>
     ensures { Does (At circuit LinkMetric) (metric_of result) gateway.now gateway.now [] }
 {
     metric_at(gateway, circuit)
 }
 
 // The flags that the next hello on a circuit carries, on a LAN that of a level; on P2P the one hello's at each of its levels.
-pub fn next_hello_flags(gateway: &[u64; GATEWAY_WORDS], circuit: u8, level: u8) -> NextFlags
+pub fn next_hello_flags(
+    gateway: &[u64; GATEWAY_WORDS],
+    circuit: u8,
+    level: u8,
+) -> Result<Flags, Refusal>
     ensures { Does (At circuit (NextHello level)) (flags_of result) gateway.now gateway.now [] }
 {
     flags_at(gateway, circuit, level)

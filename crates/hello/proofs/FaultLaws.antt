@@ -7,8 +7,6 @@ use native.Mathlib.Omega.{arith}
 use lib.ListN.{length}
 use Rattle.basics.proofs.BoolLaws.{by-test}
 use Rattle.tlv.specs.Tlv.{Tlv, tlvs, of_type, next_at, value_at, first_at, lone_fault, FoundAt, is_found}
-use Rattle.tlv.specs.declared.tlvs.Found.{Found}
-use Rattle.tlv.specs.declared.tlvs.Found.TheVariants.{At, Nothing}
 use Rattle.tlv.proofs.TlvLaws.{found-list, Within, nowhere, place, Standing, no_more, stands, standing, lone-within}
 use Rattle.neighbours.proofs.ListsLaws.{fault-within}
 use Rattle.restart_tlv.specs.Restart.{restart_bad}
@@ -19,42 +17,40 @@ use Rattle.hello.specs.Reverse.{reverse_bad, reverse_fault}
 use Rattle.hello.specs.ThreeWay.{three_way_bad, three_way_fault}
 use Rattle.hello.specs.Header.{layout_of}
 use Rattle.hello.specs.Hello.{of_kind, earlier, fault_on, tlv_fault, fault_by, fault_in, refused_at, RefusesAt}
-use Rattle.hello.specs.declared.header.Selected.{Selected}
-use Rattle.hello.specs.declared.read.Read.{Read}
-use Rattle.hello.specs.declared.read.Read.TheVariants.{Refused}
-use Rattle.hello.specs.declared.header.Selected.TheVariants.{Fit, Unfit}
 use Rattle.basics.specs.Octets.{octet}
 use Rattle.basics.specs.declared.refusal.Refusal.{Refusal}
 use Rattle.basics.specs.declared.refusal.Refusal.TheVariants.{BadTlv}
+use Rattle.std.specs.Prelude.{Option, Some, None, Result, Err}
+use Rattle.hello.specs.declared.read.Hello.{Hello}
 
 -- ---- what is found
 
-pub reverse-none : (ts : List Tlv) → ts ≡ [] → reverse_fault ts ≡ Nothing
+pub reverse-none : (ts : List Tlv) → ts ≡ [] → reverse_fault ts ≡ None
 reverse-none ts e = ap reverse_fault e
 
-reverse-two : (t : Tlv) (ts : List Tlv) (q : ℕ) → first_at ts ≡ At q → reverse_fault (t ∷ ts) ≡ Nothing
+reverse-two : (t : Tlv) (ts : List Tlv) (q : ℕ) → first_at ts ≡ Some q → reverse_fault (t ∷ ts) ≡ None
 reverse-two t [] q e = absurd (let z : ◌≡◌ {A = ℕ} 0 1 = cc in omega arith)
 reverse-two t (u ∷ ts) q e = refl
 
-reverse-one : (t : Tlv) (ts : List Tlv) → first_at ts ≡ Nothing → reverse_fault (t ∷ ts) ≡ cond (reverse_bad t.value) (At t.at) Nothing
+reverse-one : (t : Tlv) (ts : List Tlv) → first_at ts ≡ None → reverse_fault (t ∷ ts) ≡ cond (reverse_bad t.value) (Some t.at) None
 reverse-one t [] e = refl
 reverse-one t (u ∷ ts) e = absurd (let z : ◌≡◌ {A = ℕ} 0 1 = cc in omega arith)
 
 module _ (s : List ℕ) (from p : ℕ) (f : FoundAt s from 16 p) where
-  pub reverse-more : (q : ℕ) → first_at (of_type 16 (tlvs s (next_at s p))) ≡ At q → reverse_fault (of_type 16 (tlvs s from)) ≡ Nothing
+  pub reverse-more : (q : ℕ) → first_at (of_type 16 (tlvs s (next_at s p))) ≡ Some q → reverse_fault (of_type 16 (tlvs s from)) ≡ None
   reverse-more q e = ap reverse_fault (found-list s from 16 p f) ∙ reverse-two _ (of_type 16 (tlvs s (next_at s p))) q e
 
-  module _ (lone : first_at (of_type 16 (tlvs s (next_at s p))) ≡ Nothing) where
-    reverse-lone : reverse_fault (of_type 16 (tlvs s from)) ≡ cond (reverse_bad (value_at s p)) (At p) Nothing
+  module _ (lone : first_at (of_type 16 (tlvs s (next_at s p))) ≡ None) where
+    reverse-lone : reverse_fault (of_type 16 (tlvs s from)) ≡ cond (reverse_bad (value_at s p)) (Some p) None
     reverse-lone = ap reverse_fault (found-list s from 16 p f) ∙ reverse-one (record { at = p; value = value_at s p }) (of_type 16 (tlvs s (next_at s p))) lone
 
-    pub reverse-here : reverse_bad (value_at s p) ≡ true → reverse_fault (of_type 16 (tlvs s from)) ≡ At p
+    pub reverse-here : reverse_bad (value_at s p) ≡ true → reverse_fault (of_type 16 (tlvs s from)) ≡ Some p
     reverse-here e = reverse-lone ∙ rw e
 
-    pub reverse-fine : reverse_bad (value_at s p) ≡ false → reverse_fault (of_type 16 (tlvs s from)) ≡ Nothing
+    pub reverse-fine : reverse_bad (value_at s p) ≡ false → reverse_fault (of_type 16 (tlvs s from)) ≡ None
     reverse-fine e = reverse-lone ∙ rw e
 
-pub three-way-none : (end : ℕ) (ts : List Tlv) → ts ≡ [] → three_way_fault end ts ≡ At end
+pub three-way-none : (end : ℕ) (ts : List Tlv) → ts ≡ [] → three_way_fault end ts ≡ Some end
 three-way-none end ts e = ap (three_way_fault end) e
 
 -- where one came, it goes by the rule of a TLV that may come at most once
@@ -65,21 +61,21 @@ three-way-some end s from p f =
     ap (three_way_fault end) e ∙ sym (ap (lone_fault three_way_bad) e)
 
 -- the one that stands first
-module _ (a b : Found) where
-  pub earlier-none : a ≡ Nothing → b ≡ earlier a b
+module _ (a b : Option ℕ) where
+  pub earlier-none : a ≡ None → b ≡ earlier a b
   unfolding earlier
   earlier-none e = rw e
 
-  module _ (p : ℕ) (e : a ≡ At p) where
-    pub earlier-alone : b ≡ Nothing → At p ≡ earlier a b
+  module _ (p : ℕ) (e : a ≡ Some p) where
+    pub earlier-alone : b ≡ None → Some p ≡ earlier a b
     unfolding earlier
     earlier-alone f = rw (e, f)
 
-    pub earlier-first : (q : ℕ) → b ≡ At q → p < q → At p ≡ earlier a b
+    pub earlier-first : (q : ℕ) → b ≡ Some q → p < q → Some p ≡ earlier a b
     unfolding earlier
     earlier-first q f l = let m : p ≡ min p q = omega arith in rw (e, f, ← m)
 
-    pub earlier-second : (q : ℕ) → b ≡ At q → q ≤ p → At q ≡ earlier a b
+    pub earlier-second : (q : ℕ) → b ≡ Some q → q ≤ p → Some q ≡ earlier a b
     unfolding earlier
     earlier-second q f l = let m : q ≡ min p q = omega arith in rw (e, f, ← m)
 
@@ -100,11 +96,11 @@ unfolding fault_on
 link-within Lan l p = fault-within (length p) (of_kind 6 l p) (standing 6 p l.header)
 link-within P2p l p = three-way-within (length p) (of_kind 240 l p) (standing 240 p l.header)
 
-earlier-within : (n : ℕ) (a b : Found) → Within n a → Within n b → Within n (earlier a b)
+earlier-within : (n : ℕ) (a b : Option ℕ) → Within n a → Within n b → Within n (earlier a b)
 unfolding earlier
-earlier-within n Nothing b nowhere h = h
-earlier-within n (At p) Nothing (place l) nowhere = place {p = p} l
-earlier-within n (At p) (At q) (place l) (place m) = place {p = min p q} (omega arith)
+earlier-within n None b nowhere h = h
+earlier-within n (Some p) None (place l) nowhere = place {p = p} l
+earlier-within n (Some p) (Some q) (place l) (place m) = place {p = min p q} (omega arith)
 
 pub tlv-within : (l : Layout) (p : List ℕ) → Within (length p) (tlv_fault l p)
 unfolding tlv_fault
@@ -113,26 +109,26 @@ tlv-within l p =
     (earlier-within (length p) _ _ (reverse-within (length p) (of_kind 16 l p) (standing 16 p l.header)) (link-within l.kind l p))
 
 -- the refusal at a place, in octets counted from 1
-pub refused-here : (why : ℕ → Refusal) (p : ℕ) (r : Read) → refused_at why (At p) r ≡ Refused (why (p + 1))
+pub refused-here : (why : ℕ → Refusal) (p : ℕ) (r : Result Hello Refusal) → refused_at why (Some p) r ≡ Err (why (p + 1))
 unfolding refused_at
 refused-here why p r = refl
 
-pub refuses-at : (why : ℕ → Refusal) (f : Found) (p : ℕ) (x : Refusal) → f ≡ At p → x ≡ why (p + 1) → RefusesAt why f x
+pub refuses-at : (why : ℕ → Refusal) (f : Option ℕ) (p : ℕ) (x : Refusal) → f ≡ Some p → x ≡ why (p + 1) → RefusesAt why f x
 refuses-at why f p x e q r = rw (e, q) (sym (refused-here why p r))
 
 -- the layout that a PDU chooses is the one that it was read by
-module _ (l : Layout) (p : List ℕ) (e : layout_of (octet p 4) ≡ Fit l) where
+module _ (l : Layout) (p : List ℕ) (e : layout_of (octet p 4) ≡ Some l) where
   fault-in : fault_in p ≡ tlv_fault l p
-  fault-in = ap (λ (x : Selected). fault_by x p) e
+  fault-in = ap (λ (x : Option Layout). fault_by x p) e
 
   pub is-found-in : is_found (tlv_fault l p) ≡ true → is_found (fault_in p) ≡ true
   is-found-in f = ap is_found fault-in ∙ f
 
   pub refused-in : (x : Refusal) → RefusesAt BadTlv (fault_in p) x → RefusesAt BadTlv (tlv_fault l p) x
-  refused-in x f r = f r ∙ ap (λ (y : Found). refused_at BadTlv y r) fault-in
+  refused-in x f r = f r ∙ ap (λ (y : Option ℕ). refused_at BadTlv y r) fault-in
 
-pub fit-in : (x : Selected) (l : Layout) (p : List ℕ) → x ≡ layout_of (octet p 4) → x ≡ Fit l → fault_in p ≡ tlv_fault l p
+pub fit-in : (x : Option Layout) (l : Layout) (p : List ℕ) → x ≡ layout_of (octet p 4) → x ≡ Some l → fault_in p ≡ tlv_fault l p
 fit-in x l p e f = fault-in l p (sym e ∙ f)
 
-pub unfit-in : (x : Selected) (p : List ℕ) → x ≡ layout_of (octet p 4) → x ≡ Unfit → fault_in p ≡ Nothing
-unfit-in x p e f = ap (λ (y : Selected). fault_by y p) (sym e ∙ f)
+pub unfit-in : (x : Option Layout) (p : List ℕ) → x ≡ layout_of (octet p 4) → x ≡ None → fault_in p ≡ None
+unfit-in x p e f = ap (λ (y : Option Layout). fault_by y p) (sym e ∙ f)

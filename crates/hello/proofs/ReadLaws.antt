@@ -9,17 +9,16 @@ use lib.ListN.{length}
 use Rattle.tlv.specs.Tlv.{Tlv, first_value, unless}
 use Rattle.tlv.proofs.TlvLaws.{by_count, unless-bad, lone-read}
 use Rattle.hello.specs.ThreeWay.{three_way_length, three_way_bad, three_way_of, three_way_read}
-use Rattle.hello.specs.declared.three_way.ThreeWayRead.TheVariants.{Bad as BadThreeWay, Good as GoodThreeWay}
 use Rattle.hello.specs.Reverse.{reverse_bad, reverse_of, reverse_read}
-use Rattle.hello.specs.declared.reverse.ReverseRead.TheVariants.{Bad as BadReverse, Good as GoodReverse}
-use Rattle.hello.specs.declared.reverse.ReverseMetric.TheVariants.{Absent}
+use Rattle.std.specs.Prelude.{None, Ok, Err}
+use Rattle.tlv.specs.Tlv.{broken_rule}
 
 pub three-way-read : (end : ℕ) (ts : List Tlv)
     → three_way_read end ts
     ≡ by_count (length ts)
-    BadThreeWay
-    (cond (three_way_bad (first_value ts)) BadThreeWay (GoodThreeWay (three_way_of (first_value ts))))
-    BadThreeWay
+    (Err broken_rule)
+    (cond (three_way_bad (first_value ts)) (Err broken_rule) (Ok (three_way_of (first_value ts))))
+    (Err broken_rule)
 unfolding three_way_read unless
 three-way-read end [] = refl
 three-way-read end (t ∷ []) = lone-read _ _ three_way_bad (t ∷ [])
@@ -28,9 +27,9 @@ three-way-read end (t ∷ u ∷ ts) = lone-read _ _ three_way_bad (t ∷ u ∷ t
 pub reverse-read : (ts : List Tlv)
     → reverse_read ts
     ≡ by_count (length ts)
-    (GoodReverse Absent)
-    (cond (reverse_bad (first_value ts)) BadReverse (GoodReverse (reverse_of (first_value ts))))
-    (GoodReverse Absent)
+    (Ok None)
+    (cond (reverse_bad (first_value ts)) (Err broken_rule) (Ok (reverse_of (first_value ts))))
+    (Ok None)
 unfolding reverse_read unless
 reverse-read [] = refl
 reverse-read (t ∷ []) = unless-bad _ _ (reverse_bad t.value) t.at

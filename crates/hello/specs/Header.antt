@@ -1,12 +1,10 @@
 -- The fixed header of a hello (ISO/IEC 10589, 9.5 to 9.7; document 01, "Hello frames"), and refusals 3 and 4. Octet n of the
 -- documents stands at position n - 1.
-use Rattle.std.specs.Prelude.{ℕ, ◌%◌, ◌≤◌, List, Bool, true, false, not, cond, ◌||◌, length, ltb, eqb}
+use Rattle.std.specs.Prelude.{ℕ, ◌%◌, ◌≤◌, List, Bool, true, false, not, cond, ◌||◌, length, ltb, eqb, Option, Some, None}
 use Rattle.basics.specs.Octets.{octet, big}
 use Rattle.basics.specs.declared.kind.CircuitKind.{CircuitKind}
 use Rattle.basics.specs.declared.kind.CircuitKind.TheVariants.{Lan, P2p}
 use Rattle.hello.specs.declared.header.Layout.{Layout}
-use Rattle.hello.specs.declared.header.Selected.{Selected}
-use Rattle.hello.specs.declared.header.Selected.TheVariants.{Fit, Unfit}
 
 -- Document 01, "Hello frames": "The layout is chosen by PDU type (low five bits): 15 and 16 are LAN level 1 and 2, header 27 octets; 17 is
 -- P2P, header 20." A P2P hello has no level.
@@ -16,9 +14,9 @@ lan_layout level = record { header = 27; level = level; kind = Lan }
 abbrev pub p2p_layout : Layout
 p2p_layout = record { header = 20; level = 0; kind = P2p }
 
-unfoldable pub layout_of : ℕ → Selected
+unfoldable pub layout_of : ℕ → Option Layout
 layout_of t =
-    cond (eqb (t % 32) 15) (Fit (lan_layout 1)) (cond (eqb (t % 32) 16) (Fit (lan_layout 2)) (cond (eqb (t % 32) 17) (Fit p2p_layout) Unfit))
+    cond (eqb (t % 32) 15) (Some (lan_layout 1)) (cond (eqb (t % 32) 16) (Some (lan_layout 2)) (cond (eqb (t % 32) 17) (Some p2p_layout) None))
 
 -- refusal 3: "PDU type not fit for the circuit"
 abbrev pub same_kind : CircuitKind → CircuitKind → Bool
@@ -27,9 +25,9 @@ same_kind Lan P2p = false
 same_kind P2p Lan = false
 same_kind P2p P2p = true
 
-abbrev pub on_circuit : CircuitKind → Selected → Selected
-on_circuit kind (Fit l) = cond (same_kind l.kind kind) (Fit l) Unfit
-on_circuit kind Unfit = Unfit
+abbrev pub on_circuit : CircuitKind → Option Layout → Option Layout
+on_circuit kind (Some l) = cond (same_kind l.kind kind) (Some l) None
+on_circuit kind None = None
 
 abbrev pub id_length_ok : ℕ → Bool
 id_length_ok n = eqb n 0 || eqb n 6

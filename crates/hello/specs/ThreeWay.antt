@@ -1,16 +1,14 @@
 -- The Point-to-Point Three-Way Adjacency TLV, type 240 (RFC 5303, 3.1; document 01, "TLVs read"), of P2P hellos.
-use Rattle.std.specs.Prelude.{ℕ, List, [], ◌∷◌, Bool, not, cond, ◌||◌, length, ltb, eqb}
+use Rattle.std.specs.Prelude.{ℕ, List, [], ◌∷◌, Bool, not, cond, ◌||◌, length, ltb, eqb, Option, Some, Result, Ok, Err}
 use Rattle.basics.specs.Octets.{octet, big}
 use Rattle.tlv.specs.Tlv.{Tlv, lone_fault, first_value, unless}
-use Rattle.tlv.specs.declared.tlvs.Found.{Found}
-use Rattle.tlv.specs.declared.tlvs.Found.TheVariants.{At}
 use Rattle.hello.specs.declared.three_way.ThreeWayState.{ThreeWayState}
 use Rattle.hello.specs.declared.three_way.ThreeWayState.TheVariants.{Up, Initializing, Down}
 use Rattle.hello.specs.declared.three_way.Identifiers.{Identifiers}
 use Rattle.hello.specs.declared.three_way.Identifiers.TheVariants.{Absent, Own, Neighbor, Whole}
 use Rattle.hello.specs.declared.three_way.ThreeWay.{ThreeWay}
-use Rattle.hello.specs.declared.three_way.ThreeWayRead.{ThreeWayRead}
-use Rattle.hello.specs.declared.three_way.ThreeWayRead.TheVariants.{Bad, Good}
+use Rattle.tlv.specs.declared.tlvs.BrokenRule.{BrokenRule}
+use Rattle.tlv.specs.Tlv.{broken_rule}
 
 -- length 1, 5, 11 or 15
 unfoldable pub three_way_length : ℕ → Bool
@@ -21,8 +19,8 @@ unfoldable pub three_way_bad : List ℕ → Bool
 three_way_bad v = not (three_way_length (length v)) || ltb 2 (octet v 0)
 
 -- House: exactly one. The first that breaks a rule; where none came, the place past the last octet of the PDU.
-abbrev pub three_way_fault : ℕ → List Tlv → Found
-three_way_fault end [] = At end
+abbrev pub three_way_fault : ℕ → List Tlv → Option ℕ
+three_way_fault end [] = Some end
 three_way_fault end (t ∷ ts) = lone_fault three_way_bad (t ∷ ts)
 
 unfoldable pub state_of : ℕ → ThreeWayState
@@ -41,5 +39,5 @@ three_way_of v = record { state = state_of (octet v 0); ids = identifiers_of v }
 abbrev pub three_way_in : List Tlv → ThreeWay
 three_way_in ts = three_way_of (first_value ts)
 
-unfoldable pub three_way_read : ℕ → List Tlv → ThreeWayRead
-three_way_read end ts = unless (three_way_fault end ts) (Good (three_way_in ts)) Bad
+unfoldable pub three_way_read : ℕ → List Tlv → Result ThreeWay BrokenRule
+three_way_read end ts = unless (three_way_fault end ts) (Ok (three_way_in ts)) (Err broken_rule)

@@ -5,14 +5,13 @@ ghost use Rattle.hello.specs.Header.{Sized};
 ghost use Rattle.hello.specs.Hello.{earlier, link_fault, tlv_fault, fault_in, RefusesAt};
 ghost use Rattle.basics.specs.declared.refusal.Refusal.TheVariants.{BadTlv};
 
-use crate::header::{Layout, PDU_TYPE, Selected, select_layout};
+use crate::header::{Layout, PDU_TYPE, select_layout};
 use crate::reverse::reverse_fault;
 use crate::three_way::three_way_fault;
 use basics::kind::CircuitKind;
 use basics::refusal::Refusal;
 use neighbours::lists::lists_fault;
 use restart_tlv::reader::restart_fault;
-use tlv::tlvs::Found;
 
 // The document's number of the octet at a place: octets count from 1.
 pub fn position_of(at: usize) -> u16
@@ -23,13 +22,13 @@ pub fn position_of(at: usize) -> u16
 }
 
 // The one that stands first.
-fn earlier_of(a: Found, b: Found) -> Found
+fn earlier_of(a: Option<usize>, b: Option<usize>) -> Option<usize>
     ensures { result ≡ earlier a b }
 {
-    let Found::At(p) = a else {
+    let Some(p) = a else {
         return b;
     };
-    let Found::At(q) = b else {
+    let Some(q) = b else {
         return a;
     };
     if p < q {
@@ -38,7 +37,7 @@ fn earlier_of(a: Found, b: Found) -> Found
     b
 }
 
-fn link_fault(pdu: &[u8], layout: Layout) -> Found
+fn link_fault(pdu: &[u8], layout: Layout) -> Option<usize>
     ensures { result ≡ link_fault layout pdu.now }
 {
     let kind = layout.kind;
@@ -49,7 +48,7 @@ fn link_fault(pdu: &[u8], layout: Layout) -> Found
 }
 
 // The first TLV that breaks a rule.
-fn tlv_fault(pdu: &[u8], layout: Layout) -> Found
+fn tlv_fault(pdu: &[u8], layout: Layout) -> Option<usize>
     ensures { result ≡ tlv_fault layout pdu.now }
 {
     let restart = restart_fault(pdu, layout.header);
@@ -64,11 +63,11 @@ pub fn bad_tlv(pdu: &[u8]) -> Refusal
     requires { Sized pdu.now × (is_found (fault_in pdu.now) ≡ true) }
     ensures { RefusesAt BadTlv (fault_in pdu.now) result }
 {
-    let Selected::Fit(layout) = select_layout(pdu[PDU_TYPE]) else {
+    let Some(layout) = select_layout(pdu[PDU_TYPE]) else {
         return Refusal::NotHello;
     };
     let fault = tlv_fault(pdu, layout);
-    let Found::At(at) = fault else {
+    let Some(at) = fault else {
         return Refusal::NotHello;
     };
     Refusal::BadTlv {

@@ -32,35 +32,28 @@ pub struct Layout {
     pub kind: CircuitKind,
 }
 
-// What a PDU type chooses: a layout, or none, where it is no hello's.
-#[derive(Clone, Copy)]
-pub enum Selected {
-    Fit(Layout),
-    Unfit,
-}
-
 // The layout that a PDU type chooses.
-pub fn select_layout(octet: u8) -> Selected
+pub fn select_layout(octet: u8) -> Option<Layout>
     ensures { result ≡ layout_of octet }
 {
     let t = octet % 32;
     match t {
-        15 => Selected::Fit(Layout {
+        15 => Some(Layout {
             header: 27,
             level: 1,
             kind: CircuitKind::Lan,
         }),
-        16 => Selected::Fit(Layout {
+        16 => Some(Layout {
             header: 27,
             level: 2,
             kind: CircuitKind::Lan,
         }),
-        17 => Selected::Fit(Layout {
+        17 => Some(Layout {
             header: 20,
             level: 0,
             kind: CircuitKind::P2p,
         }),
-        _ => Selected::Unfit,
+        _ => None,
     }
 }
 

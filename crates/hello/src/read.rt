@@ -4,21 +4,20 @@ ghost use Rattle.basics.specs.Octets.{octet};
 ghost use Rattle.hello.specs.Header.{Sized, layout_of};
 ghost use Rattle.tlv.specs.Tlv.{tlvs, counts_of};
 ghost use Rattle.hello.specs.Hello.{of_kind, link_read, tlvs_read, pdu_read, layout_read, hello_read};
-ghost use Rattle.hello.specs.declared.header.Selected.TheVariants.{Fit};
 
 use crate::faults::{bad_tlv, position_of};
 use crate::header::{
-    CIRCUIT_TYPE, HOLDING_TIME, Layout, PDU_LENGTH, PDU_TYPE, PRIORITY, SOURCE_ID, Selected,
-    is_bad_length, is_not_hello, is_same_kind, select_layout,
+    CIRCUIT_TYPE, HOLDING_TIME, Layout, PDU_LENGTH, PDU_TYPE, PRIORITY, SOURCE_ID, is_bad_length,
+    is_not_hello, is_same_kind, select_layout,
 };
-use crate::reverse::{ReverseMetric, ReverseRead, read_reverse};
-use crate::three_way::{ThreeWay, ThreeWayRead, read_three_way};
+use crate::reverse::{ReverseMetric, read_reverse};
+use crate::three_way::{ThreeWay, read_three_way};
 use basics::kind::CircuitKind;
 use basics::octets::{six, two};
 use basics::refusal::Refusal;
-use neighbours::lists::{ListRead, read_lists};
-use restart_tlv::reader::{RestartRead, RestartTlv, read_restart};
-use tlv::tlvs::{Counts, Walk, walked};
+use neighbours::lists::read_lists;
+use restart_tlv::reader::{RestartTlv, read_restart};
+use tlv::tlvs::{BrokenRule, Counts, walked};
 
 // What depends on the circuit's kind. Of a LAN: the level, the sender's priority, and whether our MAC is listed.
 #[derive(Clone, Copy)]
@@ -31,54 +30,42 @@ pub enum Link {
     P2p(ThreeWay),
 }
 
-#[derive(Clone, Copy)]
-pub enum LinkRead {
-    Bad,
-    Good(Link),
-}
-
 // A decoded hello: the source System ID, the Holding Time, and what its TLVs say.
 #[derive(Clone, Copy)]
 pub struct Hello {
     pub system: u64,
     pub hold: u16,
     pub restart: RestartTlv,
-    pub reverse: ReverseMetric,
+    pub reverse: Option<ReverseMetric>,
     pub link: Link,
 }
 
-#[derive(Clone, Copy)]
-pub enum Read {
-    Refused(Refusal),
-    Accepted(Hello),
-}
-
-fn read_lan(pdu: &[u8], layout: Layout, count: usize, mac: u64) -> LinkRead
+fn read_lan(pdu: &[u8], layout: Layout, count: usize, mac: u64) -> Result<Link, BrokenRule>
     requires { (20 ≤ length pdu.now) × (count ≡ length (of_kind 6 layout pdu.now)) }
     ensures { result ≡ link_read CircuitKind.Lan layout mac pdu.now }
 {
     let level = layout.level;
-    let ListRead::Good(listed) = read_lists(pdu, layout.header, count, mac) else {
-        return LinkRead::Bad;
+    let Ok(listed) = read_lists(pdu, layout.header, count, mac) else {
+        return Err(BrokenRule);
     };
-    LinkRead::Good(Link::Lan {
+    Ok(Link::Lan {
         level,
         priority: pdu[PRIORITY] % 128,
         listed,
     })
 }
 
-fn read_p2p(pdu: &[u8], layout: Layout, count: usize, mac: u64) -> LinkRead
+fn read_p2p(pdu: &[u8], layout: Layout, count: usize, mac: u64) -> Result<Link, BrokenRule>
     requires { count ≡ length (of_kind 240 layout pdu.now) }
     ensures { result ≡ link_read CircuitKind.P2p layout mac pdu.now }
 {
-    let ThreeWayRead::Good(three_way) = read_three_way(pdu, layout.header, count) else {
-        return LinkRead::Bad;
+    let Ok(three_way) = read_three_way(pdu, layout.header, count) else {
+        return Err(BrokenRule);
     };
-    LinkRead::Good(Link::P2p(three_way))
+    Ok(Link::P2p(three_way))
 }
 
-fn read_link(pdu: &[u8], layout: Layout, counts: Counts, mac: u64) -> LinkRead
+fn read_link(pdu: &[u8], layout: Layout, counts: Counts, mac: u64) -> Result<Link, BrokenRule>
     requires { (20 ≤ length pdu.now) × (counts ≡ counts_of (tlvs pdu.now layout.header)) }
     ensures { result ≡ link_read layout.kind layout mac pdu.now }
 {
@@ -91,26 +78,26 @@ fn read_link(pdu: &[u8], layout: Layout, counts: Counts, mac: u64) -> LinkRead
 
 // The TLVs, once they are known to end by the end of the PDU: refusal 6, or the hello. The lists of neighbours come first: they may be long, and
 // nothing else is held meanwhile.
-fn read_tlvs(pdu: &[u8], layout: Layout, counts: Counts, mac: u64) -> Read
-    requires { Sized pdu.now × (counts ≡ counts_of (tlvs pdu.now layout.header)) × (layout_of (octet pdu.now 4) ≡ Fit layout) }
+fn read_tlvs(pdu: &[u8], layout: Layout, counts: Counts, mac: u64) -> Result<Hello, Refusal>
+    requires { Sized pdu.now × (counts ≡ counts_of (tlvs pdu.now layout.header)) × (layout_of (octet pdu.now 4) ≡ Some layout) }
     ensures { result ≡ tlvs_read layout mac pdu.now }
 {
     let from = layout.header;
     if pdu[CIRCUIT_TYPE] % 4 == 0 {
-        return Read::Refused(Refusal::BadTlv {
+        return Err(Refusal::BadTlv {
             position: position_of(CIRCUIT_TYPE),
         });
     }
-    let LinkRead::Good(link) = read_link(pdu, layout, counts, mac) else {
-        return Read::Refused(bad_tlv(pdu));
+    let Ok(link) = read_link(pdu, layout, counts, mac) else {
+        return Err(bad_tlv(pdu));
     };
-    let RestartRead::Good(restart) = read_restart(pdu, from, counts.restart) else {
-        return Read::Refused(bad_tlv(pdu));
+    let Ok(restart) = read_restart(pdu, from, counts.restart) else {
+        return Err(bad_tlv(pdu));
     };
-    let ReverseRead::Good(reverse) = read_reverse(pdu, from, counts.reverse) else {
-        return Read::Refused(bad_tlv(pdu));
+    let Ok(reverse) = read_reverse(pdu, from, counts.reverse) else {
+        return Err(bad_tlv(pdu));
     };
-    Read::Accepted(Hello {
+    Ok(Hello {
         system: six(pdu, SOURCE_ID),
         hold: two(pdu, HOLDING_TIME),
         restart,
@@ -120,44 +107,44 @@ fn read_tlvs(pdu: &[u8], layout: Layout, counts: Counts, mac: u64) -> Read
 }
 
 // Refusal 5, and what follows it.
-fn read_pdu(pdu: &[u8], layout: Layout, mac: u64) -> Read
-    requires { Sized pdu.now × (layout_of (octet pdu.now 4) ≡ Fit layout) }
+fn read_pdu(pdu: &[u8], layout: Layout, mac: u64) -> Result<Hello, Refusal>
+    requires { Sized pdu.now × (layout_of (octet pdu.now 4) ≡ Some layout) }
     ensures { result ≡ pdu_read layout mac pdu.now }
 {
     let walk = walked(pdu, layout.header);
     match walk {
-        Walk::Cut(at) => Read::Refused(Refusal::TlvPastEnd {
+        Err(at) => Err(Refusal::TlvPastEnd {
             position: position_of(at),
         }),
-        Walk::Whole(counts) => read_tlvs(pdu, layout, counts, mac),
+        Ok(counts) => read_tlvs(pdu, layout, counts, mac),
     }
 }
 
 // Refusal 4, and what follows it.
-fn read_as(frame: &[u8], layout: Layout, mac: u64) -> Read
-    requires { (20 ≤ layout.header) × (layout_of (octet frame.now 4) ≡ Fit layout) }
-    ensures { result ≡ layout_read (Fit layout) mac frame.now }
+fn read_as(frame: &[u8], layout: Layout, mac: u64) -> Result<Hello, Refusal>
+    requires { (20 ≤ layout.header) × (layout_of (octet frame.now 4) ≡ Some layout) }
+    ensures { result ≡ layout_read (Some layout) mac frame.now }
 {
     if is_bad_length(frame, layout.header) {
-        return Read::Refused(Refusal::BadLength);
+        return Err(Refusal::BadLength);
     }
     let end = two(frame, PDU_LENGTH) as usize;
     read_pdu(&frame[..end], layout, mac)
 }
 
 // A frame on a circuit of a kind, with our own MAC there.
-pub fn read_hello(frame: &[u8], kind: CircuitKind, mac: u64) -> Read
+pub fn read_hello(frame: &[u8], kind: CircuitKind, mac: u64) -> Result<Hello, Refusal>
     ensures { result ≡ hello_read kind mac frame.now }
 {
     if is_not_hello(frame) {
-        return Read::Refused(Refusal::NotHello);
+        return Err(Refusal::NotHello);
     }
-    let Selected::Fit(layout) = select_layout(frame[PDU_TYPE]) else {
-        return Read::Refused(Refusal::NotHello);
+    let Some(layout) = select_layout(frame[PDU_TYPE]) else {
+        return Err(Refusal::NotHello);
     };
     let own = layout.kind;
     if is_same_kind(own, kind) {
         return read_as(frame, layout, mac);
     }
-    Read::Refused(Refusal::NotHello)
+    Err(Refusal::NotHello)
 }

@@ -3,12 +3,11 @@
 //   octet  1      2-5                      6-11                12-15
 //          state  own extended circuit ID  Neighbor System ID  Neighbor Extended Circuit ID
 ghost use Rattle.std.specs.Prelude.{◌≡◌, cond, length};
-ghost use Rattle.tlv.specs.Tlv.{tlvs, of_type};
+ghost use Rattle.tlv.specs.Tlv.{tlvs, of_type, broken_rule};
 ghost use Rattle.hello.specs.ThreeWay.{three_way_length, three_way_bad, state_of, identifiers_of, three_way_of, three_way_fault, three_way_read};
-ghost use Rattle.hello.specs.declared.three_way.ThreeWayRead.TheVariants.{Good, Bad};
 
 use basics::octets::{four, six};
-use tlv::tlvs::{Found, THREE_WAY, find, find_after, value_at, value_of};
+use tlv::tlvs::{BrokenRule, THREE_WAY, find, find_after, value_at, value_of};
 
 // The neighbour's state of this adjacency.
 #[derive(Clone, Copy)]
@@ -32,13 +31,6 @@ pub enum Identifiers {
 pub struct ThreeWay {
     pub state: ThreeWayState,
     pub ids: Identifiers,
-}
-
-// What reading it gives: a rule is broken, or the TLV.
-#[derive(Clone, Copy)]
-pub enum ThreeWayRead {
-    Bad,
-    Good(ThreeWay),
 }
 
 fn is_length(n: usize) -> bool
@@ -95,38 +87,38 @@ fn decode_identifiers(v: &[u8]) -> Identifiers
     Identifiers::Whole(own, system, four(v, 11))
 }
 
-fn check_three_way(v: &[u8]) -> ThreeWayRead
-    ensures { result ≡ cond (three_way_bad v.now) Bad (Good (three_way_of v.now)) }
+fn check_three_way(v: &[u8]) -> Result<ThreeWay, BrokenRule>
+    ensures { result ≡ cond (three_way_bad v.now) (Err broken_rule) (Ok (three_way_of v.now)) }
 {
     if is_bad_three_way(v) {
-        return ThreeWayRead::Bad;
+        return Err(BrokenRule);
     }
     let state = decode_state(v[0]);
     let ids = decode_identifiers(v);
-    ThreeWayRead::Good(ThreeWay { state, ids })
+    Ok(ThreeWay { state, ids })
 }
 
 // The three-way TLV of a PDU whose TLVs start at `from`, of which `count` are three-way TLVs: exactly one, and by its rule.
-pub fn read_three_way(pdu: &[u8], from: usize, count: usize) -> ThreeWayRead
+pub fn read_three_way(pdu: &[u8], from: usize, count: usize) -> Result<ThreeWay, BrokenRule>
     requires { count ≡ length (of_type 240 (tlvs pdu.now from)) }
     ensures { result ≡ three_way_read (length pdu.now) (of_type 240 (tlvs pdu.now from)) }
 {
     if count == 1 {
         return check_three_way(value_of(pdu, from, THREE_WAY));
     }
-    ThreeWayRead::Bad
+    Err(BrokenRule)
 }
 
 // The first three-way TLV of a PDU that breaks a rule; the PDU's end, where there is none.
-pub fn three_way_fault(pdu: &[u8], from: usize) -> Found
+pub fn three_way_fault(pdu: &[u8], from: usize) -> Option<usize>
     ensures { result ≡ three_way_fault (length pdu.now) (of_type 240 (tlvs pdu.now from)) }
 {
     let found = find(pdu, from, THREE_WAY);
-    let Found::At(at) = found else {
-        return Found::At(pdu.len());
+    let Some(at) = found else {
+        return Some(pdu.len());
     };
     if is_bad_three_way(value_at(pdu, at)) {
-        return Found::At(at);
+        return Some(at);
     }
     find_after(pdu, at, THREE_WAY)
 }

@@ -17,20 +17,14 @@ use Rattle.hello.specs.Hello.{kind_of, hello_read}
 use Rattle.hello.specs.declared.read.Hello.{Hello}
 use Rattle.hello.specs.declared.read.Link.{Link}
 use Rattle.hello.specs.declared.read.Link.TheVariants.{Lan as LanLink, P2p as P2pLink}
-use Rattle.hello.specs.declared.read.Read.{Read}
-use Rattle.hello.specs.declared.read.Read.TheVariants.{Refused as RefusedRead, Accepted as ReadAs}
 use Rattle.hello.proofs.KindLaws.{read-kind}
 use Rattle.adjacency.specs.Keys.{level_in, key_in}
 use Rattle.adjacency.specs.Step.{level_off, wrong_source}
-use Rattle.adjacency.specs.declared.react.Reaction.{Reaction}
-use Rattle.adjacency.specs.declared.react.Reaction.TheVariants.{Refused as RefusedReaction, Accepted}
 use Rattle.adjacency.specs.declared.record.Key.{Key}
 use Rattle.room.specs.Accept.{decided}
 use Rattle.settings.specs.Mode.{is_running}
 use Rattle.settings.specs.Settings.{circuits_of, settings_ok, enabled_levels}
 use Rattle.settings.specs.Serving.{t1_place}
-use Rattle.settings.specs.declared.circuit.Chosen.{Chosen}
-use Rattle.settings.specs.declared.circuit.Chosen.TheVariants.{Known, Unknown}
 use Rattle.settings.specs.declared.circuit.Circuit.{Circuit}
 use Rattle.settings.specs.declared.lengths.Lengths.{Lengths}
 use Rattle.settings.specs.declared.setup.Settings.{Settings}
@@ -46,6 +40,9 @@ use Rattle.invariants.specs.Invariants.{Quiet, Restarts, NoT3, SetupSettings, Se
 use Rattle.invariants.proofs.QuietLaws.{started-quiet, started-restarts, started-no-t3, settled-quiet, settled-mode, settled-no-t3, settled-restarts, to_t3-mode, heard_in-mode, csnp_in-mode, notice_t2s-mode, to_t3-idle, heard_in-idle, csnp_in-idle, notice_t2s-idle}
 use Rattle.invariants.proofs.InRange.{Stands, circuits-ok, tries-ok, t1-asked}
 use Rattle.invariants.proofs.SetupTimersLaws.{started-kept, settled-kept, later-kept, to_t3-kept, heard_in-kept, csnp_in-kept, notice_t2s-kept}
+use Rattle.std.specs.Prelude.{Option, Some, None, Result, Ok, Err}
+use Rattle.adjacency.specs.React.{Reaction}
+use Rattle.basics.specs.declared.refusal.Refusal.{Refusal}
 
 -- ---- the timers
 
@@ -133,7 +130,7 @@ keeps-settled c f own =
 -- ---- the calls on a circuit
 
 -- a circuit that is known stands in its place
-pub known-stands : (c : Common) (n : ℕ) (s : Circuit) → circuit_of c n ≡ Known s → Stands c.circuits (n - 1) s
+pub known-stands : (c : Common) (n : ℕ) (s : Circuit) → circuit_of c n ≡ Some s → Stands c.circuits (n - 1) s
 unfolding circuit_of
 known-stands c zero s e = absurd (let z : ◌≡◌ {A = ℕ} 0 1 = cc in omega arith)
 known-stands c (suc i) s e =
@@ -153,19 +150,19 @@ source-passes : (s : Circuit) (own : ℕ) (h : Hello) → kind_of h.link ≡ s.k
 unfolding wrong_source
 source-passes s own h e pass = level-passes s.kind s.levels h.link e (neither (level_off s.levels h.link) _ pass).0
 
-module _ (n : ℕ) (s : Circuit) (c : Common) (r : Room) (known : circuit_of c n ≡ Known s) where
+module _ (n : ℕ) (s : Circuit) (c : Common) (r : Room) (known : circuit_of c n ≡ Some s) where
   reacted-keeps : (h : Hello) → asks_level s.kind s.levels (level_in h.link) ≡ true → (k : Key) (b : List ℕ) (a : Reaction)
       → Keeps c (reacted n s h k b a c r).common
   unfolding reacted accepted refuse
-  reacted-keeps h on k b (RefusedReaction x) = keeps_same c
-  reacted-keeps h on k b (Accepted after reply line) =
+  reacted-keeps h on k b (Err x) = keeps_same c
+  reacted-keeps h on k b (Ok (after, reply, line)) =
       keeps-settled c (heard_in c.lengths c.clock (t1_of n s h) _ (said_of c s h))
       (own-heard c.lengths c.circuits c.clock c.timers (n - 1) s (level_in h.link) _ (said_of c s h) (known-stands c n s known) on)
 
-  read_keeps : (mac : ℕ) (frame b : List ℕ) (x : Read) → hello_read s.kind s.mac frame ≡ x → Keeps c (read_in n s mac b x c r).common
+  read_keeps : (mac : ℕ) (frame b : List ℕ) (x : Result Hello Refusal) → hello_read s.kind s.mac frame ≡ x → Keeps c (read_in n s mac b x c r).common
   unfolding read_in checked decided_in refuse
-  read_keeps mac frame b (RefusedRead x) q = keeps_same c
-  read_keeps mac frame b (ReadAs h) q =
+  read_keeps mac frame b (Err x) q = keeps_same c
+  read_keeps mac frame b (Ok h) q =
       let kind = read-kind s.kind s.mac frame h q in
       by-test (wrong_source s.levels c.system h) (λ e. rw e (keeps_same c))
       (λ e. rw e
@@ -267,10 +264,10 @@ keeps-moves : (c d : Common) → Keeps c d → Moves c d
 keeps-moves c d k = moved c d c.clock (omega arith) k
 
 module _ (g : Gateway) where
-  on-moves : (n : ℕ) (l : Local) (x : Chosen) → circuit_of g.common n ≡ x → Moves g.common (on g n l x).next.common
+  on-moves : (n : ℕ) (l : Local) (x : Option Circuit) → circuit_of g.common n ≡ x → Moves g.common (on g n l x).next.common
   unfolding on lift
-  on-moves n l Unknown e = keeps-moves g.common g.common (keeps_same g.common)
-  on-moves n l (Known s) e = keeps-moves g.common _ (act-keeps n s g.common _ e l)
+  on-moves n l None e = keeps-moves g.common g.common (keeps_same g.common)
+  on-moves n l (Some s) e = keeps-moves g.common _ (act-keeps n s g.common _ e l)
 
   carry-moves : (j : Judged) → JudgedOk g.common j → Moves g.common (carry g j).next.common
   unfolding carry
@@ -292,12 +289,12 @@ module _ (g : Gateway) where
   end-moves n b NoFrame = stays
   end-moves n b (Frame mac octets) = on-moves (with_unfinished g n NoFrame) n (Receive mac octets b) (circuit_of g.common n) refl
 
-  hand-moves : (n : ℕ) (p : Piece) (x : Chosen) → Moves g.common (hand_on g n p x).next.common
+  hand-moves : (n : ℕ) (p : Piece) (x : Option Circuit) → Moves g.common (hand_on g n p x).next.common
   unfolding hand_on hand
-  hand-moves n p Unknown = stays
-  hand-moves n (Begin mac) (Known s) = stays
-  hand-moves n (Chunk octets) (Known s) = chunk-moves n (join (unfinished_on g n) octets)
-  hand-moves n (End b) (Known s) = end-moves n b (unfinished_on g n)
+  hand-moves n p None = stays
+  hand-moves n (Begin mac) (Some s) = stays
+  hand-moves n (Chunk octets) (Some s) = chunk-moves n (join (unfinished_on g n) octets)
+  hand-moves n (End b) (Some s) = end-moves n b (unfinished_on g n)
 
   pub step-moves : (c : Call) → Moves g.common (step g c).next.common
   unfolding step at

@@ -8,8 +8,6 @@ use mathlib.Core.Bool.{false}
 use mathlib.Core.List.{List, [], ◌∷◌, ◌++◌, append_assoc, append-nil}
 use lib.ListN.{length, length-append}
 use borrow.Author.Tests.{eqb-false}
-use Rattle.settings.specs.declared.circuit.Chosen.{Chosen}
-use Rattle.settings.specs.declared.circuit.Chosen.TheVariants.{Known, Unknown}
 use Rattle.settings.specs.declared.circuit.Circuit.{Circuit}
 use Rattle.chunks.specs.Chunks.{Unfinished, NoFrame, Frame, most_octets, Joined, Refused as RefusedChunk, As, join, joined}
 use Rattle.chunks.proofs.ChunkLaws.{join-fits}
@@ -22,6 +20,7 @@ use Rattle.model.proofs.Lists.{renew-same, renew-other, renew-again, renew-swap}
 use Rattle.invariants.specs.Cutting.{is_piece_on, FramesAside, Between, none, chunk, other, AnyCutting}
 use Rattle.invariants.proofs.CommonLaws.{step-moves}
 use Rattle.invariants.proofs.FrameLaws.{step-length}
+use Rattle.std.specs.Prelude.{Option, Some, None}
 
 -- ---- the frame is nothing to any other call
 
@@ -30,10 +29,10 @@ abbrev hung : ℕ → Unfinished → Outcome → Outcome
 hung n u o = record { answer = o.answer; reply = o.reply; next = with_unfinished o.next n u }
 
 module _ (n : ℕ) (u : Unfinished) where
-  on-hung : (g : Gateway) (m : ℕ) (l : Local) (x : Chosen) → on (with_unfinished g n u) m l x ≡ hung n u (on g m l x)
+  on-hung : (g : Gateway) (m : ℕ) (l : Local) (x : Option Circuit) → on (with_unfinished g n u) m l x ≡ hung n u (on g m l x)
   unfolding on lift
-  on-hung g m l Unknown = refl
-  on-hung g m l (Known s) = refl
+  on-hung g m l None = refl
+  on-hung g m l (Some s) = refl
 
   carry-hung : (g : Gateway) (j : Judged) → carry (with_unfinished g n u) j ≡ hung n u (carry g j)
   unfolding carry
@@ -63,12 +62,12 @@ module _ (n : ℕ) (u : Unfinished) where
     own : unfinished_on (with_unfinished g n u) m ≡ unfinished_on g m
     own = renew-other g.unfinished n m u NoFrame apart
 
-    hand-hung : (p : Piece) (x : Chosen) → hand_on (with_unfinished g n u) m p x ≡ hung n u (hand_on g m p x)
+    hand-hung : (p : Piece) (x : Option Circuit) → hand_on (with_unfinished g n u) m p x ≡ hung n u (hand_on g m p x)
     unfolding hand_on hand
-    hand-hung p Unknown = refl
-    hand-hung (Begin mac) (Known s) = ap handed (two-frames (Frame mac []))
-    hand-hung (Chunk octets) (Known s) = rw own (chunk-hung (join (unfinished_on g m) octets))
-    hand-hung (End b) (Known s) = rw own (end-hung b (unfinished_on g m))
+    hand-hung p None = refl
+    hand-hung (Begin mac) (Some s) = ap handed (two-frames (Frame mac []))
+    hand-hung (Chunk octets) (Some s) = rw own (chunk-hung (join (unfinished_on g m) octets))
+    hand-hung (End b) (Some s) = rw own (end-hung b (unfinished_on g m))
 
   step-hung : (g : Gateway) (c : Call) → is_piece_on n c ≡ false → step (with_unfinished g n u) c ≡ hung n u (step g c)
   unfolding step at
@@ -90,7 +89,7 @@ again g n u v = ap (with_frames g) (renew-again g.unfinished n u v)
 module _ (n mac : ℕ) (s : Circuit) where
   -- a circuit that is there, with a place for its frame
   record Has (g : Gateway) : Type 0 where
-    known : circuit_of g.common n ≡ Known s
+    known : circuit_of g.common n ≡ Some s
     low : 0 < n
     high : n ≤ length g.unfinished
 
@@ -135,13 +134,13 @@ module _ (n mac : ℕ) (s : Circuit) where
       → step (with_unfinished g n (Frame mac octets)) (Hand n (End b)) ≡ hung n NoFrame (step g (At n (Receive mac octets b)))
   unfolding step hand_on hand ended at
   end_is g octets b h =
-      rw (h.known, frame-there g (Frame mac octets) h, again g n (Frame mac octets) NoFrame, h.known) (on-hung n NoFrame g n (Receive mac octets b) (Known s))
+      rw (h.known, frame-there g (Frame mac octets) h, again g n (Frame mac octets) NoFrame, h.known) (on-hung n NoFrame g n (Receive mac octets b) (Some s))
 
   begin-is : (g : Gateway) → Has g → (step g (Hand n (Begin mac))).next ≡ with_unfinished g n (Frame mac [])
   unfolding step hand_on hand
   begin-is g h = rw h.known refl
 
-low_of : (g : Gateway) (n : ℕ) (s : Circuit) → circuit_of g.common n ≡ Known s → 0 < n
+low_of : (g : Gateway) (n : ℕ) (s : Circuit) → circuit_of g.common n ≡ Some s → 0 < n
 unfolding circuit_of
 low_of g zero s e = absurd (let z : ◌≡◌ {A = ℕ} 0 1 = cc in omega arith)
 low_of g (suc i) s e = omega arith

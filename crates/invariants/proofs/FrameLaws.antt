@@ -8,8 +8,6 @@ use lib.Dec.{ltb}
 use borrow.Author.Tests.{ltb-false}
 use Rattle.basics.proofs.BoolLaws.{by-test}
 use Rattle.basics.specs.Mask.{circuits}
-use Rattle.settings.specs.declared.circuit.Chosen.{Chosen}
-use Rattle.settings.specs.declared.circuit.Chosen.TheVariants.{Known, Unknown}
 use Rattle.settings.specs.declared.setup.Settings.{Settings}
 use Rattle.chunks.specs.Chunks.{Unfinished, NoFrame, Frame, most_octets, Joined, Refused as RefusedChunk, As, join}
 use Rattle.control.specs.Common.{circuit_of}
@@ -19,6 +17,8 @@ use Rattle.model.proofs.FrameLaws.{frames-kept}
 use Rattle.model.proofs.Lists.{length-renew}
 use Rattle.invariants.specs.Invariants.{Octets, Fits, FrameFits, FramesFit}
 use Rattle.invariants.proofs.NumberedLaws.{renew-all}
+use Rattle.std.specs.Prelude.{Option, Some, None}
+use Rattle.settings.specs.declared.circuit.Circuit.{Circuit}
 
 -- ---- setup
 
@@ -68,16 +68,16 @@ module _ (g : Gateway) (h : FramesFit g) where
   chunk-frames n (RefusedChunk x) f = h
   chunk-frames n (As u) f = frame-fits n u f
 
-hand-length : (g : Gateway) (n : ℕ) (p : Piece) (x : Chosen) → length (hand_on g n p x).next.unfinished ≡ length g.unfinished
+hand-length : (g : Gateway) (n : ℕ) (p : Piece) (x : Option Circuit) → length (hand_on g n p x).next.unfinished ≡ length g.unfinished
 unfolding hand_on hand chunked ended step
-hand-length g n p Unknown = refl
-hand-length g n (Begin mac) (Known s) = length-renew g.unfinished n (Frame mac [])
-hand-length g n (Chunk octets) (Known s) = by (join (unfinished_on g n) octets)
+hand-length g n p None = refl
+hand-length g n (Begin mac) (Some s) = length-renew g.unfinished n (Frame mac [])
+hand-length g n (Chunk octets) (Some s) = by (join (unfinished_on g n) octets)
   where
     by : (j : Joined) → length (chunked g n j).next.unfinished ≡ length g.unfinished
     by (RefusedChunk x) = refl
     by (As u) = length-renew g.unfinished n u
-hand-length g n (End b) (Known s) = by (unfinished_on g n)
+hand-length g n (End b) (Some s) = by (unfinished_on g n)
   where
     by : (u : Unfinished) → length (ended g n b u).next.unfinished ≡ length g.unfinished
     by NoFrame = refl
@@ -94,13 +94,13 @@ step-length g (Hand n p) = hand-length g n p (circuit_of g.common n)
 left-frames : (g d : Gateway) → d.unfinished ≡ g.unfinished → FramesFit g → FramesFit d
 left-frames g d e h = record { one = rw e h.one; fit = λ n. rw e (h.fit n) }
 
-hand-frames : (g : Gateway) (n : ℕ) (p : Piece) (x : Chosen) → FramesFit g → Fits (Hand n p) → FramesFit (hand_on g n p x).next
+hand-frames : (g : Gateway) (n : ℕ) (p : Piece) (x : Option Circuit) → FramesFit g → Fits (Hand n p) → FramesFit (hand_on g n p x).next
 unfolding hand_on hand ended step
-hand-frames g n p Unknown h f = h
-hand-frames g n (Begin mac) (Known s) h f = frame-fits g h n (Frame mac []) (omega arith, λ i. omega arith)
-hand-frames g n (Chunk octets) (Known s) h f =
+hand-frames g n p None h f = h
+hand-frames g n (Begin mac) (Some s) h f = frame-fits g h n (Frame mac []) (omega arith, λ i. omega arith)
+hand-frames g n (Chunk octets) (Some s) h f =
     chunk-frames g h n (join (unfinished_on g n) octets) (join-fits (unfinished_on g n) octets (h.fit n) (f.chunk n octets refl))
-hand-frames g n (End b) (Known s) h f = by (unfinished_on g n)
+hand-frames g n (End b) (Some s) h f = by (unfinished_on g n)
   where
     by : (u : Unfinished) → FramesFit (ended g n b u).next
     by NoFrame = h

@@ -19,8 +19,6 @@ use Rattle.settings.specs.Settings.{circuits_of, settings_ok}
 use Rattle.settings.specs.declared.circuit.Circuit.{Circuit}
 use Rattle.settings.specs.declared.setup.Settings.{Settings}
 use Rattle.control.specs.Common.{no_circuit, circuit_of, setup_common}
-use Rattle.settings.specs.declared.circuit.Chosen.{Chosen}
-use Rattle.settings.specs.declared.circuit.Chosen.TheVariants.{Known, Unknown}
 use Rattle.timers.specs.Hellos.{Hellos}
 use Rattle.model.specs.Gateway.{Room, Gateway, numbered, renew, no_room, room_of, new_room, new_gateway, Started, setup}
 use Rattle.model.specs.Step.{swept_room}
@@ -29,20 +27,21 @@ use Rattle.invariants.proofs.CommonLaws.{known-stands, CommonOk, common-new}
 use Rattle.invariants.proofs.FrameLaws.{new-frames}
 use Rattle.invariants.proofs.InRange.{circuit-hold}
 use Rattle.invariants.proofs.RoomLaws.{each-put, each-sweep, NoRecords, no-records-each, no-records-gather, empty-no-records, open_places, empty-places, places-put, places-sweep, single-sweep, single-put}
+use Rattle.std.specs.Prelude.{Option, Some, None}
 
 -- ---- a room
 
 -- a circuit's open_places, and no record where there is no circuit
-pub data Size : Chosen → List Slot → Type 0 where
-  places_of : {s : Circuit} {t : List Slot} → open_places t ≡ room_for s.kind → Size (Known s) t
-  none-of : {t : List Slot} → NoRecords t → Size Unknown t
+pub data Size : Option Circuit → List Slot → Type 0 where
+  places_of : {s : Circuit} {t : List Slot} → open_places t ≡ room_for s.kind → Size (Some s) t
+  none-of : {t : List Slot} → NoRecords t → Size None t
 
 -- what a key on that circuit is
-abbrev pub KeyOf : ℕ → Chosen → Key → Type 0
-KeyOf own (Known s) k = KeyFits own s k
-KeyOf own Unknown k = Unit {0}
+abbrev pub KeyOf : ℕ → Option Circuit → Key → Type 0
+KeyOf own (Some s) k = KeyFits own s k
+KeyOf own None k = Unit {0}
 
-pub record RoomOk (own : ℕ) (x : Chosen) (clock : ℕ) (t : List Slot) : Type 0 where
+pub record RoomOk (own : ℕ) (x : Option Circuit) (clock : ℕ) (t : List Slot) : Type 0 where
   pub spans : Each (λ r. Span clock (expiry_of r.state)) t
   pub bare : Each (λ r. Unmarked r.state) t
   pub keys : Each (λ r. KeyOf own x r.key) t
@@ -54,12 +53,12 @@ module _ (t : List Slot) (b : NoRecords t) where
   single-no-records : (k : Key) → length (gather k t) ≤ 1
   single-no-records k = rw (no-records-gather k t b) (omega arith)
 
-  no-records-ok : (own : ℕ) (x : Chosen) (clock : ℕ) → Size x t → RoomOk own x clock t
+  no-records-ok : (own : ℕ) (x : Option Circuit) (clock : ℕ) → Size x t → RoomOk own x clock t
   no-records-ok own x clock z = record { spans = no-records-each t b; bare = no-records-each t b; keys = no-records-each t b; single = single-no-records; size = z }
 
 -- a record put
-pub room-put : (own : ℕ) (s : Circuit) (clock : ℕ) (t : List Slot) (k : Key) (v : State) → RoomOk own (Known s) clock t → crowded k t ≡ false
-    → Span clock (expiry_of v) → Unmarked v → KeyFits own s k → RoomOk own (Known s) clock (put k v t)
+pub room-put : (own : ℕ) (s : Circuit) (clock : ℕ) (t : List Slot) (k : Key) (v : State) → RoomOk own (Some s) clock t → crowded k t ≡ false
+    → Span clock (expiry_of v) → Unmarked v → KeyFits own s k → RoomOk own (Some s) clock (put k v t)
 room-put own s clock t k v ok free span bare key =
     record {
       spans = each-put k v span t ok.spans;
@@ -69,15 +68,15 @@ room-put own s clock t k v ok free span bare key =
       size = by ok.size;
     }
   where
-    by : Size (Known s) t → Size (Known s) (put k v t)
+    by : Size (Some s) t → Size (Some s) (put k v t)
     by (places_of e) = places_of (places-put k v t ∙ e)
 
 -- a sweep at a clock that may have moved on
-size-sweep : (x : Chosen) (p : State → Bool) (t : List Slot) → Size x t → Size x (sweep p t)
-size-sweep (Known s) p t (places_of e) = places_of (places-sweep p t ∙ e)
-size-sweep Unknown p t (none-of b) = none-of (each-sweep p (λ r e q. q) t b)
+size-sweep : (x : Option Circuit) (p : State → Bool) (t : List Slot) → Size x t → Size x (sweep p t)
+size-sweep (Some s) p t (places_of e) = places_of (places-sweep p t ∙ e)
+size-sweep None p t (none-of b) = none-of (each-sweep p (λ r e q. q) t b)
 
-pub room-sweep : (own : ℕ) (x : Chosen) (old clock : ℕ) (p : State → Bool) (t : List Slot)
+pub room-sweep : (own : ℕ) (x : Option Circuit) (old clock : ℕ) (p : State → Bool) (t : List Slot)
     → ((s : State) → p s ≡ false → Span old (expiry_of s) → Span clock (expiry_of s)) → RoomOk own x old t → RoomOk own x clock (sweep p t)
 room-sweep own x old clock p t f ok =
     record {
@@ -91,12 +90,12 @@ room-sweep own x old clock p t f ok =
 -- ---- the gateway
 
 pub record RoomsOk (g : Gateway) : Type 0 where
-  pub hold : (n : ℕ) (s : Circuit) → circuit_of g.common n ≡ Known s → s.hold ≤ 65535
+  pub hold : (n : ℕ) (s : Circuit) → circuit_of g.common n ≡ Some s → s.hold ≤ 65535
   pub rooms : (n : ℕ) → RoomOk g.common.system (circuit_of g.common n) g.common.clock (room_of g n).slots
 
 -- a room without a record
-pub room-empty : (own : ℕ) (s : Circuit) (clock : ℕ) → RoomOk own (Known s) clock (empty_room s.kind)
-room-empty own s clock = no-records-ok _ (empty-no-records s.kind) own (Known s) clock (places_of (empty-places s.kind))
+pub room-empty : (own : ℕ) (s : Circuit) (clock : ℕ) → RoomOk own (Some s) clock (empty_room s.kind)
+room-empty own s clock = no-records-ok _ (empty-no-records s.kind) own (Some s) clock (places_of (empty-places s.kind))
 
 -- ---- rooms after a call
 
@@ -137,7 +136,7 @@ new-no-records (c ∷ l) zero = empty-no-records c.kind
 new-no-records (c ∷ l) (suc i) = new-no-records l i
 
 module _ (s : Settings) (ok : settings_ok s ≡ true) where
-  new-hold : (n : ℕ) (c : Circuit) → circuit_of (setup_common s) n ≡ Known c → c.hold ≤ 65535
+  new-hold : (n : ℕ) (c : Circuit) → circuit_of (setup_common s) n ≡ Some c → c.hold ≤ 65535
   unfolding setup_common
   new-hold n c e = circuit-hold s ok (n - 1) c (known-stands (setup_common s) n c e)
 
@@ -150,12 +149,12 @@ module _ (s : Settings) (ok : settings_ok s ≡ true) where
 
   new-room : (n : ℕ) → RoomOk s.system (circuit_of (setup_common s) n) s.clock (numbered (map new_room s.circuits) n no_room).slots
   unfolding circuit_of setup_common numbered
-  new-room zero = no-records-ok [] end s.system Unknown s.clock (none-of end)
+  new-room zero = no-records-ok [] end s.system None s.clock (none-of end)
   new-room (suc i) =
       let b = new-no-records s.circuits i in
       by-test (ltb i (length (circuits_of s)))
-      (λ a. rw a (no-records-ok _ b s.system (Known (get_or (circuits_of s) i (no_circuit))) s.clock (places_of (new-places i (ltb-true _ _ a)))))
-      (λ a. rw a (no-records-ok _ b s.system Unknown s.clock (none-of b)))
+      (λ a. rw a (no-records-ok _ b s.system (Some (get_or (circuits_of s) i (no_circuit))) s.clock (places_of (new-places i (ltb-true _ _ a)))))
+      (λ a. rw a (no-records-ok _ b s.system None s.clock (none-of b)))
 
   new-rooms : RoomsOk (new_gateway s)
   unfolding new_gateway setup_common

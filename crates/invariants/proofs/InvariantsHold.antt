@@ -13,7 +13,6 @@ use Rattle.hello.specs.Hello.{hello_read}
 use Rattle.basics.specs.declared.kind.CircuitKind.{CircuitKind}
 use Rattle.basics.specs.declared.kind.CircuitKind.TheVariants.{Lan, P2p}
 use Rattle.hello.specs.declared.read.Hello.{Hello}
-use Rattle.hello.specs.declared.read.Read.TheVariants.{Accepted}
 use Rattle.adjacency.specs.Record.{expiry_of}
 use Rattle.adjacency.specs.declared.record.Record.{Record}
 use Rattle.adjacency.specs.Place.{expired_by}
@@ -22,7 +21,6 @@ use Rattle.room.specs.Table.{expired}
 use Rattle.settings.specs.declared.circuit.Circuit.{Circuit}
 use Rattle.settings.specs.declared.setup.Settings.{Settings}
 use Rattle.control.specs.Common.{Common, circuit_of}
-use Rattle.settings.specs.declared.circuit.Chosen.TheVariants.{Known, Unknown}
 use Rattle.adjacency.specs.Keys.{key_in}
 use Rattle.timers.specs.Hellos.{Hellos}
 use Rattle.model.specs.Answers.{Received, Ticked, FrameAnswer, TimersAnswer}
@@ -37,23 +35,24 @@ use Rattle.invariants.proofs.GatewayLaws.{Size, places_of, none-of, RoomOk, Room
 use Rattle.invariants.proofs.CommonLaws.{act-keeps, step-moves}
 use Rattle.invariants.proofs.ReceiveLaws.{receive-reply}
 use Rattle.invariants.proofs.StepLaws.{rooms-aside, step-holds}
+use Rattle.std.specs.Prelude.{Some, None, Ok}
 
 -- ---- rooms
 
-known-records : (s : Circuit) (t : List Slot) → Size (Known s) t → records t ≤ room_for s.kind
+known-records : (s : Circuit) (t : List Slot) → Size (Some s) t → records t ≤ room_for s.kind
 known-records s t (places_of e) = omega (arith, records-places t)
 
-unknown-records : (t : List Slot) → Size Unknown t → records t ≡ 0
+unknown-records : (t : List Slot) → Size None t → records t ≡ 0
 unknown-records t (none-of b) = no-records-records t b
 
-unknown-each : {P : Record → Type 0} (t : List Slot) → Size Unknown t → Each P t
+unknown-each : {P : Record → Type 0} (t : List Slot) → Size None t → Each P t
 unknown-each t (none-of b) = no-records-each t b
 
 room-for : (kind : CircuitKind) → 0 < room_for kind
 room-for Lan = omega arith
 room-for P2p = omega arith
 
-known-places : (s : Circuit) (t : List Slot) → Size (Known s) t → 0 < open_places t
+known-places : (s : Circuit) (t : List Slot) → Size (Some s) t → 0 < open_places t
 known-places s t (places_of e) = rw e (room-for s.kind)
 
 none-length : (l : List Circuit) → none_of l ≡ true → length l ≡ 0
@@ -61,7 +60,7 @@ unfolding none_of
 none-length [] e = refl
 none-length (x ∷ l) e = cc
 
-none-known : (c : Common) → none_of c.circuits ≡ true → (n : ℕ) → circuit_of c n ≡ Unknown
+none-known : (c : Common) → none_of c.circuits ≡ true → (n : ℕ) → circuit_of c n ≡ None
 unfolding circuit_of
 none-known c e zero = refl
 none-known c e (suc i) = rw (le-ltb i (length c.circuits) (omega (arith, none-length c.circuits e))) refl
@@ -106,12 +105,12 @@ module _ (g : Gateway) (h : RoomsOk g) where
 
   module _ (n mac : ℕ) (frame buffer : List ℕ) (s : Circuit) (j : Hello) where
     reply-true : (f : FrameAnswer) → Octets frame
-        → circuit_of g.common n ≡ Known s → hello_read s.kind s.mac frame ≡ Accepted j
+        → circuit_of g.common n ≡ Some s → hello_read s.kind s.mac frame ≡ Ok j
         → (step g (At n (Receive mac frame buffer))).answer ≡ Received f → f.reply ≢ 0
         → TrueTime (step g (At n (Receive mac frame buffer))) n (key_in s.kind mac j) f.time
     unfolding step at on lift act record_at
     reply-true told f e r a q =
-        let ok : RoomOk g.common.system (Known s) g.common.clock (room_of g n).slots = rw e at (h.rooms n) in
+        let ok : RoomOk g.common.system (Some s) g.common.clock (room_of g n).slots = rw e at (h.rooms n) in
         let done = act-keeps n s g.common (room_of g n) e (Receive mac frame buffer) in
         let w = (receive-reply g.common s (room_of g n) (h.hold n s e) ok n mac buffer j frame f r).said told (rw e at a) q in
         rw e
@@ -124,13 +123,13 @@ module _ (g : Gateway) (h : RoomsOk g) where
         })
 
 -- an end on a circuit that is there, with its frame begun
-end_is : (g : Gateway) (n mac : ℕ) (frame b : List ℕ) (s : Circuit) → circuit_of g.common n ≡ Known s → unfinished_on g n ≡ Frame mac frame
+end_is : (g : Gateway) (n mac : ℕ) (frame b : List ℕ) (s : Circuit) → circuit_of g.common n ≡ Some s → unfinished_on g n ≡ Frame mac frame
     → step g (Hand n (End b)) ≡ step (with_unfinished g n NoFrame) (At n (Receive mac frame b))
 unfolding step hand_on hand ended
 end_is g n mac frame b s e u = rw (e, u) refl
 
 reply-time : (g : Gateway) → RoomsOk g → (c : Call) (n mac : ℕ) (frame : List ℕ) (s : Circuit) (h : Hello) (f : FrameAnswer) → Gives g c n mac frame → Octets frame
-    → circuit_of g.common n ≡ Known s → hello_read s.kind s.mac frame ≡ Accepted h
+    → circuit_of g.common n ≡ Some s → hello_read s.kind s.mac frame ≡ Ok h
     → (step g c).answer ≡ Received f → f.reply ≢ 0 → TrueTime (step g c) n (key_in s.kind mac h) f.time
 reply-time g ok c n mac frame s h f (whole {buffer = b}) o e r a q = reply-true g ok n mac frame b s h f o e r a q
 reply-time g ok c n mac frame s h f (gives-ended {buffer = b} u) o e r a q =

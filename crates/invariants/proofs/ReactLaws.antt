@@ -19,15 +19,9 @@ use Rattle.adjacency.specs.Record.{phase_of, mark_of, suppressed_of, expiry_of}
 use Rattle.adjacency.specs.Step.{wrong_neighbor, wrong_circuit, p2p_step, as_init, link_step, kept_up, step_of}
 use Rattle.adjacency.specs.Marks.{last_line, line_of, expiry_by, mark_by, suppressed_by, reply_by}
 use Rattle.adjacency.specs.React.{has_tlv, times_of, state_as, data_by, remaining_in, accepted_by, line_in, react_of}
-use Rattle.adjacency.specs.declared.marks.Acknowledgement.{Acknowledgement}
-use Rattle.adjacency.specs.declared.marks.Acknowledgement.TheVariants.{Nothing, Send}
 use Rattle.adjacency.specs.declared.marks.Line.{Line}
 use Rattle.adjacency.specs.declared.marks.Line.TheVariants.{One, Two, Three, Four, Five}
 use Rattle.adjacency.specs.declared.marks.Times.{Times}
-use Rattle.adjacency.specs.declared.react.Reaction.{Reaction}
-use Rattle.adjacency.specs.declared.react.Reaction.TheVariants.{Refused, Accepted}
-use Rattle.adjacency.specs.declared.record.Adjacency.{Adjacency}
-use Rattle.adjacency.specs.declared.record.Adjacency.TheVariants.{Absent, Present}
 use Rattle.adjacency.specs.declared.record.Data.{Data}
 use Rattle.adjacency.specs.declared.record.Mark.{Mark}
 use Rattle.adjacency.specs.declared.record.Mark.TheVariants.{Clear, Restart, Planned}
@@ -37,11 +31,15 @@ use Rattle.adjacency.specs.declared.record.State.TheVariants.{Init, Up}
 use Rattle.adjacency.specs.declared.step.Here.{Here}
 use Rattle.adjacency.proofs.ClearLaws.{clear-line}
 use Rattle.invariants.specs.Invariants.{Tells, Span, Unmarked}
+use Rattle.std.specs.Prelude.{Option, Some, None, Ok, Err}
+use Rattle.adjacency.specs.React.{Reaction}
+use Rattle.restart_tlv.specs.declared.writer.Ack.{Ack}
+use Rattle.adjacency.specs.declared.record.State.{State}
 
 -- the expiry of the record, if one stands
-abbrev pub SpanIn : ℕ → Adjacency → Type 0
-SpanIn clock Absent = Unit {0}
-SpanIn clock (Present s) = Span clock (expiry_of s)
+abbrev pub SpanIn : ℕ → Option State → Type 0
+SpanIn clock None = Unit {0}
+SpanIn clock (Some s) = Span clock (expiry_of s)
 
 -- what a frame and the settings may add to the clock
 pub record Short (t : Times) : Type 0 where
@@ -71,15 +69,15 @@ expiry-span Three t Planned h k = k
 expiry-span Four t m h k = from-clock t.clock t.configured h.configured
 expiry-span Five t m h k = from-clock t.clock t.hold h.hold
 
-stays-marked : (here : Here) (h : Hello) (d : Data) (m : Mark) → Span here.clock d.expiry → Stays (times_of here h (Present (Up d m))) m
+stays-marked : (here : Here) (h : Hello) (d : Data) (m : Mark) → Span here.clock d.expiry → Stays (times_of here h (Some (Up d m))) m
 stays-marked here h d Clear k = tt
 stays-marked here h d Restart k = k
 stays-marked here h d Planned k = k
 
-stays : (here : Here) (h : Hello) (before : Adjacency) → SpanIn here.clock before → Stays (times_of here h before) (mark_of before)
-stays here h Absent k = tt
-stays here h (Present (Init d)) k = tt
-stays here h (Present (Up d m)) k = stays-marked here h d m k
+stays : (here : Here) (h : Hello) (before : Option State) → SpanIn here.clock before → Stays (times_of here h before) (mark_of before)
+stays here h None k = tt
+stays here h (Some (Init d)) k = tt
+stays here h (Some (Up d m)) k = stays-marked here h d m k
 
 state-span : (clock : ℕ) (p : Phase) (d : Data) (m : Mark) → Span clock d.expiry → SpanIn clock (state_as p d m)
 state-span clock Gone d m k = tt
@@ -88,9 +86,9 @@ state-span clock UpPhase d m k = k
 
 -- ---- the reply
 
-abbrev pub Replies : ℕ → Adjacency → Acknowledgement → Type 0
-Replies clock after Nothing = Unit {0}
-Replies clock after (Send ack time) = (time ≤ 65535) × Tells after clock time
+abbrev pub Replies : ℕ → Option State → Option (Ack × ℕ) → Type 0
+Replies clock after None = Unit {0}
+Replies clock after (Some (ack, time)) = (time ≤ 65535) × Tells after clock time
 
 remaining-tells : (clock : ℕ) (p : Phase) (d : Data) (m : Mark) → Span clock d.expiry
     → (remaining_in p d.expiry clock ≤ 65535) × Tells (state_as p d m) clock (remaining_in p d.expiry clock)
@@ -98,7 +96,7 @@ remaining-tells clock Gone d m k = (omega arith, refl)
 remaining-tells clock InitPhase d m k = (omega arith, omega arith)
 remaining-tells clock UpPhase d m k = (omega arith, omega arith)
 
-reply-tells : (line : Line) (clock time : ℕ) (after : Adjacency) → (time ≤ 65535) × Tells after clock time
+reply-tells : (line : Line) (clock time : ℕ) (after : Option State) → (time ≤ 65535) × Tells after clock time
     → Replies clock after (reply_by line time)
 reply-tells One clock time after k = k
 reply-tells Two clock time after k = k
@@ -108,9 +106,9 @@ reply-tells Five clock time after k = tt
 
 -- ---- no Restart TLV, no mark
 
-abbrev pub UnmarkedIn : Adjacency → Type 0
-UnmarkedIn Absent = Unit {0}
-UnmarkedIn (Present s) = Unmarked s
+abbrev pub UnmarkedIn : Option State → Type 0
+UnmarkedIn None = Unit {0}
+UnmarkedIn (Some s) = Unmarked s
 
 lacks : (r : RestartTlv) → has_tlv r ≡ false → r ≡ NoTlv
 lacks NoTlv e = refl
@@ -163,25 +161,25 @@ unfolding step_of
 step_gone here p h e =
     by-test (kept_up h.restart p) (λ a. cc) (λ a. link-gone here p h.link (rw a at e))
 
-state-gone : (p : Phase) (d : Data) (m : Mark) → state_as p d m ≡ Absent → p ≡ Gone
+state-gone : (p : Phase) (d : Data) (m : Mark) → state_as p d m ≡ None → p ≡ Gone
 state-gone Gone d m e = refl
 state-gone InitPhase d m e = cc
 state-gone UpPhase d m e = cc
 
-phase-gone : (a : Adjacency) → phase_of a ≡ Gone → a ≡ Absent
-phase-gone Absent e = refl
-phase-gone (Present (Init d)) e = cc
-phase-gone (Present (Up d m)) e = cc
+phase-gone : (a : Option State) → phase_of a ≡ Gone → a ≡ None
+phase-gone None e = refl
+phase-gone (Some (Init d)) e = cc
+phase-gone (Some (Up d m)) e = cc
 
 -- ---- the whole effect
 
-pub data Fair (clock : ℕ) (before : Adjacency) : Reaction → Type 0 where
-  refused : {x : Refusal} → Fair clock before (Refused x)
-  accepted : {after : Adjacency} {reply : Acknowledgement} {line : Line} → SpanIn clock after → UnmarkedIn after → Replies clock after reply
-      → (after ≡ Absent → before ≡ Absent) → Fair clock before (Accepted after reply line)
+pub data Fair (clock : ℕ) (before : Option State) : Reaction → Type 0 where
+  refused : {x : Refusal} → Fair clock before (Err x)
+  accepted : {after : Option State} {reply : Option (Ack × ℕ)} {line : Line} → SpanIn clock after → UnmarkedIn after → Replies clock after reply
+      → (after ≡ None → before ≡ None) → Fair clock before (Ok (after, reply, line))
 
-module _ (here : Here) (h : Hello) (before : Adjacency) (short : Short (times_of here h before)) (span : SpanIn here.clock before) where
-  accepted-fair : (line : Line) (after : Phase) → (has_tlv h.restart ≡ false → mark_by line (mark_of before) ≡ Clear) → (after ≡ Gone → before ≡ Absent)
+module _ (here : Here) (h : Hello) (before : Option State) (short : Short (times_of here h before)) (span : SpanIn here.clock before) where
+  accepted-fair : (line : Line) (after : Phase) → (has_tlv h.restart ≡ false → mark_by line (mark_of before) ≡ Clear) → (after ≡ Gone → before ≡ None)
       → Fair here.clock before (accepted_by line after here h before)
   unfolding accepted_by data_by
   accepted-fair line after clear gone =

@@ -9,7 +9,6 @@ use lib.Dec.{eqb}
 use Rattle.basics.proofs.BoolLaws.{by-test}
 use Rattle.basics.specs.declared.kind.CircuitKind.{CircuitKind}
 use Rattle.basics.specs.declared.kind.CircuitKind.TheVariants.{Lan, P2p}
-use Rattle.adjacency.specs.declared.record.Adjacency.TheVariants.{Present}
 use Rattle.adjacency.specs.declared.record.State.{State}
 use Rattle.adjacency.specs.declared.record.Key.{Key}
 use Rattle.adjacency.specs.declared.record.Record.{Record}
@@ -23,6 +22,7 @@ use Rattle.room.specs.Gather.{gather, rest, keep}
 use Rattle.adjacency.proofs.KeysLaws.{same_key-eq}
 use Rattle.room.proofs.TableLaws.{gather-sweep, gather-put-same, gather-put-other}
 use Rattle.invariants.specs.Invariants.{Each, end, free, held, closed, records, room_for}
+use Rattle.std.specs.Prelude.{Some}
 
 -- ---- a property of each record
 
@@ -64,7 +64,7 @@ each_map f (Free ∷ t) (free e) = free (each_map f t e)
 each_map f (Held r ∷ t) (held q e) = held (f r q) (each_map f t e)
 each_map f (Closed ∷ t) (closed e) = closed (each_map f t e)
 
-pub each-find : (P : State → Type 0) (k : Key) (s : State) (t : List Slot) → Each (λ r. P r.state) t → find k t ≡ Present s → P s
+pub each-find : (P : State → Type 0) (k : Key) (s : State) (t : List Slot) → Each (λ r. P r.state) t → find k t ≡ Some s → P s
 unfolding find
 each-find P k s [] end e = absurd (let z : ◌≡◌ {A = ℕ} 0 1 = cc in omega arith)
 each-find P k s (Free ∷ t) (free h) e = each-find P k s t h e

@@ -25,8 +25,6 @@ use Rattle.timer_parts.specs.T3.{lower_t3, heard_t3, expires_t3}
 use Rattle.timer_parts.specs.declared.heard.Heard.{Heard}
 use Rattle.timer_parts.specs.declared.heard.Heard.TheVariants.{WithoutTlv, Acknowledged, Plain}
 use Rattle.timer_parts.specs.declared.t1.T1.{T1}
-use Rattle.timer_parts.specs.declared.t2.Timer.{Timer}
-use Rattle.timer_parts.specs.declared.t2.Timer.TheVariants.{Stopped, Until}
 use Rattle.timer_parts.specs.declared.t2.T2.{T2}
 use Rattle.timer_parts.specs.declared.t2.T2s.{T2s}
 use Rattle.timer_parts.specs.declared.t3.T3.{T3}
@@ -39,6 +37,7 @@ use Rattle.timers.specs.declared.head.Head.{Head}
 use Rattle.control.specs.Common.{start_of}
 use Rattle.invariants.specs.Invariants.{IsT1, T1Ends, T1Fits, T2Ends, t3_ends, SetupTimers}
 use Rattle.invariants.proofs.NumberedLaws.{set_all, map-all}
+use Rattle.std.specs.Prelude.{Option, Some, None}
 
 -- ---- T1: no step of a T1 starts one, but where there is one
 
@@ -101,16 +100,16 @@ module _ (s : Settings) (clock : ℕ) where
 -- ---- T2: no step starts one or moves its deadline
 
 abbrev MovesNone : (T2 → T2) → Type 0
-MovesNone f = (x : T2) (at : ℕ) → (f x).timer ≡ Until at → x.timer ≡ Until at
+MovesNone f = (x : T2) (at : ℕ) → (f x).timer ≡ Some at → x.timer ≡ Some at
 
 cancel-none : (wait : Bool) → MovesNone (cancel_t2 wait)
 unfolding cancel_t2
 cancel-none true x at e = e
 cancel-none false x at e = by-test x.noticed (λ a. let z = rw a at e in cc) (λ a. rw a at e)
 
-expire-timer : (clock at : ℕ) (x : Timer) → expire_timer clock x ≡ Until at → x ≡ Until at
-expire-timer clock at Stopped e = e
-expire-timer clock at (Until deadline) e = by-test (leb deadline clock) (λ a. let z = rw a at e in cc) (λ a. rw a at e)
+expire-timer : (clock at : ℕ) (x : Option ℕ) → expire_timer clock x ≡ Some at → x ≡ Some at
+expire-timer clock at None e = e
+expire-timer clock at (Some deadline) e = by-test (leb deadline clock) (λ a. let z = rw a at e in cc) (λ a. rw a at e)
 
 expire-none : (clock : ℕ) → MovesNone (expire_t2 clock)
 unfolding expire_t2
@@ -122,7 +121,7 @@ notice-none on x at e = e
 
 -- what is true of the deadlines of the T2s that run
 abbrev DueAt : (Level → ℕ → Type 0) → T2s → Type 0
-DueAt P t = (k : Level) (deadline : ℕ) → (t2_at k t).timer ≡ Until deadline → P k deadline
+DueAt P t = (k : Level) (deadline : ℕ) → (t2_at k t).timer ≡ Some deadline → P k deadline
 
 both-due : {P : Level → ℕ → Type 0} (f : Level → T2 → T2) → ((k : Level) → MovesNone (f k)) → (t : T2s) → DueAt P t
     → DueAt P (t2s_of (λ k. f k (t2_at k t)))
@@ -272,7 +271,7 @@ module _ (s : Settings) (tries : 0 < s.lengths.tries) where
       started-fits (T1Ends s s.clock) begun (s.clock + s.lengths.t1) (t1_bits m)
       (λ j d. record { there = known j d; fewer = tries; due = omega arith }) i e
 
-start-timer : (on : Bool) (at deadline : ℕ) → start_timer on at ≡ Until deadline → (on ≡ true) × (deadline ≡ at)
+start-timer : (on : Bool) (at deadline : ℕ) → start_timer on at ≡ Some deadline → (on ≡ true) × (deadline ≡ at)
 unfolding start_timer
 start-timer true at deadline e = (refl, cc)
 start-timer false at deadline e = (cc, cc)

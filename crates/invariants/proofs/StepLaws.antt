@@ -15,8 +15,6 @@ use Rattle.settings.specs.Mode.{is_running}
 use Rattle.settings.specs.declared.circuit.Circuit.{Circuit}
 use Rattle.settings.specs.declared.setup.Settings.{Settings}
 use Rattle.control.specs.Common.{Common, with_clock, circuit_of}
-use Rattle.settings.specs.declared.circuit.Chosen.{Chosen}
-use Rattle.settings.specs.declared.circuit.Chosen.TheVariants.{Known, Unknown}
 use Rattle.chunks.specs.Chunks.{Unfinished, NoFrame, Frame, Joined, Refused as RefusedChunk, As, join}
 use Rattle.model.specs.Gateway.{Room, Gateway, with_rooms, with_common, no_room, numbered, renew, room_of, unfinished_on, with_unfinished}
 use Rattle.model.specs.Receive.{Acted, refuse}
@@ -28,10 +26,11 @@ use Rattle.invariants.proofs.CommonLaws.{Keeps, act-keeps, JudgedOk, judge-ok, s
 use Rattle.invariants.proofs.GatewayLaws.{RoomOk, room-empty, room-sweep, RoomsOk, swept_at, Holds}
 use Rattle.invariants.proofs.FrameLaws.{step-frames}
 use Rattle.invariants.proofs.ReceiveLaws.{ActOk, receive_ok}
+use Rattle.std.specs.Prelude.{Option, Some, None}
 
 -- ---- a call on a circuit
 
-module _ (n : ℕ) (c : Common) (s : Circuit) (r : Room) (hold : s.hold ≤ 65535) (ok : RoomOk c.system (Known s) c.clock r.slots) where
+module _ (n : ℕ) (c : Common) (s : Circuit) (r : Room) (hold : s.hold ≤ 65535) (ok : RoomOk c.system (Some s) c.clock r.slots) where
   csnp-ok : (level : ℕ) → ActOk c s (csnp_complete n s level c r)
   unfolding csnp_complete refuse
   csnp-ok level =
@@ -49,7 +48,7 @@ module _ (n : ℕ) (c : Common) (s : Circuit) (r : Room) (hold : s.hold ≤ 6553
   act-ok : (l : Local) → ((mac : ℕ) (frame b : List ℕ) → l ≡ Receive mac frame b → Octets frame) → ActOk c s (act n s l c r)
   unfolding act link_metric_of
   act-ok (Receive mac frame b) f = receive_ok c s r hold ok n mac b frame (f mac frame b refl)
-  act-ok Release f = room-sweep c.system (Known s) c.clock c.clock planned_state r.slots (λ v e q. q) ok
+  act-ok Release f = room-sweep c.system (Some s) c.clock c.clock planned_state r.slots (λ v e q. q) ok
   act-ok Clear f = room-empty c.system s c.clock
   act-ok (CsnpComplete level) f = csnp-ok level
   act-ok (LookUp k) f = look-ok k
@@ -73,11 +72,11 @@ module _ (g : Gateway) (h : RoomsOk g) where
         rooms = λ n. rw (circuit_of-same g.common d k.circuits n, k.clock, k.system) (ok n);
       }
 
-  on-rooms : (n : ℕ) (l : Local) (x : Chosen) → circuit_of g.common n ≡ x → Fits (At n l) → RoomsOk (on g n l x).next
+  on-rooms : (n : ℕ) (l : Local) (x : Option Circuit) → circuit_of g.common n ≡ x → Fits (At n l) → RoomsOk (on g n l x).next
   unfolding on lift
-  on-rooms n l Unknown e f = h
-  on-rooms n l (Known s) e f =
-      let ok : RoomOk g.common.system (Known s) g.common.clock (room_of g n).slots = rw e at (h.rooms n) in
+  on-rooms n l None e f = h
+  on-rooms n l (Some s) e f =
+      let ok : RoomOk g.common.system (Some s) g.common.clock (room_of g n).slots = rw e at (h.rooms n) in
       let a : Acted = act n s l g.common (room_of g n) in
       let done : ActOk g.common s a =
       act-ok n g.common s (room_of g n) (h.hold n s e) ok l (λ mac frame b q. f.frame n mac frame b (ap (At n) q)) in
@@ -123,12 +122,12 @@ module _ (g : Gateway) (h : RoomsOk g) (frames : FramesFit g) where
       on-rooms (with_unfinished g n NoFrame) (rooms-aside g n NoFrame h) n (Receive mac octets b) (circuit_of g.common n) refl
       (fits-receive n mac octets b (rw e at (frames.fit n)).1)
 
-  hand-rooms : (n : ℕ) (p : Piece) (x : Chosen) → RoomsOk (hand_on g n p x).next
+  hand-rooms : (n : ℕ) (p : Piece) (x : Option Circuit) → RoomsOk (hand_on g n p x).next
   unfolding hand_on hand
-  hand-rooms n p Unknown = h
-  hand-rooms n (Begin mac) (Known s) = rooms-aside g n _ h
-  hand-rooms n (Chunk octets) (Known s) = chunk-rooms n (join (unfinished_on g n) octets)
-  hand-rooms n (End b) (Known s) = end-rooms n b (unfinished_on g n) refl
+  hand-rooms n p None = h
+  hand-rooms n (Begin mac) (Some s) = rooms-aside g n _ h
+  hand-rooms n (Chunk octets) (Some s) = chunk-rooms n (join (unfinished_on g n) octets)
+  hand-rooms n (End b) (Some s) = end-rooms n b (unfinished_on g n) refl
 
 -- ---- every call
 

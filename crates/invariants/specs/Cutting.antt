@@ -1,7 +1,6 @@
 -- A frame handed over in chunks (document 02, W-205): "The answer, state and reply equal those of receive on the joined octets, wherever the cuts are."
 -- Of every gateway, whatever other calls stand between, on other circuits, on its own or on none.
-use Rattle.std.specs.Prelude.{ℕ, ◌≤◌, ◌≡◌, Bool, false, List, [], ◌∷◌, length, eqb}
-use Rattle.settings.specs.declared.circuit.Chosen.TheVariants.{Known}
+use Rattle.std.specs.Prelude.{ℕ, ◌≤◌, ◌≡◌, Bool, false, List, [], ◌∷◌, length, eqb, Some}
 use Rattle.settings.specs.declared.circuit.Circuit.{Circuit}
 use Rattle.chunks.specs.Chunks.{Unfinished, NoFrame, most_octets, joined}
 use Rattle.control.specs.Common.{circuit_of}
@@ -47,6 +46,6 @@ pub record EndsAs (n : ℕ) (e r : Outcome) : Type 0 where
 -- A circuit that is there, in a gateway that has a place for its frame, as every one has from setup on and any lent words.
 abbrev pub AnyCutting : Type 0
 AnyCutting =
-    (g : Gateway) (n mac : ℕ) (s : Circuit) → circuit_of g.common n ≡ Known s → n ≤ length g.unfinished
+    (g : Gateway) (n mac : ℕ) (s : Circuit) → circuit_of g.common n ≡ Some s → n ≤ length g.unfinished
     → (cs others : List Call) (chunks : List (List ℕ)) → Between n cs chunks others → length (joined chunks) ≤ most_octets → (b : List ℕ)
     → EndsAs n (step (after g (Hand n (Begin mac) ∷ cs)) (Hand n (End b))) (step (after g others) (At n (Receive mac (joined chunks) b)))

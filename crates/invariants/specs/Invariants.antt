@@ -1,15 +1,12 @@
 -- What stays true of a gateway, whatever calls it gets: sentences of documents 01 and 02, and the claim that each holds after every list of calls.
-use Rattle.std.specs.Prelude.{ℕ, suc, ◌+◌, ◌≤◌, ◌<◌, ◌≡◌, Bool, true, false, ◌≢◌, List, [], ◌∷◌, length, get_or}
+use Rattle.std.specs.Prelude.{ℕ, suc, ◌+◌, ◌≤◌, ◌<◌, ◌≡◌, Bool, true, false, ◌≢◌, List, [], ◌∷◌, length, get_or, Option, Some, None, Ok}
 use Rattle.basics.specs.Octets.{octet, big}
 use Rattle.basics.specs.Mask.{circuits, place_bits}
 use Rattle.hello.specs.Hello.{hello_read}
 use Rattle.basics.specs.declared.kind.CircuitKind.{CircuitKind}
 use Rattle.basics.specs.declared.kind.CircuitKind.TheVariants.{Lan, P2p}
 use Rattle.hello.specs.declared.read.Hello.{Hello}
-use Rattle.hello.specs.declared.read.Read.TheVariants.{Accepted}
 use Rattle.adjacency.specs.Record.{expiry_of}
-use Rattle.adjacency.specs.declared.record.Adjacency.{Adjacency}
-use Rattle.adjacency.specs.declared.record.Adjacency.TheVariants.{Absent, Present}
 use Rattle.adjacency.specs.declared.record.Key.{Key}
 use Rattle.adjacency.specs.declared.record.Mark.TheVariants.{Clear}
 use Rattle.adjacency.specs.declared.record.Record.{Record}
@@ -23,7 +20,6 @@ use Rattle.basics.specs.Levels.{Level, is_on, has_level}
 use Rattle.basics.specs.declared.levels.Levels.{Levels}
 use Rattle.timer_parts.specs.T2.{t2_at, any_t2}
 use Rattle.timer_parts.specs.declared.t1.T1.{T1}
-use Rattle.timer_parts.specs.declared.t2.Timer.TheVariants.{Until}
 use Rattle.timer_parts.specs.declared.t3.T3.TheVariants.{Idle, Runs}
 use Rattle.timers.specs.Timers.{Timers, any_runs, no_t1}
 use Rattle.timers.specs.Hellos.{Hellos}
@@ -34,7 +30,6 @@ use Rattle.settings.specs.declared.setup.Settings.{Settings}
 use Rattle.settings.specs.Settings.{circuits_of, enabled_levels}
 use Rattle.settings.specs.Serving.{serving, all_t1s}
 use Rattle.control.specs.Common.{Common, circuit_of}
-use Rattle.settings.specs.declared.circuit.Chosen.TheVariants.{Known, Unknown}
 use Rattle.adjacency.specs.Keys.{key_in}
 use Rattle.model.specs.Answers.{Received, Ticked, FrameAnswer, TimersAnswer}
 use Rattle.model.specs.Gateway.{Gateway, Started, setup, room_of, record_at, unfinished_on}
@@ -90,9 +85,9 @@ records (Closed ∷ t) = records t
 -- ---- document 01, "Marks and holding time": "The reply is 11 octets: .. Remaining Time = expiry less clock (0 if no record stands)"
 
 -- the time from the clock to the expiry of the record; 0 if none stands
-abbrev pub Tells : Adjacency → ℕ → ℕ → Type 0
-Tells Absent clock time = time ≡ 0
-Tells (Present s) clock time = expiry_of s ≡ clock + time
+abbrev pub Tells : Option State → ℕ → ℕ → Type 0
+Tells None clock time = time ≡ 0
+Tells (Some s) clock time = expiry_of s ≡ clock + time
 
 -- A reply's Remaining Time stands in its octets 4 and 5, is at most 65,535, and is the true time to the expiry of the record of the key k on
 -- circuit n afterwards.
@@ -104,7 +99,7 @@ pub record TrueTime (o : Outcome) (n : ℕ) (k : Key) (time : ℕ) : Type 0 wher
 -- .. so of every frame that is replied to: s is the circuit's settings, h the hello read
 pub record TrueReplies (g : Gateway) : Type 0 where
   pub time : (c : Call) (n mac : ℕ) (frame : List ℕ) (s : Circuit) (h : Hello) (f : FrameAnswer) → Gives g c n mac frame → Octets frame
-      → circuit_of g.common n ≡ Known s → hello_read s.kind s.mac frame ≡ Accepted h
+      → circuit_of g.common n ≡ Some s → hello_read s.kind s.mac frame ≡ Ok h
       → (step g c).answer ≡ Received f → f.reply ≢ 0 → TrueTime (step g c) n (key_in s.kind mac h) f.time
 
 -- ---- document 01, "Marks and holding time": "A tick removes each record with expiry at or below the clock"
@@ -126,8 +121,8 @@ room_for P2p = 1
 
 -- a circuit never holds more records than its room, past the circuits there is none, and no two records have one key
 pub record Bounded (g : Gateway) : Type 0 where
-  pub within : (n : ℕ) (s : Circuit) → circuit_of g.common n ≡ Known s → records (room_of g n).slots ≤ room_for s.kind
-  pub past : (n : ℕ) → circuit_of g.common n ≡ Unknown → records (room_of g n).slots ≡ 0
+  pub within : (n : ℕ) (s : Circuit) → circuit_of g.common n ≡ Some s → records (room_of g n).slots ≤ room_for s.kind
+  pub past : (n : ℕ) → circuit_of g.common n ≡ None → records (room_of g n).slots ≡ 0
   pub single : (n : ℕ) (k : Key) → length (gather k (room_of g n).slots) ≤ 1
 
 -- ---- document 01, "What the gateway holds": "A LAN record is known by level, System ID and source MAC; a P2P record by System ID."
@@ -143,7 +138,7 @@ pub record KeyFits (own : ℕ) (s : Circuit) (k : Key) : Type 0 where
   pub rest : LevelAndMac s.kind s.levels k
 
 pub record KeysFit (g : Gateway) : Type 0 where
-  pub fit : (n : ℕ) (s : Circuit) → circuit_of g.common n ≡ Known s → Each (λ r. KeyFits g.common.system s r.key) (room_of g n).slots
+  pub fit : (n : ℕ) (s : Circuit) → circuit_of g.common n ≡ Some s → Each (λ r. KeyFits g.common.system s r.key) (room_of g n).slots
 
 -- ---- document 01, "Marks and holding time": "expiry = clock + Holding Time", "clock + configured time", "clock + Remaining Time", none above
 -- 65,535; "A tick removes each record with expiry at or below the clock"
@@ -220,7 +215,7 @@ pub record SetupTimers (s : Settings) (clock : ℕ) (t : Timers) : Type 0 where
   -- which T1s there are (document 02, W-202), as setup gave them: no call changes it
   pub serving : t.serving ≡ serving (circuits_of s)
   pub t1s : (i : ℕ) → T1Fits s clock i (get_or t.t1s i no_t1)
-  pub t2s : (k : Level) (deadline : ℕ) → (t2_at k t.t2s).timer ≡ Until deadline → T2Ends s k deadline
+  pub t2s : (k : Level) (deadline : ℕ) → (t2_at k t.t2s).timer ≡ Some deadline → T2Ends s k deadline
   pub t3 : (deadline : ℕ) → t.t3 ≡ Runs deadline → deadline ≤ t3_ends s
 
 -- ---- from one call to the next

@@ -14,12 +14,7 @@ use Rattle.basics.specs.declared.levels.Levels.{Levels}
 use Rattle.basics.specs.declared.refusal.Refusal.{Refusal}
 use Rattle.basics.specs.declared.refusal.Refusal.TheVariants.{NoCircuit, ReplyRoom, NotHello, BadLength, TlvPastEnd, BadTlv, WrongSource, WrongNeighbor, NoRoom, ClockBack, NotRestarting, BadSetting, NotBegun, TooLong}
 use Rattle.restart_tlv.specs.declared.writer.Ack.TheVariants.{Restart as RA, Planned as PA}
-use Rattle.adjacency.specs.declared.duty.Csnps.{Csnps}
-use Rattle.adjacency.specs.declared.duty.Csnps.TheVariants.{Nothing, Ordered}
-use Rattle.adjacency.specs.declared.marks.Acknowledgement.{Acknowledgement}
-use Rattle.adjacency.specs.declared.marks.Acknowledgement.TheVariants.{Nothing as NoReply, Send}
 use Rattle.adjacency.specs.Record.{phase_of, mark_of}
-use Rattle.adjacency.specs.declared.record.Adjacency.TheVariants.{Present}
 use Rattle.adjacency.specs.declared.record.Mark.{Mark}
 use Rattle.adjacency.specs.declared.record.Mark.TheVariants.{Clear as Unmarked, Restart, Planned}
 use Rattle.adjacency.specs.declared.record.Phase.{Phase}
@@ -38,6 +33,8 @@ use Rattle.model.specs.Numbers.{refusal_no, reply_flags, levels_no, csnps_no, fr
 use Rattle.model.specs.Answers.{Answer, Refused, Received, Ticked, Told, Fact, Done, Noticed, Looked, Metric, HelloFlags, Waits, TimersAnswer, FrameAnswer, RecordAnswer, number_of, timers_answer, change_answer, frame_answer, state_answer, last_of}
 use Rattle.own_words.specs.Setup.{Begun}
 use Rattle.isis_gr.specs.Words.{mask_no, timers_no, change_no, answer_no, report_no, record_no}
+use Rattle.std.specs.Prelude.{Option, Some, None}
+use Rattle.restart_tlv.specs.declared.writer.Ack.{Ack}
 
 -- ---- the range of each part
 
@@ -60,14 +57,14 @@ refusal-below TooLong = omega arith
 levels-le : (l : Levels) → levels_no l ≤ 3
 levels-le l = omega (arith, bit_le l.one, bit_le l.two)
 
-flags-below : (a : Acknowledgement) → reply_flags a < 256
-flags-below NoReply = omega arith
-flags-below (Send RA time) = omega arith
-flags-below (Send PA time) = omega arith
+flags-below : (a : Option (Ack × ℕ)) → reply_flags a < 256
+flags-below None = omega arith
+flags-below (Some (RA, time)) = omega arith
+flags-below (Some (PA, time)) = omega arith
 
-csnps-below : (c : Csnps) → csnps_no c < 256
-csnps-below Nothing = omega arith
-csnps-below (Ordered l) = omega (arith, levels-le l)
+csnps-below : (c : Option Levels) → csnps_no c < 256
+csnps-below None = omega arith
+csnps-below (Some l) = omega (arith, levels-le l)
 
 freed-below : (f : Freed) → freed_no f < 256
 freed-below Kept = omega arith
@@ -91,7 +88,7 @@ phase-le InitPhase = omega arith
 phase-le UpPhase = omega arith
 
 state-le : (s : State) → state_no s ≤ 2
-state-le s = phase-le (phase_of (Present s))
+state-le s = phase-le (phase_of (Some s))
 
 -- ---- the parts
 
@@ -203,7 +200,7 @@ module _ (s : State) (shown : Bool) (low : (last_of s).priority < 256) where
       × (data' / 16 % 2 ≡ bit_of found.reversed) × (data' / 32 % 2 ≡ bit_of found.whole) × (data' / 64 % 2 ≡ bit_of found.unreachable)
       × (data' / 2 ^ 8 % 256 ≡ found.priority) × (data' / 2 ^ 32 ≡ found.offset)
   found-parts =
-      let a = mark-le (mark_of (Present s)) in
+      let a = mark-le (mark_of (Some s)) in
       let b = bit_le found.suppressed in
       let c = bit_le found.tlv in
       let d = bit_le found.reversed in

@@ -12,7 +12,6 @@ use Rattle.timers.specs.Timers.{count_runs}
 use Rattle.timers.specs.Memory.{timers_of, t1_bits}
 use Rattle.timers.proofs.T1sLaws.{length-joined, length-bits}
 use Rattle.control.specs.Words.{common_of}
-use Rattle.adjacency.specs.declared.record.Adjacency.TheVariants.{Present}
 use Rattle.adjacency.specs.declared.record.State.{State}
 use Rattle.adjacency.specs.declared.record.State.TheVariants.{Init, Up}
 use Rattle.model.specs.Answers.{Answer, Told, Looked, Waits, state_answer, record_answer}
@@ -23,6 +22,7 @@ use Rattle.gateway.specs.Whole.{whole_of, DoesWith, Does}
 use Rattle.isis_gr.specs.Words.{answer_no, changed_no, record_words, found_words}
 use Rattle.isis_gr.specs.declared.answers.ReceivedWords.{ReceivedWords}
 use Rattle.isis_gr.specs.Encodes.{EncodesWith, EncodesFrameWith, Encodes, EncodesFrame, EncodesFound}
+use Rattle.std.specs.Prelude.{Some}
 
 -- of an answer, the step's
 pub with-octets : {w : ℕ} {a : Answer} {c : Call} {ws fs ws' fs' b' : List ℕ} → DoesWith c a ws fs ws' fs' b' → w ≡ answer_no a → EncodesWith w c ws fs ws' fs' b'
@@ -45,7 +45,7 @@ pub encodes-found : {w : ℕ} {a : Answer} {c : Call} {ws d d' : List ℕ} → D
 encodes-found {d = d} m e f fs = record { encodes = with-octets (m fs) e; found = f ∙ ap (λ (x : Answer). found_words x d) (m fs).answer }
 
 -- a record that was found is written, whatever its state
-pub found-words : (s : State) (shown : Bool) (ws : List ℕ) → found_words (Told (Looked (state_answer s shown))) ws ≡ record_words (record_answer (Present s))
+pub found-words : (s : State) (shown : Bool) (ws : List ℕ) → found_words (Told (Looked (state_answer s shown))) ws ≡ record_words (record_answer (Some s))
 found-words (Init d) shown ws = refl
 found-words (Up d m) shown ws = refl
 

@@ -20,11 +20,13 @@ use Rattle.control.specs.Setup.{basis_of}
 use Rattle.control.specs.declared.setup.Basis.{Basis}
 use Rattle.model.specs.Numbers.{refusal_no}
 use Rattle.model.specs.Gateway.{setup}
-use Rattle.model.specs.declared.answers.SetUp.{SetUp}
 use Rattle.own_words.specs.Setup.{Refused as RefusedReport, PutsCircuit, report_of}
 use Rattle.gateway.specs.Whole.{SetsUpWhole}
 use Rattle.isis_gr.specs.Words.{report_no, mode_known}
 use Rattle.isis_gr.specs.Settings.{layout, circuit_place, circuit_places, circuit_from, circuit_known, settings_from, settings_known, setup_from, EncodesSetup}
+use Rattle.std.specs.Prelude.{Result}
+use Rattle.basics.specs.declared.refusal.Refusal.{Refusal}
+use Rattle.timers.specs.declared.hellos.HelloOrders.{HelloOrders}
 
 -- ---- the circuits' numbers
 
@@ -90,7 +92,7 @@ module _ (s : List ℕ) (b : Basis) (e : b ≡ basis_of (settings_from s)) where
 -- ---- setup
 
 module _ (s : List ℕ) {w : ℕ} {ws : List ℕ} where
-  pub encodes-known : {g : Settings} {ws' : List ℕ} {r : SetUp} (version : ℕ) → version ≡ layout → settings_known s ≡ true → g ≡ settings_from s
+  pub encodes-known : {g : Settings} {ws' : List ℕ} {r : Result HelloOrders Refusal} (version : ℕ) → version ≡ layout → settings_known s ≡ true → g ≡ settings_from s
       → SetsUpWhole (setup g) ws ws' r → w ≡ report_no (report_of r) → EncodesSetup w (setup_from version s) ws ws'
   unfolding setup_from
   encodes-known version v e f m q =

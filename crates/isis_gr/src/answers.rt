@@ -1,7 +1,6 @@
 // Each answer as one word, a frame's as two; specs/Words.antt gives them, case by case. A refusal's word is its number.
 ghost use Rattle.std.specs.Prelude.{◌≡◌, ◌≤◌, length};
 ghost use Rattle.model.specs.Answers.{change_answer, frame_answer, record_answer, received_of, ticked_of, released_of, noticed_of, looked_of, metric_of, flags_of, waiting_of};
-ghost use Rattle.adjacency.specs.declared.record.Adjacency.TheVariants.{Present};
 ghost use Rattle.basics.specs.Mask.{t1_places};
 ghost use Rattle.own_words.specs.Setup.{report_of};
 ghost use Rattle.isis_gr.specs.Words.{frame_no, change_no, answer_no, changed_no, report_no, record_words, found_words};
@@ -13,10 +12,12 @@ use crate::numbers::{
 };
 use adjacency::record::{Mark, State};
 use basics::bits::digit;
-use model::answers::{
-    Change, Looked, Metric, NextFlags, Noticed, Orders, Received, Released, SetUp, Ticked, Waiting,
-};
+use basics::refusal::Refusal;
+use model::answers::{Change, Found, Orders, Ticked, Waiting};
 use model::numbers::{number_of, position_of};
+use restart_tlv::flags::Flags;
+use timers::hellos::HelloOrders;
+use timers::outcome::TimerOutcome;
 
 fn orders_word(o: Orders) -> u64
     ensures { result ≡ frame_no (frame_answer o) }
@@ -53,28 +54,28 @@ fn change_word(x: Change) -> u64
     x.system % SEVENTH + SEVENTH * small
 }
 
-fn received_change(a: Received) -> u64
+fn received_change(a: Result<Orders, Refusal>) -> u64
     ensures { result ≡ changed_no (received_of a) }
 {
     match a {
-        Received::Refused(x) => position_of(x) as u64,
-        Received::Done(o) => {
+        Err(x) => position_of(x) as u64,
+        Ok(o) => {
             let change = o.change;
             change_word(change)
         }
     }
 }
 
-fn received_word(a: Received) -> u64
+fn received_word(a: Result<Orders, Refusal>) -> u64
     ensures { result ≡ answer_no (received_of a) }
 {
     match a {
-        Received::Refused(x) => number_of(x) as u64,
-        Received::Done(o) => orders_word(o),
+        Err(x) => number_of(x) as u64,
+        Ok(o) => orders_word(o),
     }
 }
 
-pub fn received_words(a: Received) -> ReceivedWords
+pub fn received_words(a: Result<Orders, Refusal>) -> ReceivedWords
     ensures { (result.answer ≡ answer_no (received_of a)) × (result.change ≡ changed_no (received_of a)) }
 {
     let answer = received_word(a);
@@ -82,70 +83,63 @@ pub fn received_words(a: Received) -> ReceivedWords
     ReceivedWords { answer, change }
 }
 
-pub(crate) fn ticked_word(a: Ticked) -> u64
+pub(crate) fn ticked_word(a: Result<Ticked, Refusal>) -> u64
     ensures { result ≡ answer_no (ticked_of a) }
 {
     match a {
-        Ticked::Refused(x) => number_of(x) as u64,
-        Ticked::Done {
-            lost,
-            hellos,
-            outcome,
-        } => {
-            let flags = hellos.flags;
-            SIXTH * flags.bits as u64
-                + SECOND * lost as u64
-                + THIRD * hellos.t1s as u64
-                + FIFTH * outcome_number(outcome) as u64
+        Err(x) => number_of(x) as u64,
+        Ok(t) => {
+            SIXTH * t.hellos.flags.bits as u64
+                + SECOND * t.lost as u64
+                + THIRD * t.hellos.t1s as u64
+                + FIFTH * outcome_number(t.outcome) as u64
         }
     }
 }
 
-pub(crate) fn released_word(a: Released) -> u32
+pub(crate) fn released_word(a: Result<(), Refusal>) -> u32
     ensures { result ≡ answer_no (released_of a) }
 {
     match a {
-        Released::Refused(x) => number_of(x) as u32,
-        Released::Done => 0,
+        Err(x) => number_of(x) as u32,
+        Ok(()) => 0,
     }
 }
 
-pub(crate) fn noticed_word(a: Noticed) -> u64
+pub(crate) fn noticed_word(a: Result<TimerOutcome, Refusal>) -> u64
     ensures { result ≡ answer_no (noticed_of a) }
 {
     match a {
-        Noticed::Refused(x) => number_of(x) as u64,
-        Noticed::Done(outcome) => FIFTH * outcome_number(outcome) as u64,
+        Err(x) => number_of(x) as u64,
+        Ok(outcome) => FIFTH * outcome_number(outcome) as u64,
     }
 }
 
-pub(crate) fn looked_word(a: Looked) -> u32
+pub(crate) fn looked_word(a: Result<Option<Found>, Refusal>) -> u32
     ensures { result ≡ answer_no (looked_of a) }
 {
     match a {
-        Looked::Refused(x) => number_of(x) as u32,
-        Looked::Nothing => 0,
-        Looked::Found { state, advertised } => {
-            256 * state_number(state) as u32 + 65536 * digit(advertised) as u32
-        }
+        Err(x) => number_of(x) as u32,
+        Ok(None) => 0,
+        Ok(Some(f)) => 256 * state_number(f.state) as u32 + 65536 * digit(f.advertised) as u32,
     }
 }
 
-pub(crate) fn metric_word(a: Metric) -> u64
+pub(crate) fn metric_word(a: Result<u32, Refusal>) -> u64
     ensures { result ≡ answer_no (metric_of a) }
 {
     match a {
-        Metric::Refused(x) => number_of(x) as u64,
-        Metric::Link(n) => FIFTH * n as u64,
+        Err(x) => number_of(x) as u64,
+        Ok(n) => FIFTH * n as u64,
     }
 }
 
-pub(crate) fn flags_word(a: NextFlags) -> u32
+pub(crate) fn flags_word(a: Result<Flags, Refusal>) -> u32
     ensures { result ≡ answer_no (flags_of a) }
 {
     match a {
-        NextFlags::Refused(x) => number_of(x) as u32,
-        NextFlags::Next(f) => 256 * f.bits as u32,
+        Err(x) => number_of(x) as u32,
+        Ok(f) => 256 * f.bits as u32,
     }
 }
 
@@ -157,12 +151,12 @@ pub(crate) fn waiting_word(a: Waiting) -> u32
     256 * a.count + 65536 * lowest_number(low) as u32
 }
 
-pub(crate) fn set_up_word(a: SetUp) -> u32
+pub(crate) fn set_up_word(a: Result<HelloOrders, Refusal>) -> u32
     ensures { result ≡ report_no (report_of a) }
 {
     match a {
-        SetUp::Refused(x) => number_of(x) as u32,
-        SetUp::Done(hellos) => {
+        Err(x) => number_of(x) as u32,
+        Ok(hellos) => {
             let flags = hellos.flags;
             16777216 * flags.bits as u32 + 256 * hellos.t1s as u32
         }
@@ -171,7 +165,7 @@ pub(crate) fn set_up_word(a: SetUp) -> u32
 
 fn write_state(out: &mut [u64], s: State)
     requires { length out.old ≡ 2 }
-    ensures { out.new ≡ record_words (record_answer (Present s)) }
+    ensures { out.new ≡ record_words (record_answer (Some s)) }
 {
     match s {
         State::Init(d) => {
@@ -186,16 +180,13 @@ fn write_state(out: &mut [u64], s: State)
 }
 
 // The words of the record that a look up found; nothing, where it found none.
-pub(crate) fn write_found(out: &mut [u64], a: Looked)
+pub(crate) fn write_found(out: &mut [u64], a: Result<Option<Found>, Refusal>)
     requires { length out.old ≡ 2 }
     ensures { out.new ≡ found_words (looked_of a) out.old }
 {
     match a {
-        Looked::Refused(_) => {}
-        Looked::Nothing => {}
-        Looked::Found {
-            state,
-            advertised: _,
-        } => write_state(out, state),
+        Err(_) => {}
+        Ok(None) => {}
+        Ok(Some(f)) => write_state(out, f.state),
     }
 }

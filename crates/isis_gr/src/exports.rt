@@ -23,7 +23,6 @@ use gateway::calls::{
     release, tick, waiting_t1s,
 };
 use gateway::whole::GATEWAY_WORDS;
-use model::answers::SetUp;
 
 // How many words of memory a caller lends.
 pub fn isis_gr_raw_gateway_words() -> u32
@@ -41,12 +40,12 @@ pub fn isis_gr_raw_set_up(
     ensures { EncodesSetup result (setup_from version settings.now) gateway.old gateway.new }
 {
     if version != LAYOUT {
-        return set_up_word(SetUp::Refused(Refusal::BadSetting));
+        return set_up_word(Err(Refusal::BadSetting));
     }
     if are_settings_known(settings) {
         return set_up_word(set_up_from(gateway, settings));
     }
-    set_up_word(SetUp::Refused(Refusal::BadSetting))
+    set_up_word(Err(Refusal::BadSetting))
 }
 
 // Which setting a set-up with these would refuse; 0 where none.

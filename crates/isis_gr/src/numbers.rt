@@ -3,16 +3,13 @@ ghost use Rattle.std.specs.Prelude.{◌≡◌, ◌+◌, ◌^◌, ◌≤◌, ◌<
 ghost use Rattle.restart_tlv.specs.Restart.{ack_flag};
 ghost use Rattle.model.specs.Numbers.{reply_flags, reply_time, lowest_no, levels_no, csnps_no, freed_no, hello_no, overload_no, mark_no, phase_no, state_no};
 ghost use Rattle.model.specs.Answers.{timers_answer, record_answer, is_reversed, offset_of, whole_of, unreachable_of};
-ghost use Rattle.adjacency.specs.declared.record.Adjacency.TheVariants.{Present};
 ghost use Rattle.adjacency.specs.declared.record.State.TheVariants.{Up};
 ghost use Rattle.isis_gr.specs.Words.{timers_no, reverse_no, record_no};
 
-use adjacency::duty::Csnps;
-use adjacency::marks::Acknowledgement;
+use adjacency::marks::Reply;
 use adjacency::record::{Data, Mark, Phase, State};
 use basics::bits::digit;
 use basics::levels::Levels;
-use basics::places::Lowest;
 use hello::reverse::ReverseMetric;
 use restart_tlv::flags::Flags;
 use restart_tlv::writer::Ack;
@@ -41,12 +38,12 @@ fn levels_number(l: Levels) -> u8
     (digit(l.one) + 2 * digit(l.two)) as u8
 }
 
-pub(crate) fn csnps_number(c: Csnps) -> u8
+pub(crate) fn csnps_number(c: Option<Levels>) -> u8
     ensures { result ≡ csnps_no c }
 {
     match c {
-        Csnps::Nothing => 0,
-        Csnps::Ordered(l) => levels_number(l),
+        None => 0,
+        Some(l) => levels_number(l),
     }
 }
 
@@ -103,30 +100,30 @@ fn ack_flags(ack: Ack) -> u8
     }
 }
 
-pub(crate) fn reply_flags(a: Acknowledgement) -> u8
+pub(crate) fn reply_flags(a: Option<Reply>) -> u8
     ensures { result ≡ reply_flags a }
 {
     match a {
-        Acknowledgement::Nothing => 0,
-        Acknowledgement::Send(ack, _) => ack_flags(ack),
+        None => 0,
+        Some((ack, _)) => ack_flags(ack),
     }
 }
 
-pub(crate) fn reply_time(a: Acknowledgement) -> u16
+pub(crate) fn reply_time(a: Option<Reply>) -> u16
     ensures { result ≡ reply_time a }
 {
     match a {
-        Acknowledgement::Nothing => 0,
-        Acknowledgement::Send(_, time) => time,
+        None => 0,
+        Some((_, time)) => time,
     }
 }
 
-pub(crate) fn lowest_number(low: Lowest) -> u8
+pub(crate) fn lowest_number(low: Option<u8>) -> u8
     ensures { result ≡ lowest_no low }
 {
     match low {
-        Lowest::Circuit(n) => n,
-        Lowest::Nothing => 0,
+        Some(n) => n,
+        None => 0,
     }
 }
 
@@ -140,21 +137,17 @@ fn mark_number(m: Mark) -> u8
     }
 }
 
-fn reverse_number(m: ReverseMetric) -> u64
+fn reverse_number(m: Option<ReverseMetric>) -> u64
     ensures { (result ≡ reverse_no (is_reversed m) (offset_of m) (whole_of m) (unreachable_of m)) × (result + 2 ^ 31 < 2 ^ 64) }
 {
     match m {
-        ReverseMetric::Absent => 0,
-        ReverseMetric::Present {
-            offset,
-            whole,
-            unreachable,
-        } => 16 + 32 * digit(whole) + 64 * digit(unreachable) + FIFTH * offset as u64,
+        None => 0,
+        Some(r) => 16 + 32 * digit(r.whole) + 64 * digit(r.unreachable) + FIFTH * r.offset as u64,
     }
 }
 
 pub(crate) fn data_number(m: Mark, d: Data) -> u64
-    ensures { result ≡ record_no (record_answer (Present (Up d m))) }
+    ensures { result ≡ record_no (record_answer (Some (Up d m))) }
 {
     let last = d.last;
     let reverse = last.reverse;

@@ -13,9 +13,9 @@ use basics::mask::CIRCUITS;
 use basics::refusal::Refusal;
 use gateway::setup::{put_circuit, start};
 use gateway::whole::GATEWAY_WORDS;
-use model::answers::SetUp;
 use settings::circuit::{is_between, is_circuit_ok};
 use settings::setup::are_lengths_ok;
+use timers::hellos::HelloOrders;
 
 fn are_circuits_ok(s: &[u8], count: usize) -> bool
     requires { (length s.now ≡ settings_octets) × (count ≤ circuits) }
@@ -59,14 +59,17 @@ fn put_circuits(gateway: &mut [u64; GATEWAY_WORDS], s: &[u8])
 }
 
 // Refusal 12, or a new gateway, whatever the words were.
-pub(crate) fn set_up_from(gateway: &mut [u64; GATEWAY_WORDS], s: &[u8]) -> SetUp
+pub(crate) fn set_up_from(
+    gateway: &mut [u64; GATEWAY_WORDS],
+    s: &[u8],
+) -> Result<HelloOrders, Refusal>
     requires { length s.now ≡ settings_octets }
     ensures { SetsUpWhole (setup (settings_from s.now)) gateway.old gateway.new result }
 {
     if are_settings_ok(s) {
         put_circuits(gateway, s);
         let hellos = start(gateway, basis_in(s));
-        return SetUp::Done(hellos);
+        return Ok(hellos);
     }
-    SetUp::Refused(Refusal::BadSetting)
+    Err(Refusal::BadSetting)
 }

@@ -8,7 +8,7 @@ ghost use Rattle.gateway.specs.Whole.{frame_octets};
 ghost use Rattle.isis_gr.specs.Encodes.{EncodesWith, EncodesFrameWith, Encodes};
 ghost use Rattle.isis_gr.specs.Words.{answer_no};
 
-use chunks::slot::Handed;
+use basics::refusal::Refusal;
 use gateway::calls::{add_chunk, begin_frame, end_frame};
 use gateway::pieces::FRAME_OCTETS;
 use gateway::whole::GATEWAY_WORDS;
@@ -16,12 +16,12 @@ use isis_gr::answers::{ReceivedWords, received_words};
 use model::numbers::number_of;
 
 // The answer of a begin or a chunk.
-fn handed_word(a: Handed) -> u32
+fn handed_word(a: Result<(), Refusal>) -> u32
     ensures { result ≡ answer_no (handed_of a) }
 {
     match a {
-        Handed::Refused(x) => number_of(x) as u32,
-        Handed::Done => 0,
+        Err(x) => number_of(x) as u32,
+        Ok(()) => 0,
     }
 }
 

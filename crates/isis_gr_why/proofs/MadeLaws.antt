@@ -9,14 +9,11 @@ use Rattle.basics.specs.declared.refusal.Refusal.TheVariants.{NoCircuit}
 use Rattle.adjacency.specs.Keys.{key_on}
 use Rattle.room.specs.Table.{find}
 use Rattle.adjacency.specs.declared.record.Key.{Key}
-use Rattle.settings.specs.declared.circuit.Chosen.{Chosen}
-use Rattle.settings.specs.declared.circuit.Chosen.TheVariants.{Known, Unknown}
 use Rattle.control.specs.Common.{Common, circuit_of}
 use Rattle.model.specs.Answers.{Answer, Fact, Looked, HelloFlags, record_answer, received_of}
 use Rattle.model.specs.Gateway.{Gateway, Room, room_of}
 use Rattle.model.specs.Receive.{Acted, refuse}
 use Rattle.model.specs.Step.{Call as CallMade, LookUp, LinkMetric, NextHello, Receive, Waiting, At, Over, told, asks_level, flags_at, look_up, link_metric_of, next_hello, act, lift, on, at, judge, carry, step}
-use Rattle.model.specs.declared.answers.Received.{Received}
 use Rattle.model.proofs.FrameLaws.{is_hand, frames-kept}
 use Rattle.own_words.specs.Words.{gateway_of}
 use Rattle.gateway.specs.Whole.{whole_of, Does}
@@ -30,6 +27,9 @@ use Rattle.reasons.specs.declared.why.Reason.{Reason}
 use Rattle.isis_gr_why.specs.Explains.{replied}
 use Rattle.isis_gr_why.specs.Told.{MadeOn}
 use Rattle.isis_gr_why.specs.declared.made.Made.TheVariants.{Frame, Other}
+use Rattle.std.specs.Prelude.{Option, Some, None, Result}
+use Rattle.settings.specs.declared.circuit.Circuit.{Circuit}
+use Rattle.model.specs.declared.answers.Orders.{Orders}
 
 -- what a call of document 01 leaves of the own words, and of the frames
 module _ {c : CallMade} {a : Answer} {ws ws' b' : List ℕ} (plain : is_hand c ≡ false) (d : Does c a ws ws' b') where
@@ -40,7 +40,7 @@ module _ {c : CallMade} {a : Answer} {ws ws' b' : List ℕ} (plain : is_hand c �
   same-frames fs = ap (λ (g : Gateway). g.unfinished) (d fs).next ∙ frames-kept (whole_of ws fs) c plain
 
 module _ (call : Call) (mac : ℕ) (frame b ws ws' b' : List ℕ) where
-  pub made-frame : (n : ℕ) (a : Received) → call ≡ ReceiveOn n → Does (At n (Receive mac frame b)) (received_of a) ws ws' b' → MadeOn call mac frame b ws ws' b' (Frame n a)
+  pub made-frame : (n : ℕ) (a : Result Orders Refusal) → call ≡ ReceiveOn n → Does (At n (Receive mac frame b)) (received_of a) ws ws' b' → MadeOn call mac frame b ws ws' b' (Frame n a)
   made-frame n a e d =
       let m = own-does refl d in
       rw e (record { makes = record { next = λ k. m.next; frames = same-frames refl d; reply = λ k. m.reply }; tells = λ k. (refl, m.answer) })
@@ -78,9 +78,9 @@ module _ (g : Gateway) (n : ℕ) where
   unfolding step at on act look_up
   looked-same k = go (circuit_of g.common n)
     where
-      go : (q : Chosen) → g ≡ (on g n (LookUp k) q).next
-      go Unknown = refl
-      go (Known s) =
+      go : (q : Option Circuit) → g ≡ (on g n (LookUp k) q).next
+      go None = refl
+      go (Some s) =
           asked-same (act n s (LookUp k)) (asks_level s.kind s.levels k.level) (Looked (record_answer (find (key_on s.kind k) (room_of g n).slots))) NoCircuit
           refl
 
@@ -88,17 +88,17 @@ module _ (g : Gateway) (n : ℕ) where
   unfolding step at on act link_metric_of
   measured-same = go (circuit_of g.common n)
     where
-      go : (q : Chosen) → g ≡ (on g n LinkMetric q).next
-      go Unknown = refl
-      go (Known s) = lift-same (act n s LinkMetric) refl refl
+      go : (q : Option Circuit) → g ≡ (on g n LinkMetric q).next
+      go None = refl
+      go (Some s) = lift-same (act n s LinkMetric) refl refl
 
   pub flagged-same : (level : ℕ) → g ≡ (step g (At n (NextHello level))).next
   unfolding step at on act next_hello
   flagged-same level = go (circuit_of g.common n)
     where
-      go : (q : Chosen) → g ≡ (on g n (NextHello level) q).next
-      go Unknown = refl
-      go (Known s) = asked-same (act n s (NextHello level)) (has_level s.levels level) (HelloFlags (flags_at n s level g.common.timers)) NoCircuit refl
+      go : (q : Option Circuit) → g ≡ (on g n (NextHello level) q).next
+      go None = refl
+      go (Some s) = asked-same (act n s (NextHello level)) (has_level s.levels level) (HelloFlags (flags_at n s level g.common.timers)) NoCircuit refl
 
 pub waiting-same : (g : Gateway) → g ≡ (step g (Over Waiting)).next
 unfolding step judge carry

@@ -24,16 +24,11 @@ use Rattle.adjacency.proofs.KeysLaws.{key-level}
 use Rattle.adjacency.specs.Keys.{key_on, level_in, key_in}
 use Rattle.adjacency.specs.React.{line_in, react_of}
 use Rattle.adjacency.specs.Step.{wrong_source, level_off}
-use Rattle.adjacency.specs.declared.marks.Acknowledgement.{Acknowledgement}
-use Rattle.adjacency.specs.declared.marks.Acknowledgement.TheVariants.{Nothing as NoReply, Send}
 use Rattle.adjacency.specs.declared.marks.Line.{Line}
 use Rattle.adjacency.specs.declared.marks.Line.TheVariants.{One, Two, Three, Four, Five}
-use Rattle.adjacency.specs.declared.react.Reaction.TheVariants.{Accepted}
-use Rattle.adjacency.specs.declared.record.Adjacency.{Adjacency}
 use Rattle.adjacency.specs.declared.record.Key.{Key}
 use Rattle.adjacency.specs.declared.step.Here.{Here}
 use Rattle.slots.specs.Slots.{table_of, room_words}
-use Rattle.settings.specs.declared.circuit.Chosen.TheVariants.{Known, Unknown}
 use Rattle.settings.specs.declared.circuit.Circuit.{Circuit}
 use Rattle.control.specs.Common.{circuit_of}
 use Rattle.model.specs.Answers.{Answer, Received, FrameAnswer, frame_answer}
@@ -51,22 +46,25 @@ use Rattle.reasons.specs.Why.{Why, NotSo, Fits, line_no, by_duty, by_line, stand
 use Rattle.reasons.specs.declared.why.Duty.{Duty}
 use Rattle.isis_gr_why.proofs.StandingLaws.{standing_by}
 use Rattle.isis_gr_why.specs.Told.{line_told}
+use Rattle.std.specs.Prelude.{Option, Some, None, Ok}
+use Rattle.restart_tlv.specs.declared.writer.Ack.{Ack}
+use Rattle.adjacency.specs.declared.record.State.{State}
 
 -- ---- who has the duty
 
-module _ (ws ws' : List ℕ) (n : ℕ) (s : Circuit) (known : circuit_of (gateway_of ws).common n ≡ Known s) where
+module _ (ws ws' : List ℕ) (n : ℕ) (s : Circuit) (known : circuit_of (gateway_of ws).common n ≡ Some s) where
   abbrev a : ℕ
   a = room_place (n - 1)
 
   pub outranked-by : 0 < n → n ≤ circuits → (level : ℕ) (d : Duty)
       → d ≡ duty_in (record { level = level; priority = s.priority; mac = s.mac }) (table_of (part a (a + room_words - a) ws'))
-      → (t : Circuit) (h : Hello) → circuit_of (gateway_of ws).common n ≡ Known t → level ≡ level_in h.link
+      → (t : Circuit) (h : Hello) → circuit_of (gateway_of ws).common n ≡ Some t → level ≡ level_in h.link
       → by_duty d ≡ by_duty (duty_in (rank_of t h) (room_of (gateway_of ws') n).slots)
   outranked-by lo hi level d e t h k q =
       let same : s ≡ t = cc in
       ap by_duty (e ∙ (λ i. duty_in (record { level = q i; priority = (same i).priority; mac = (same i).mac }) (room-of ws' n lo hi i)))
 
-pub not-unknown : (g : Gateway) (n : ℕ) (s : Circuit) → circuit_of g.common n ≡ Unknown → circuit_of g.common n ≡ Known s → ⊥
+pub not-unknown : (g : Gateway) (n : ℕ) (s : Circuit) → circuit_of g.common n ≡ None → circuit_of g.common n ≡ Some s → ⊥
 not-unknown g n s e k = let z : ◌≡◌ {A = ℕ} 0 1 = cc in omega arith
 
 -- every line but line 1 is named
@@ -94,11 +92,11 @@ unfolding key_on
 key-system LanCircuit k = refl
 key-system P2pCircuit k = refl
 
-line-is : (here : Here) (h : Hello) (before after : Adjacency) (reply : Acknowledgement) (line : Line) → react_of here h before ≡ Accepted after reply line
+line-is : (here : Here) (h : Hello) (before after : Option State) (reply : Option (Ack × ℕ)) (line : Line) → react_of here h before ≡ Ok (after, reply, line)
     → line_told (reply_flags reply) before ≡ line
-line-is here h before after NoReply line e = sym (line-silent here h before after NoReply line e refl)
-line-is here h before after (Send RestartAck time) line e = sym (line-restart here h before after (Send RestartAck time) line e time refl)
-line-is here h before after (Send PlannedAck time) line e = sym (line-planned here h before after (Send PlannedAck time) line e time refl)
+line-is here h before after None line e = sym (line-silent here h before after None line e refl)
+line-is here h before after (Some (RestartAck, time)) line e = sym (line-restart here h before after (Some (RestartAck, time)) line e time refl)
+line-is here h before after (Some (PlannedAck, time)) line e = sym (line-planned here h before after (Some (PlannedAck, time)) line e time refl)
 
 module _ (g : Gateway) (n mac : ℕ) (frame b : List ℕ) (o : Orders) (t : Took g n mac frame b (frame_answer o)) where
   abbrev s : Circuit
@@ -121,13 +119,13 @@ module _ (g : Gateway) (n mac : ℕ) (frame b : List ℕ) (o : Orders) (t : Took
 
   -- the record before is that of the frame's key
   there : (level system : ℕ) → level ≡ level_in h.link → system ≡ h.system
-      → stands_on g n (record { level = level; system = system; mac = mac }) (Known s) ≡ record_at g n k
+      → stands_on g n (record { level = level; system = system; mac = mac }) (Some s) ≡ record_at g n k
   unfolding stands_on wrong_source
   there level system p q =
       rw (p, q, asked-there s.kind s.levels h.link kind-read (neither (level_off s.levels h.link) _ t.source).0) refl
 
   told-record : standing g n (record { level = o.change.level; system = o.change.system; mac = mac }) ≡ record_at g n k
-  told-record = sym (standing_by g n _ (Known s) t.known) ∙ there o.change.level o.change.system told-level told-system
+  told-record = sym (standing_by g n _ (Some s) t.known) ∙ there o.change.level o.change.system told-level told-system
 
   told_line : line_told (reply_flags o.reply) (record_at g n k) ≡ line_in (here_of g.common s) h (record_at g n k)
   unfolding record_at
@@ -152,9 +150,9 @@ module _ (g : Gateway) (n mac : ℕ) (frame b : List ℕ) (o : Orders) where
   pub silent-ordered : is_ordered o.csnps ≡ true → (c : Call) → c ≡ At n (Receive mac frame b) → Silent c NotSo
   silent-ordered e c p = rw p (ordered_at e)
 
-  module _ (e : is_ordered o.csnps ≡ false) (stood : Adjacency) (se : stood ≡ standing g n (record { level = o.change.level; system = o.change.system; mac = mac }))
+  module _ (e : is_ordered o.csnps ≡ false) (stood : Option State) (se : stood ≡ standing g n (record { level = o.change.level; system = o.change.system; mac = mac }))
       (line : Line) (le : line ≡ line_told (reply_flags o.reply) stood) (w : Why) (next : Gateway)
-      (f : (t : Circuit) (j : Hello) → circuit_of g.common n ≡ Known t → o.change.level ≡ level_in j.link → w ≡ by_line line (duty_in (rank_of t j) (room_of next n).slots)) where
+      (f : (t : Circuit) (j : Hello) → circuit_of g.common n ≡ Some t → o.change.level ≡ level_in j.link → w ≡ by_line line (duty_in (rank_of t j) (room_of next n).slots)) where
     fits-at : next ≡ (step g (At n (Receive mac frame b))).next → Silent (At n (Receive mac frame b)) w
     fits-at ne q =
         let t = took g n mac frame b (frame_answer o) (sym q) in

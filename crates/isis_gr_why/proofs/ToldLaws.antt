@@ -10,14 +10,13 @@ use Rattle.model.specs.Answers.{Answer}
 use Rattle.model.specs.Gateway.{Gateway}
 use Rattle.model.specs.Step.{Receive, Release, Clear, CsnpComplete, LookUp, LinkMetric, NextHello, Call, At, Over, Hand, Outcome}
 use Rattle.model.specs.declared.answers.Orders.{Orders}
-use Rattle.model.specs.declared.answers.Received.{Received}
-use Rattle.model.specs.declared.answers.Received.TheVariants.{Refused as RefusedFrame, Done as DoneFrame}
 use Rattle.reasons.specs.Holds.{is_receive}
 use Rattle.reasons.specs.Why.{NotSo, NoRecord, Refused, of_receive, unknown, turned_away, gone_by, no_csnps, unordered, reason_of}
 use Rattle.reasons.specs.declared.why.Reason.{Reason}
 use Rattle.isis_gr_why.specs.Told.{Tells}
 use Rattle.isis_gr_why.specs.declared.made.Made.{Made}
 use Rattle.isis_gr_why.specs.declared.made.Made.TheVariants.{Frame, Other}
+use Rattle.std.specs.Prelude.{Result, Ok, Err}
 
 -- ---- a call that is no receive
 
@@ -47,7 +46,7 @@ module _ (made : Made) (w : Reason) (e : made ≡ Other w) (mac : ℕ) (frame b 
 
 -- ---- a receive
 
-module _ (made : Made) (n : ℕ) (a : Received) (e : made ≡ Frame n a) (mac : ℕ) (frame b : List ℕ) (c : Call) (x : Answer) (t : Tells made mac frame b c x) where
+module _ (made : Made) (n : ℕ) (a : Result Orders Refusal) (e : made ≡ Frame n a) (mac : ℕ) (frame b : List ℕ) (c : Call) (x : Answer) (t : Tells made mac frame b c x) where
   pub told-frame : Tells (Frame n a) mac frame b c x
   told-frame = rw e at t
 
@@ -56,11 +55,11 @@ module _ (made : Made) (n : ℕ) (a : Received) (e : made ≡ Frame n a) (mac : 
   unfolding gone_by
   went-frame = rw told-frame.0 refl
 
-  pub unknown-accepted : (m : ℕ) (o : Orders) → a ≡ DoneFrame o → NoRecord ≡ unknown m c x
+  pub unknown-accepted : (m : ℕ) (o : Orders) → a ≡ Ok o → NoRecord ≡ unknown m c x
   unfolding turned_away
   unknown-accepted m o d = rw (told-frame.0, sym told-frame.1, d) refl
 
-  module _ (y : Refusal) (d : a ≡ RefusedFrame y) where
+  module _ (y : Refusal) (d : a ≡ Err y) where
     pub unknown-there : (m : ℕ) → n ≡ m → Refused y ≡ unknown m c x
     unfolding turned_away
     unknown-there m q = rw (told-frame.0, sym told-frame.1, d, eq-eqb n m q) refl

@@ -1,12 +1,11 @@
 -- What is known of the call once it was made, for the code: its answer, if it is a receive, and else why a record may be gone after it; and the line
 -- that fitted a frame, told by its reply.
-use Rattle.std.specs.Prelude.{ℕ, ◌≡◌, false, cond, List, eqb}
+use Rattle.std.specs.Prelude.{ℕ, ◌≡◌, false, cond, List, eqb, Option}
 use Rattle.restart_tlv.specs.Flags.{RA, PA}
 use Rattle.adjacency.specs.Marks.{last_line}
 use Rattle.adjacency.specs.Record.{phase_of, mark_of, is_up}
 use Rattle.adjacency.specs.declared.marks.Line.{Line}
 use Rattle.adjacency.specs.declared.marks.Line.TheVariants.{One, Two, Three}
-use Rattle.adjacency.specs.declared.record.Adjacency.{Adjacency}
 use Rattle.adjacency.specs.declared.record.Key.{Key}
 use Rattle.model.specs.Answers.{Answer, received_of}
 use Rattle.model.specs.Step.{Call, At, Receive, step}
@@ -17,6 +16,7 @@ use Rattle.reasons.specs.declared.why.Call.{Call as CallGiven}
 use Rattle.isis_gr_why.specs.Explains.{Makes}
 use Rattle.isis_gr_why.specs.declared.made.Made.{Made}
 use Rattle.isis_gr_why.specs.declared.made.Made.TheVariants.{Frame, Other}
+use Rattle.adjacency.specs.declared.record.State.{State}
 
 -- what the code holds of the call c, whose answer is x
 abbrev pub Tells : Made → ℕ → List ℕ → List ℕ → Call → Answer → Type 0
@@ -30,5 +30,5 @@ pub record MadeOn (call : CallGiven) (mac : ℕ) (frame b ws ws' b' : List ℕ) 
 
 -- The line that fitted an accepted frame, by the flags of its reply and the record that stood: line 1 or 2 where it is RA, line 3 where it is PA, and
 -- else 4 or 5.
-abbrev pub line_told : ℕ → Adjacency → Line
+abbrev pub line_told : ℕ → Option State → Line
 line_told flags stood = cond (eqb flags RA) (cond (is_up (phase_of stood)) One Two) (cond (eqb flags PA) Three (last_line (mark_of stood)))

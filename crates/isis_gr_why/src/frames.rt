@@ -3,7 +3,6 @@ ghost use Rattle.std.specs.Prelude.{◌≡◌, List, ℕ, length};
 ghost use Rattle.hello.specs.declared.read.Hello.{Hello};
 ghost use Rattle.adjacency.specs.Keys.{level_in};
 ghost use Rattle.settings.specs.declared.circuit.Circuit.{Circuit};
-ghost use Rattle.settings.specs.declared.circuit.Chosen.TheVariants.{Known};
 ghost use Rattle.control.specs.Common.{circuit_of};
 ghost use Rattle.model.specs.Answers.{Received as ReceivedAnswer};
 ghost use Rattle.model.specs.Answers.{frame_answer};
@@ -20,23 +19,22 @@ ghost use Rattle.isis_gr_why.specs.Told.{Tells, line_told};
 use crate::duty::duty_in;
 use crate::made::Made;
 use crate::standing::standing_in;
-use adjacency::duty::{Csnps, Rank};
-use adjacency::marks::{Acknowledgement, Line, road_of};
-use adjacency::record::{Adjacency, Key, Phase, mark_of, phase_of};
+use adjacency::duty::Rank;
+use adjacency::marks::{Line, Reply, road_of};
+use adjacency::record::{Key, Phase, State, mark_of, phase_of};
 use adjacency::step::is_up;
 use control::words::{CONTROL_WORDS, circuit_of};
-use model::answers::{Orders, Received};
+use model::answers::Orders;
 use reasons::why::{Duty, Reason};
 use restart_tlv::reader::RestartTlv;
 use restart_tlv::writer::Ack;
-use settings::circuit::Chosen;
 use slots::slot::ROOM_WORDS;
 
 // The line that fitted a frame. Where no reply was due it is that of a frame without flags.
-fn line_told(reply: Acknowledgement, stood: Adjacency) -> Line
+fn line_told(reply: Option<Reply>, stood: Option<State>) -> Line
     ensures { result ≡ line_told (reply_flags reply) stood }
 {
-    let Acknowledgement::Send(ack, _) = reply else {
+    let Some((ack, _)) = reply else {
         let mark = mark_of(stood);
         let road = road_of(RestartTlv::Absent, mark, false, Phase::Gone, Phase::Gone);
         let line = road.line;
@@ -54,9 +52,9 @@ fn line_told(reply: Acknowledgement, stood: Adjacency) -> Line
 // Who has the duty on circuit n at a level, of the room as the frame left it. The circuit's settings are those before, which no call changes.
 fn why_outranked(before: &[u64], after: &[u64], n: u8, level: u8) -> Reason
     requires { (length before.now ≡ gateway_words) × (length after.now ≡ gateway_words) }
-    ensures { (s : Circuit) (h : Hello) → circuit_of (gateway_of before.now).common n ≡ Known s → level ≡ level_in h.link → reason_of result ≡ by_duty (duty_in (rank_of s h) (room_of (gateway_of after.now) n).slots) }
+    ensures { (s : Circuit) (h : Hello) → circuit_of (gateway_of before.now).common n ≡ Some s → level ≡ level_in h.link → reason_of result ≡ by_duty (duty_in (rank_of s h) (room_of (gateway_of after.now) n).slots) }
 {
-    let Chosen::Known(s) = circuit_of(&before[0..CONTROL_WORDS], n) else {
+    let Some(s) = circuit_of(&before[0..CONTROL_WORDS], n) else {
         return Reason::NotSo;
     };
     let rank = Rank {
@@ -83,7 +81,7 @@ fn why_outranked(before: &[u64], after: &[u64], n: u8, level: u8) -> Reason
 // By the line that fitted.
 fn why_by(before: &[u64], after: &[u64], n: u8, level: u8, line: Line) -> Reason
     requires { (length before.now ≡ gateway_words) × (length after.now ≡ gateway_words) }
-    ensures { (s : Circuit) (h : Hello) → circuit_of (gateway_of before.now).common n ≡ Known s → level ≡ level_in h.link → reason_of result ≡ by_line line (duty_in (rank_of s h) (room_of (gateway_of after.now) n).slots) }
+    ensures { (s : Circuit) (h : Hello) → circuit_of (gateway_of before.now).common n ≡ Some s → level ≡ level_in h.link → reason_of result ≡ by_line line (duty_in (rank_of s h) (room_of (gateway_of after.now) n).slots) }
 {
     let Line::One = line else {
         return Reason::Fits(line);
@@ -97,7 +95,7 @@ fn why_unordered(before: &[u64], after: &[u64], n: u8, mac: u64, orders: Orders)
     ensures { (frame b : List ℕ) (c : Call) → c ≡ At n (Receive mac frame b) → ReceivedAnswer (frame_answer orders) ≡ (step (gateway_of before.now) c).answer → gateway_of after.now ≡ (step (gateway_of before.now) c).next → reason_of result ≡ no_csnps (gateway_of before.now) c (step (gateway_of before.now) c) }
 {
     let csnps = orders.csnps;
-    let Csnps::Nothing = csnps else {
+    let None = csnps else {
         return Reason::NotSo;
     };
     let change = orders.change;
@@ -122,7 +120,7 @@ pub(crate) fn why_silent(before: &[u64], after: &[u64], made: Made, mac: u64) ->
         return Reason::NotSo;
     };
     match answer {
-        Received::Refused(x) => Reason::Refused(x),
-        Received::Done(orders) => why_unordered(before, after, n, mac, orders),
+        Err(x) => Reason::Refused(x),
+        Ok(orders) => why_unordered(before, after, n, mac, orders),
     }
 }

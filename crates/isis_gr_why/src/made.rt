@@ -1,16 +1,17 @@
-// The call in question, made on a memory by the function of crate gateway that makes it. Those that only ask change nothing.
+// The call in question, made on a memory by the function of crate gateway that makes it. Those that only ask change nothing, and a refusal counts as no change.
 ghost use Rattle.basics.specs.Octets.{big};
 ghost use Rattle.isis_gr_why.specs.Told.{MadeOn};
 
+use basics::refusal::Refusal;
 use gateway::calls::{clear, csnp_complete, database_complete, receive, release, tick};
 use gateway::whole::GATEWAY_WORDS;
-use model::answers::Received;
+use model::answers::Orders;
 use reasons::why::{Call, Reason};
 
 // A receive on a circuit, with its answer; or another call, and why a record that stood may be gone after it.
 #[derive(Clone, Copy)]
 pub enum Made {
-    Frame(u8, Received),
+    Frame(u8, Result<Orders, Refusal>),
     Other(Reason),
 }
 
@@ -26,23 +27,23 @@ pub(crate) fn make(
     match call {
         Call::Receive(n) => Made::Frame(n, receive(after, n, source, frame, reply)),
         Call::Tick(clock) => {
-            tick(after, clock);
+            let _ = tick(after, clock);
             Made::Other(Reason::Expired)
         }
         Call::Release(n) => {
-            release(after, n);
+            let _ = release(after, n);
             Made::Other(Reason::Released)
         }
         Call::Clear(n) => {
-            clear(after, n);
+            let _ = clear(after, n);
             Made::Other(Reason::Cleared)
         }
         Call::CsnpComplete { circuit, level } => {
-            csnp_complete(after, circuit, level);
+            let _ = csnp_complete(after, circuit, level);
             Made::Other(Reason::NotSo)
         }
         Call::DatabaseComplete(level) => {
-            database_complete(after, level);
+            let _ = database_complete(after, level);
             Made::Other(Reason::NotSo)
         }
         Call::LookUp(_) => Made::Other(Reason::NotSo),

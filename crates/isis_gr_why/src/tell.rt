@@ -6,8 +6,7 @@ ghost use Rattle.reasons.specs.Why.{unknown, not_advertised, gone_by, vanished, 
 ghost use Rattle.isis_gr_why.specs.Told.{Tells};
 
 use crate::made::Made;
-use adjacency::record::{Adjacency, State};
-use model::answers::Received;
+use adjacency::record::State;
 use reasons::why::Reason;
 
 // No record stands after the call: a receive that was refused on the circuit, or nothing more.
@@ -17,7 +16,7 @@ fn why_unknown(made: Made, circuit: u8) -> Reason
     let Made::Frame(n, answer) = made else {
         return Reason::NoRecord;
     };
-    let Received::Refused(x) = answer else {
+    let Err(x) = answer else {
         return Reason::NoRecord;
     };
     if n == circuit {
@@ -27,10 +26,10 @@ fn why_unknown(made: Made, circuit: u8) -> Reason
 }
 
 // Of the record after the call.
-pub(crate) fn why_hidden(left: Adjacency, made: Made, circuit: u8) -> Reason
+pub(crate) fn why_hidden(left: Option<State>, made: Made, circuit: u8) -> Reason
     ensures { (mac : ℕ) (frame b : List ℕ) (c : Call) (x : Answer) → Tells made mac frame b c x → reason_of result ≡ not_advertised circuit c x left }
 {
-    let Adjacency::Present(state) = left else {
+    let Some(state) = left else {
         return why_unknown(made, circuit);
     };
     let State::Up(data, _) = state else {
@@ -52,13 +51,13 @@ fn why_went(made: Made) -> Reason
 }
 
 // Of the record before the call and after it.
-pub(crate) fn why_gone(stood: Adjacency, left: Adjacency, made: Made) -> Reason
+pub(crate) fn why_gone(stood: Option<State>, left: Option<State>, made: Made) -> Reason
     ensures { (mac : ℕ) (frame b : List ℕ) (c : Call) (x : Answer) → Tells made mac frame b c x → reason_of result ≡ vanished c stood left }
 {
-    let Adjacency::Present(_) = stood else {
+    let Some(_) = stood else {
         return Reason::NotSo;
     };
-    let Adjacency::Absent = left else {
+    let None = left else {
         return Reason::NotSo;
     };
     why_went(made)

@@ -3,18 +3,17 @@ use Prim.Native.Nat.{ℕ}
 use mathlib.Core.Path.{◌≡◌, refl}
 use mathlib.Core.Bool.{Bool, true, false}
 use Rattle.basics.specs.declared.kind.CircuitKind.TheVariants.{P2p}
-use Rattle.hello.specs.declared.reverse.ReverseMetric.TheVariants.{Present as SomeMetric}
-use Rattle.adjacency.specs.declared.record.Adjacency.{Adjacency}
-use Rattle.adjacency.specs.declared.record.Adjacency.TheVariants.{Present}
 use Rattle.adjacency.specs.declared.record.State.TheVariants.{Up}
 use Rattle.adjacency.specs.declared.record.Mark.TheVariants.{Clear}
 use Rattle.metric.specs.Metric.{held_to, link_metric}
+use Rattle.std.specs.Prelude.{Option, Some}
+use Rattle.adjacency.specs.declared.record.State.{State}
 
 -- an UP record whose last frame had this offset, without or with U
-abbrev asking : ℕ → Bool → Adjacency
+abbrev asking : ℕ → Bool → Option State
 asking offset unreachable =
-    Present
-    (Up (record { expiry = 100; suppressed = false; last = record { priority = 0; tlv = false; reverse = SomeMetric offset false unreachable } }) Clear)
+    Some
+    (Up (record { expiry = 100; suppressed = false; last = record { priority = 0; tlv = false; reverse = Some (record { offset = offset; whole = false; unreachable = unreachable }) } }) Clear)
 
 pub c10 : (link_metric P2p 10 (asking 5 false) ≡ 15)
     × (link_metric P2p 16_777_210 (asking 10 false) ≡ 16_777_214)

@@ -5,7 +5,7 @@
 ghost use Rattle.std.specs.Prelude.{◌≡◌, ◌+◌};
 ghost use Rattle.metric.specs.Metric.{held_to, limit_of, raised, state_metric, link_metric};
 
-use adjacency::record::{Adjacency, State};
+use adjacency::record::State;
 use basics::kind::CircuitKind;
 use hello::reverse::ReverseMetric;
 
@@ -34,18 +34,13 @@ fn limit_of(unreachable: bool) -> u32
     MAX_LINK_METRIC
 }
 
-fn raise(configured: u32, reverse: ReverseMetric) -> u32
+fn raise(configured: u32, reverse: Option<ReverseMetric>) -> u32
     ensures { result ≡ raised configured reverse }
 {
-    let ReverseMetric::Present {
-        offset,
-        whole: _,
-        unreachable,
-    } = reverse
-    else {
+    let Some(asked) = reverse else {
         return configured;
     };
-    held_sum(limit_of(unreachable), configured, offset)
+    held_sum(limit_of(asked.unreachable), configured, asked.offset)
 }
 
 fn metric_of(configured: u32, state: State) -> u32
@@ -60,13 +55,13 @@ fn metric_of(configured: u32, state: State) -> u32
 }
 
 // The metric of a circuit with this record, if one stands.
-pub fn link_metric(kind: CircuitKind, configured: u32, adjacency: Adjacency) -> u32
+pub fn link_metric(kind: CircuitKind, configured: u32, adjacency: Option<State>) -> u32
     ensures { result ≡ link_metric kind configured adjacency }
 {
     let CircuitKind::P2p = kind else {
         return configured;
     };
-    let Adjacency::Present(state) = adjacency else {
+    let Some(state) = adjacency else {
         return configured;
     };
     metric_of(configured, state)

@@ -12,19 +12,12 @@ use Rattle.basics.proofs.BoolLaws.{by-test}
 use Rattle.hello.specs.Hello.{hello_read}
 use Rattle.basics.specs.declared.kind.CircuitKind.TheVariants.{Lan}
 use Rattle.hello.specs.declared.read.Hello.{Hello}
-use Rattle.hello.specs.declared.read.Read.{Read}
-use Rattle.hello.specs.declared.read.Read.TheVariants.{Refused as RefusedRead, Accepted as ReadAs}
 use Rattle.basics.specs.declared.refusal.Refusal.{Refusal}
 use Rattle.basics.specs.declared.refusal.Refusal.TheVariants.{NoCircuit, ReplyRoom, WrongSource, NoRoom, NotRestarting}
 use Rattle.adjacency.specs.React.{react_of}
 use Rattle.basics.specs.Levels.{has_level}
 use Rattle.adjacency.specs.Step.{wrong_source}
-use Rattle.adjacency.specs.declared.marks.Acknowledgement.{Acknowledgement}
 use Rattle.adjacency.specs.declared.marks.Line.{Line}
-use Rattle.adjacency.specs.declared.react.Reaction.{Reaction}
-use Rattle.adjacency.specs.declared.react.Reaction.TheVariants.{Refused as RefusedReaction, Accepted}
-use Rattle.adjacency.specs.declared.record.Adjacency.{Adjacency}
-use Rattle.adjacency.specs.declared.record.Adjacency.TheVariants.{Absent, Present}
 use Rattle.adjacency.specs.declared.record.Key.{Key}
 use Rattle.adjacency.specs.declared.record.State.{State}
 use Rattle.adjacency.specs.Keys.{same_key, key_on, key_in}
@@ -44,6 +37,9 @@ use Rattle.model.specs.Gateway.{Room}
 use Rattle.model.specs.Receive.{Acted, refuse, here_of, said_of, t1_of, accepted, reacted, decided_in, checked, read_in, is_short, receive}
 use Rattle.model.specs.Step.{Local, Receive, Release, Clear, CsnpComplete, LookUp, LinkMetric, NextHello, csnp_complete, asks_level, look_up, link_metric_of, next_hello, act}
 use Rattle.model.specs.Claim.{Neighbour, is_sent, is_nine, unordered, compared_there}
+use Rattle.std.specs.Prelude.{Option, Some, None, Result, Ok, Err}
+use Rattle.adjacency.specs.React.{Reaction}
+use Rattle.restart_tlv.specs.declared.writer.Ack.{Ack}
 
 -- the records of every MAC but m are the same
 pub record ButFor (m : ℕ) (t₁ t₂ : List Slot) : Type 0 where
@@ -65,11 +61,11 @@ pub but-for-sweep : {m : ℕ} {t₁ t₂ : List Slot} (p : State → Bool) → B
 but-for-sweep {t₁} {t₂} p b = record { at = λ k h. cc (gather-sweep p k t₁, gather-sweep p k t₂, b.at k h) }
 
 -- the same record is kept in both
-but-for-kept : {m : ℕ} {t₁ t₂ : List Slot} (k : Key) (a : Adjacency) → crowded k t₁ ≡ false → crowded k t₂ ≡ false → ButFor m t₁ t₂
+but-for-kept : {m : ℕ} {t₁ t₂ : List Slot} (k : Key) (a : Option State) → crowded k t₁ ≡ false → crowded k t₂ ≡ false → ButFor m t₁ t₂
     → ButFor m (kept k a t₁) (kept k a t₂)
 unfolding kept
-but-for-kept k Absent e₁ e₂ b = b
-but-for-kept {t₁} {t₂} k (Present s) e₁ e₂ b =
+but-for-kept k None e₁ e₂ b = b
+but-for-kept {t₁} {t₂} k (Some s) e₁ e₂ b =
     record {
       at = λ j h.
           let p = b.at j h in
@@ -78,10 +74,10 @@ but-for-kept {t₁} {t₂} k (Present s) e₁ e₂ b =
     }
 
 -- a record of the MAC m is kept: nothing else is changed
-kept-but-for : {m : ℕ} (k : Key) (a : Adjacency) (t : List Slot) → k.mac ≡ m → ButFor m (kept k a t) t
+kept-but-for : {m : ℕ} (k : Key) (a : Option State) (t : List Slot) → k.mac ≡ m → ButFor m (kept k a t) t
 unfolding kept
-kept-but-for {m} k Absent t e = but-for-refl m t
-kept-but-for k (Present s) t e =
+kept-but-for {m} k None t e = but-for-refl m t
+kept-but-for k (Some s) t e =
     record { at = λ j h. gather-put-other j k s t (by-test (same_key j k) (λ q. absurd (h (same_key-mac j k q ∙ e))) (λ q. q)) }
 
 -- what two calls on the circuit must have in common
@@ -100,8 +96,8 @@ key-mac s mac h lan = rw (lan, key_on)
 module _ (n : ℕ) (s : Circuit) (mac : ℕ) (lan : s.kind ≡ Lan) (buf : List ℕ) (c : Common) (r : Room) where
   reacted-its : (h : Hello) (k : Key) (a : Reaction) → k.mac ≡ mac → ButFor mac (reacted n s h k buf a c r).room.slots r.slots
   unfolding reacted refuse accepted
-  reacted-its h k (RefusedReaction x) e = but-for-refl mac r.slots
-  reacted-its h k (Accepted after reply line) e = kept-but-for k _ r.slots e
+  reacted-its h k (Err x) e = but-for-refl mac r.slots
+  reacted-its h k (Ok (after, reply, line)) e = kept-but-for k _ r.slots e
 
   checked-its : (h : Hello) → ButFor mac (checked n s mac buf h c r).room.slots r.slots
   unfolding checked decided_in refuse
@@ -109,10 +105,10 @@ module _ (n : ℕ) (s : Circuit) (mac : ℕ) (lan : s.kind ≡ Lan) (buf : List 
       by-test (wrong_source s.levels c.system h) (λ e. rw e (but-for-refl mac r.slots))
       (λ e. rw e (reacted-its h _ _ (key-mac s mac h lan)))
 
-  read-its : (d : Read) → ButFor mac (read_in n s mac buf d c r).room.slots r.slots
+  read-its : (d : Result Hello Refusal) → ButFor mac (read_in n s mac buf d c r).room.slots r.slots
   unfolding read_in refuse
-  read-its (RefusedRead x) = but-for-refl mac r.slots
-  read-its (ReadAs h) = checked-its h
+  read-its (Err x) = but-for-refl mac r.slots
+  read-its (Ok h) = checked-its h
 
   receive-its : (frame : List ℕ) → ButFor mac (receive n s mac frame buf c r).room.slots r.slots
   unfolding receive refuse
@@ -147,7 +143,7 @@ module _ (b : Neighbour) (n : ℕ) (s : Circuit) (mac : ℕ) (frame buf : List �
   unfolding refuse
   both-refuse x h₁ h₂ = record { room = near; answer = refl; reply = refl }
 
-  both-accepted : (h : Hello) (k : Key) (after : Adjacency) (reply : Acknowledgement) (line : Line)
+  both-accepted : (h : Hello) (k : Key) (after : Option State) (reply : Option (Ack × ℕ)) (line : Line)
       → crowded k r₁.slots ≡ false → crowded k r₂.slots ≡ false → find k r₁.slots ≡ find k r₂.slots
       → Both (accepted n s h k buf after reply line c r₁) (accepted n s h k buf after reply line c r₂)
   unfolding accepted compared_there unordered
@@ -156,8 +152,8 @@ module _ (b : Neighbour) (n : ℕ) (s : Circuit) (mac : ℕ) (frame buf : List �
   reacted-both : (h : Hello) (k : Key) (a : Reaction) → find k r₁.slots ≡ find k r₂.slots
       → Both (reacted n s h k buf (if_room (crowded k r₁.slots) a) c r₁) (reacted n s h k buf (if_room (crowded k r₂.slots) a) c r₂)
   unfolding reacted if_room
-  reacted-both h k (RefusedReaction x) f = both-refuse x
-  reacted-both h k (Accepted after reply line) f =
+  reacted-both h k (Err x) f = both-refuse x
+  reacted-both h k (Ok (after, reply, line)) f =
       by-test (crowded k r₁.slots) (λ e₁. rw e₁ (λ h₁ h₂. absurd (not-nine buf c r₁ h₁)))
       (λ e₁.
       by-test (crowded k r₂.slots) (λ e₂. rw e₂ (λ h₁ h₂. absurd (not-nine buf c r₂ h₂)))
@@ -170,10 +166,10 @@ module _ (b : Neighbour) (n : ℕ) (s : Circuit) (mac : ℕ) (frame buf : List �
       let f = but-for-find near k (λ e. other (sym (key-mac s mac h lan) ∙ e)) in
       rw (ap (react_of (here_of c s) h) f) (reacted-both h k (react_of (here_of c s) h (find k r₂.slots)) f)
 
-  read-both : s.kind ≡ Lan → mac ≢ b.mac → (d : Read) → Both (read_in n s mac buf d c r₁) (read_in n s mac buf d c r₂)
+  read-both : s.kind ≡ Lan → mac ≢ b.mac → (d : Result Hello Refusal) → Both (read_in n s mac buf d c r₁) (read_in n s mac buf d c r₂)
   unfolding read_in checked
-  read-both lan other (RefusedRead x) = both-refuse x
-  read-both lan other (ReadAs h) =
+  read-both lan other (Err x) = both-refuse x
+  read-both lan other (Ok h) =
       by-test (wrong_source s.levels c.system h) (λ e. rw e (both-refuse WrongSource)) (λ e. rw e (decided-both lan other h))
 
   receive-both : s.kind ≡ Lan → mac ≢ b.mac → Both (receive n s mac frame buf c r₁) (receive n s mac frame buf c r₂)
@@ -223,14 +219,14 @@ act-both b n s (NextHello level) c r₁ r₂ run lan e near h₁ h₂ =
 module _ (n : ℕ) (s : Circuit) (c : Common) (r : Room) (run : c.timers.mode ≡ Running) where
   reacted-common : (h : Hello) (k : Key) (buf : List ℕ) (a : Reaction) → (reacted n s h k buf a c r).common ≡ c
   unfolding reacted refuse accepted
-  reacted-common h k buf (RefusedReaction x) = refl
-  reacted-common h k buf (Accepted after reply line) =
+  reacted-common h k buf (Err x) = refl
+  reacted-common h k buf (Ok (after, reply, line)) =
       ap (λ (t : Timers). with_timers t c) (heard-running c.timers run c.lengths c.clock (t1_of n s h) _ (said_of c s h)).0
 
-  read-common : (mac : ℕ) (buf : List ℕ) (d : Read) → (read_in n s mac buf d c r).common ≡ c
+  read-common : (mac : ℕ) (buf : List ℕ) (d : Result Hello Refusal) → (read_in n s mac buf d c r).common ≡ c
   unfolding read_in checked decided_in refuse
-  read-common mac buf (RefusedRead x) = refl
-  read-common mac buf (ReadAs h) =
+  read-common mac buf (Err x) = refl
+  read-common mac buf (Ok h) =
       by-test (wrong_source s.levels c.system h) (λ e. rw e) (λ e. rw e (reacted-common h _ buf _))
 
   pub act-common : (l : Local) → (act n s l c r).common ≡ c

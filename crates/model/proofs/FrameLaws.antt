@@ -4,13 +4,13 @@ use mathlib.Core.Bool.{Bool, true, false, true≢false}
 use mathlib.Core.List.{List}
 use Prim.Native.Nat.{ℕ}
 use Rattle.basics.specs.declared.refusal.Refusal.{Refusal}
-use Rattle.settings.specs.declared.circuit.Chosen.{Chosen}
-use Rattle.settings.specs.declared.circuit.Chosen.TheVariants.{Known, Unknown}
 use Rattle.chunks.specs.Chunks.{Unfinished}
 use Rattle.control.specs.Common.{circuit_of}
 use Rattle.model.specs.Gateway.{Gateway, with_frames}
 use Rattle.model.specs.Step.{Local, Call, At, Over, Hand, Outcome, lift, on, at, Judged, Refused as RefusedCall, Sweep, Tell, judge, carry, step}
 use Rattle.model.specs.Refusals.{drops}
+use Rattle.std.specs.Prelude.{Option, Some, None}
+use Rattle.settings.specs.declared.circuit.Circuit.{Circuit}
 
 -- a begin, a chunk or an end
 abbrev pub is_hand : Call → Bool
@@ -23,10 +23,10 @@ abbrev pub framed : List Unfinished → Outcome → Outcome
 framed us o = record { answer = o.answer; reply = o.reply; next = with_frames o.next us }
 
 module _ (g : Gateway) (us : List Unfinished) where
-  on-framed : (n : ℕ) (l : Local) (x : Chosen) → on (with_frames g us) n l x ≡ framed us (on g n l x)
+  on-framed : (n : ℕ) (l : Local) (x : Option Circuit) → on (with_frames g us) n l x ≡ framed us (on g n l x)
   unfolding on lift
-  on-framed n l Unknown = refl
-  on-framed n l (Known s) = refl
+  on-framed n l None = refl
+  on-framed n l (Some s) = refl
 
   carry-framed : (j : Judged) → carry (with_frames g us) j ≡ framed us (carry g j)
   unfolding carry

@@ -22,8 +22,6 @@ use Rattle.timers.proofs.TimersLaws.{mode-running}
 use Rattle.settings.specs.Settings.{enabled_levels}
 use Rattle.settings.specs.declared.circuit.Circuit.{Circuit}
 use Rattle.control.specs.Common.{Common, circuit_of}
-use Rattle.settings.specs.declared.circuit.Chosen.{Chosen}
-use Rattle.settings.specs.declared.circuit.Chosen.TheVariants.{Known, Unknown}
 use Rattle.model.specs.Answers.{Answer, TimersAnswer}
 use Rattle.model.specs.Gateway.{Room, Gateway, with_rooms, with_common, numbered, renew, no_room, room_of, record_at, unfinished_on}
 use Rattle.model.specs.Receive.{Acted}
@@ -31,6 +29,7 @@ use Rattle.model.specs.Step.{Local, Global, Tick, DatabaseComplete, Waiting, Cal
 use Rattle.model.specs.Claim.{Neighbour, is_sent, is_lan, is_there, still, Observation, without_lost, compared, Agree}
 use Rattle.model.proofs.Lists.{renew-both, length-renew, renew-numbered, numbered-map, ext-numbered}
 use Rattle.model.proofs.ButFor.{ButFor, but-for-refl, but-for-sym, but-for-trans, but-for-find, but-for-sweep, Same, act-its, act-both, act-common}
+use Rattle.std.specs.Prelude.{Option, Some, None}
 
 -- s₁ and s₂: the promise for its LAN stands in each run
 pub record Near (b : Neighbour) (s₁ s₂ : Bool) (g₁ g₂ : Gateway) : Type 0 where
@@ -65,7 +64,7 @@ stood : (s e f : Bool) → s && not (e && f) ≡ true → e ≡ true → f ≡ f
 stood s e false h q = refl
 stood s e true h q = absurd (false≢true (sym (and-false s) ∙ sym (ap (λ (x : Bool). s && not (x && true)) q) ∙ h))
 
-lan-kind : (s : Circuit) (k : CircuitKind) → s.kind ≡ k → is_lan (Known s) ≡ true → k ≡ Lan
+lan-kind : (s : Circuit) (k : CircuitKind) → s.kind ≡ k → is_lan (Some s) ≡ true → k ≡ Lan
 unfolding is_lan
 lan-kind s Lan e h = refl
 lan-kind s P2p e h = absurd (false≢true (rw e at h))
@@ -203,10 +202,10 @@ module _ (b : Neighbour) (s₁ s₂ : Bool) (g₁ g₂ : Gateway) (n : Near b s�
   unfolding lift
   lift-away i f h = (cc (n.common, n.elsewhere i h), cc (n.common, n.elsewhere i h))
 
-  pub away-on : (c : Call) (i : ℕ) (l : Local) → i ≢ b.circuit → (q : Chosen) → Kept b s₁ s₂ c (on g₁ i l q) (on g₂ i l q)
+  pub away-on : (c : Call) (i : ℕ) (l : Local) → i ≢ b.circuit → (q : Option Circuit) → Kept b s₁ s₂ c (on g₁ i l q) (on g₂ i l q)
   unfolding on lift
-  away-on c i l h Unknown = kept-of-near b s₁ s₂ _ _ _ (same-near _ _ (and_left _ _) (and_left _ _)) (λ e. (refl, refl)) (λ h₁ h₂. (refl, refl))
-  away-on c i l h (Known s) =
+  away-on c i l h None = kept-of-near b s₁ s₂ _ _ _ (same-near _ _ (and_left _ _) (and_left _ _)) (λ e. (refl, refl)) (λ h₁ h₂. (refl, refl))
+  away-on c i l h (Some s) =
       let room : (act i s l g₁.common (room_of g₁ i)).room ≡ (act i s l g₂.common (room_of g₂ i)).room = cc (n.common, n.elsewhere i h) in
       let k = lift-away i (act i s l) h in
       let answer = ap (compared b c) k.0 in
@@ -216,16 +215,16 @@ module _ (b : Neighbour) (s₁ s₂ : Bool) (g₁ g₂ : Gateway) (n : Near b s�
       (λ e. (answer, k.1)) (λ h₁ h₂. (answer, k.1))
 
   -- a shared call on its circuit
-  pub own_on : (l : Local) → is_sent b l ≡ false → (q : Chosen) → (s₁ ≡ true → is_lan q ≡ true)
+  pub own_on : (l : Local) → is_sent b l ≡ false → (q : Option Circuit) → (s₁ ≡ true → is_lan q ≡ true)
       → Kept b s₁ s₂ (At b.circuit l) (on g₁ b.circuit l q) (on g₂ b.circuit l q)
   unfolding on lift compared is_there
-  own_on l e Unknown lan = kept-of-near b s₁ s₂ _ _ _ (same-near _ _ (and_left _ _) (and_left _ _)) (λ e. (refl, refl)) (λ h₁ h₂. (refl, refl))
-  own_on l e (Known s) lan =
+  own_on l e None lan = kept-of-near b s₁ s₂ _ _ _ (same-near _ _ (and_left _ _) (and_left _ _)) (λ e. (refl, refl)) (λ h₁ h₂. (refl, refl))
+  own_on l e (Some s) lan =
       let i : ℕ = b.circuit in
       let yes = eq-eqb i i refl in
       let r₁ = room_of g₁ i in
       let r₂ = room_of g₂ i in
-      let both : still b s₁ (At i l) (on g₁ i l (Known s)).answer ≡ true → still b s₂ (At i l) (on g₂ i l (Known s)).answer ≡ true
+      let both : still b s₁ (At i l) (on g₁ i l (Some s)).answer ≡ true → still b s₂ (At i l) (on g₂ i l (Some s)).answer ≡ true
       → Same b l (act i s l g₁.common r₁) (act i s l g₂.common r₂) =
       rw (← n.common)
       (λ h₁ h₂.
@@ -237,20 +236,20 @@ module _ (b : Neighbour) (s₁ s₂ : Bool) (g₁ g₂ : Gateway) (n : Near b s�
       (λ h. absurd (true≢false (sym yes ∙ h))) (λ h₁ h₂. rw yes ((both h₁ h₂).answer, (both h₁ h₂).reply))
 
   -- a call on its circuit, in the first run alone
-  pub alone-on : (z : Bool) → (z ≡ true → s₁ ≡ true) → (l : Local) (q : Chosen)
-      → ((s : Circuit) → q ≡ Known s → z ≡ true
+  pub alone-on : (z : Bool) → (z ≡ true → s₁ ≡ true) → (l : Local) (q : Option Circuit)
+      → ((s : Circuit) → q ≡ Some s → z ≡ true
       → ButFor b.mac (act b.circuit s l g₁.common (room_of g₁ b.circuit)).room.slots (room_of g₁ b.circuit).slots)
       → Near b z s₂ (on g₁ b.circuit l q).next g₂
   unfolding on lift
-  alone-on z w l Unknown but = same-near z s₂ w (λ h. h)
-  alone-on z w l (Known s) but =
+  alone-on z w l None but = same-near z s₂ w (λ h. h)
+  alone-on z w l (Some s) but =
       let i : ℕ = b.circuit in
-      subst (λ (rs : List Room). Near b z s₂ (on g₁ i l (Known s)).next (with_rooms g₂ rs)) (renew-numbered g₂.rooms i no_room)
+      subst (λ (rs : List Room). Near b z s₂ (on g₁ i l (Some s)).next (with_rooms g₂ rs)) (renew-numbered g₂.rooms i no_room)
       (set-near z s₂ w (λ h. h) _ _ (act-common i s _ _ n.mode l) refl i _ (room_of g₂ i) (λ h. absurd (h refl))
       (λ q h₁ h₂. but-for-trans (but s refl h₁) (n.own (w h₁) h₂)))
 
   -- its frame
-  pub its-on : (l : Local) → is_sent b l ≡ true → (q : Chosen) → (s₁ ≡ true → is_lan q ≡ true)
+  pub its-on : (l : Local) → is_sent b l ≡ true → (q : Option Circuit) → (s₁ ≡ true → is_lan q ≡ true)
       → Near b (still b s₁ (At b.circuit l) (on g₁ b.circuit l q).answer) s₂ (on g₁ b.circuit l q).next g₂
   its-on l e q lan =
       alone-on _ (and_left _ _) l q

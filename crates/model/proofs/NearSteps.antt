@@ -7,8 +7,6 @@ use mathlib.Core.List.{List}
 use lib.Dec.{eqb}
 use borrow.Author.Tests.{eqb-true, eqb-false}
 use Rattle.basics.proofs.BoolLaws.{by-test, and_left, and-false}
-use Rattle.settings.specs.declared.circuit.Chosen.{Chosen}
-use Rattle.settings.specs.declared.circuit.Chosen.TheVariants.{Known, Unknown}
 use Rattle.chunks.specs.Chunks.{Unfinished, NoFrame, Frame, begun, Joined, Refused as RefusedChunk, As, join}
 use Rattle.control.specs.Common.{Common, circuit_of}
 use Rattle.model.specs.Answers.{Answer}
@@ -17,6 +15,8 @@ use Rattle.model.specs.Step.{Receive, Piece, Begin, Chunk, End, Call, At, Over, 
 use Rattle.model.specs.Claim.{Neighbour, is_sent, is_its, is_there, still}
 use Rattle.model.proofs.Lists.{renew-both, length-renew, renew-numbered}
 use Rattle.model.proofs.Near.{Near, Kept, kept-of-near, judge-steady, same-near, away-on, own_on, alone-on, its-on, carry-kept}
+use Rattle.std.specs.Prelude.{Option, Some, None}
+use Rattle.settings.specs.declared.circuit.Circuit.{Circuit}
 
 module _ (b : Neighbour) (s₁ s₂ : Bool) (g₁ g₂ : Gateway) (n : Near b s₁ s₂ g₁ g₂) where
   -- ---- an unfinished frame is renewed in both
@@ -70,13 +70,13 @@ module _ (b : Neighbour) (s₁ s₂ : Bool) (g₁ g₂ : Gateway) (n : Near b s�
         rw (ap (λ (c : Common). circuit_of c i) (sym n.common))
         (away-on b s₁ s₂ _ _ (frame-near s₁ s₂ (λ e. e) (λ e. e) i NoFrame NoFrame (λ e. refl)) (Hand i p) i (Receive mac octets buf) h (circuit_of g₁.common i))
 
-  hand-kept : (i : ℕ) (p : Piece) → i ≢ b.circuit → (q : Chosen) → Kept b s₁ s₂ (Hand i p) (hand_on g₁ i p q) (hand_on g₂ i p q)
+  hand-kept : (i : ℕ) (p : Piece) → i ≢ b.circuit → (q : Option Circuit) → Kept b s₁ s₂ (Hand i p) (hand_on g₁ i p q) (hand_on g₂ i p q)
   unfolding hand_on hand
-  hand-kept i p h Unknown = refused-kept i p h _ _
-  hand-kept i (Begin mac) h (Known s) = same_kept i (Begin mac) h (begun mac) _ _
-  hand-kept i (Chunk octets) h (Known s) =
+  hand-kept i p h None = refused-kept i p h _ _
+  hand-kept i (Begin mac) h (Some s) = same_kept i (Begin mac) h (begun mac) _ _
+  hand-kept i (Chunk octets) h (Some s) =
       rw (ap (λ (u : Unfinished). join u octets) (sym (n.unfinished i h))) (chunk_kept i (Chunk octets) h (join (unfinished_on g₁ i) octets))
-  hand-kept i (End buf) h (Known s) =
+  hand-kept i (End buf) h (Some s) =
       subst (λ (u : Unfinished). Kept b s₁ s₂ (Hand i (End buf)) (ended g₁ i buf (unfinished_on g₁ i)) (ended g₂ i buf u)) (n.unfinished i h)
       (end_kept i (End buf) h buf (unfinished_on g₁ i))
 
@@ -94,12 +94,12 @@ module _ (b : Neighbour) (s₁ s₂ : Bool) (g₁ g₂ : Gateway) (n : Near b s�
   unfolding is_there
   no-promise i p a e = rw e (and-false s₁)
 
-  hand-near : (p : Piece) (q : Chosen) → Near b false s₂ (hand_on g₁ b.circuit p q).next g₂
+  hand-near : (p : Piece) (q : Option Circuit) → Near b false s₂ (hand_on g₁ b.circuit p q).next g₂
   unfolding hand_on hand ended at
-  hand-near p Unknown = same-near b s₁ s₂ g₁ g₂ n false s₂ never (λ h. h)
-  hand-near (Begin mac) (Known s) = own-frame false never (begun mac)
-  hand-near (Chunk octets) (Known s) = chunk-near (join (unfinished_on g₁ b.circuit) octets)
-  hand-near (End buf) (Known s) = by (unfinished_on g₁ b.circuit)
+  hand-near p None = same-near b s₁ s₂ g₁ g₂ n false s₂ never (λ h. h)
+  hand-near (Begin mac) (Some s) = own-frame false never (begun mac)
+  hand-near (Chunk octets) (Some s) = chunk-near (join (unfinished_on g₁ b.circuit) octets)
+  hand-near (End buf) (Some s) = by (unfinished_on g₁ b.circuit)
     where
       by : (u : Unfinished) → Near b false s₂ (ended g₁ b.circuit buf u).next g₂
       by NoFrame = same-near b s₁ s₂ g₁ g₂ n false s₂ never (λ h. h)

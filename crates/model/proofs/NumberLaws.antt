@@ -11,20 +11,12 @@ use Rattle.basics.specs.declared.kind.CircuitKind.{CircuitKind}
 use Rattle.basics.specs.declared.refusal.Refusal.{Refusal}
 use Rattle.basics.specs.declared.refusal.Refusal.TheVariants.{TlvPastEnd, BadTlv, TooLong}
 use Rattle.tlv.specs.Tlv.{tlvs, cut_at}
-use Rattle.tlv.specs.declared.tlvs.Found.{Found}
-use Rattle.tlv.specs.declared.tlvs.Found.TheVariants.{At as FoundAt, Nothing as NotFound}
 use Rattle.hello.specs.Header.{not_hello, bad_length}
 use Rattle.hello.specs.Hello.{rule_fault, refused_at, tlvs_read, pdu_read, layout_read, hello_read}
-use Rattle.hello.specs.declared.header.Selected.{Selected}
-use Rattle.hello.specs.declared.header.Selected.TheVariants.{Fit, Unfit}
 use Rattle.hello.specs.declared.read.Hello.{Hello}
-use Rattle.hello.specs.declared.read.Read.{Read}
-use Rattle.hello.specs.declared.read.Read.TheVariants.{Refused as RefusedRead, Accepted as ReadAs}
 use Rattle.adjacency.specs.Keys.{key_in}
 use Rattle.adjacency.specs.React.{react_of, accepted_by}
 use Rattle.adjacency.specs.Step.{wrong_source, wrong_neighbor}
-use Rattle.adjacency.specs.declared.react.Reaction.{Reaction}
-use Rattle.adjacency.specs.declared.react.Reaction.TheVariants.{Refused as RefusedReaction, Accepted}
 use Rattle.adjacency.specs.declared.record.Key.{Key}
 use Rattle.adjacency.specs.declared.step.Here.{Here}
 use Rattle.adjacency.specs.declared.place.Slot.{Slot}
@@ -33,8 +25,6 @@ use Rattle.room.specs.Table.{find, crowded}
 use Rattle.settings.specs.Mode.{is_running}
 use Rattle.settings.specs.Settings.{enabled_levels}
 use Rattle.settings.specs.declared.circuit.Circuit.{Circuit}
-use Rattle.settings.specs.declared.circuit.Chosen.{Chosen}
-use Rattle.settings.specs.declared.circuit.Chosen.TheVariants.{Known, Unknown}
 use Rattle.control.specs.Common.{Common, circuit_of}
 use Rattle.chunks.specs.Chunks.{Unfinished, NoFrame, Frame, Joined, Refused as RefusedChunk, As, most_octets, join}
 use Rattle.model.specs.Answers.{Answer, Refused, Received, Ticked, Told}
@@ -43,6 +33,9 @@ use Rattle.model.specs.Numbers.{refusal_no}
 use Rattle.model.specs.Receive.{Acted, refuse, here_of, accepted, reacted, decided_in, checked, read_in, is_short, receive}
 use Rattle.model.specs.Step.{Local, Receive, Release, Clear, CsnpComplete, LookUp, LinkMetric, NextHello, Global, Tick, DatabaseComplete, Waiting, Piece, Begin, Chunk, End, At, Over, Hand, asks_level, csnp_complete, look_up, link_metric_of, next_hello, act, lift, on, at, chunked, ended, hand, hand_on, none_of, is_back, Judged, tick_of, database_of, judge, carry, step}
 use Rattle.model.specs.Refusals.{frame_numbers, numbers_at, numbers_over, numbers_to, is_one_of, RefusesByNumber}
+use Rattle.std.specs.Prelude.{Option, Some, None, Result, Ok, Err}
+use Rattle.adjacency.specs.React.{Reaction}
+use Rattle.hello.specs.declared.header.Layout.{Layout}
 
 -- a test of both branches is one of the whole
 cond-passes : {A : Type 0} (f : A → Bool) (t : Bool) (p q : A) → f p ≡ true → f q ≡ true → f (cond t p q) ≡ true
@@ -78,19 +71,19 @@ abbrev is_frames : Refusal → Bool
 is_frames x = is_one_of (refusal_no x) frame_numbers
 
 -- 3 to 6
-abbrev read_within : Read → Bool
-read_within (RefusedRead x) = is_frames x
-read_within (ReadAs h) = true
+abbrev read_within : Result Hello Refusal → Bool
+read_within (Err x) = is_frames x
+read_within (Ok h) = true
 
-refused-passes : (why : ℕ → Refusal) (t : Found) (r : Read) → ((n : ℕ) → is_frames (why n) ≡ true) → read_within r ≡ true → read_within (refused_at why t r) ≡ true
+refused-passes : (why : ℕ → Refusal) (t : Option ℕ) (r : Result Hello Refusal) → ((n : ℕ) → is_frames (why n) ≡ true) → read_within r ≡ true → read_within (refused_at why t r) ≡ true
 unfolding refused_at
-refused-passes why NotFound r x y = y
-refused-passes why (FoundAt n) r x y = x (n + 1)
+refused-passes why None r x y = y
+refused-passes why (Some n) r x y = x (n + 1)
 
-layout-within : (l : Selected) (mac : ℕ) (s : List ℕ) → read_within (layout_read l mac s) ≡ true
+layout-within : (l : Option Layout) (mac : ℕ) (s : List ℕ) → read_within (layout_read l mac s) ≡ true
 unfolding layout_read pdu_read tlvs_read is_one_of
-layout-within Unfit mac s = refl
-layout-within (Fit l) mac s =
+layout-within None mac s = refl
+layout-within (Some l) mac s =
     cond-passes read_within (bad_length s l.header) _ _ refl
     (refused-passes TlvPastEnd (cut_at (tlvs _ l.header)) _ (λ n. refl) (refused-passes BadTlv (rule_fault l _) _ (λ n. refl) refl))
 
@@ -100,13 +93,13 @@ read-within kind mac s = cond-passes read_within (not_hello s) _ _ refl (layout-
 
 -- 8 and 9
 abbrev reaction_within : Reaction → Bool
-reaction_within (RefusedReaction x) = is_frames x
-reaction_within (Accepted after reply line) = true
+reaction_within (Err x) = is_frames x
+reaction_within (Ok (after, reply, line)) = true
 
 room_within : (full : Bool) (r : Reaction) → reaction_within r ≡ true → reaction_within (if_room full r) ≡ true
 unfolding if_room is_one_of
-room_within full (RefusedReaction x) e = e
-room_within full (Accepted after reply line) e = cond-passes reaction_within full _ _ refl refl
+room_within full (Err x) e = e
+room_within full (Ok (after, reply, line)) e = cond-passes reaction_within full _ _ refl refl
 
 decided-within : (here : Here) (k : Key) (h : Hello) (t : List Slot) → reaction_within (decided here k h t) ≡ true
 unfolding decided react_of accepted_by is_one_of
@@ -116,8 +109,8 @@ decided-within here k h t =
 module _ (n : ℕ) (s : Circuit) (mac : ℕ) (b : List ℕ) (c : Common) (r : Room) where
   reacted-within : (h : Hello) (k : Key) (d : Reaction) → reaction_within d ≡ true → within frame_numbers (reacted n s h k b d c r).answer ≡ true
   unfolding reacted refuse accepted
-  reacted-within h k (RefusedReaction x) e = e
-  reacted-within h k (Accepted after reply line) e = refl
+  reacted-within h k (Err x) e = e
+  reacted-within h k (Ok (after, reply, line)) e = refl
 
   -- 7
   checked-within : (h : Hello) → within frame_numbers (checked n s mac b h c r).answer ≡ true
@@ -126,10 +119,10 @@ module _ (n : ℕ) (s : Circuit) (mac : ℕ) (b : List ℕ) (c : Common) (r : Ro
       cond-passes (acted_within frame_numbers) (wrong_source s.levels c.system h) _ _ refl
       (reacted-within h (key_in s.kind mac h) _ (decided-within (here_of c s) (key_in s.kind mac h) h r.slots))
 
-  read-answers : (d : Read) → read_within d ≡ true → within frame_numbers (read_in n s mac b d c r).answer ≡ true
+  read-answers : (d : Result Hello Refusal) → read_within d ≡ true → within frame_numbers (read_in n s mac b d c r).answer ≡ true
   unfolding read_in refuse
-  read-answers (RefusedRead x) e = e
-  read-answers (ReadAs h) e = checked-within h
+  read-answers (Err x) e = e
+  read-answers (Ok h) e = checked-within h
 
   -- 2
   receive-within : (frame : List ℕ) → within frame_numbers (receive n s mac frame b c r).answer ≡ true
@@ -161,10 +154,10 @@ no-circuit (LookUp k) = refl
 no-circuit LinkMetric = refl
 no-circuit (NextHello level) = refl
 
-on-within : (g : Gateway) (n : ℕ) (l : Local) (q : Chosen) → within (numbers_at l) (on g n l q).answer ≡ true
+on-within : (g : Gateway) (n : ℕ) (l : Local) (q : Option Circuit) → within (numbers_at l) (on g n l q).answer ≡ true
 unfolding on lift
-on-within g n l Unknown = no-circuit l
-on-within g n l (Known s) = act-within n s l g.common _
+on-within g n l None = no-circuit l
+on-within g n l (Some s) = act-within n s l g.common _
 
 judge-within : (g : Gateway) (w : Global) → within (numbers_over w) (carry g (judge g.common w)).answer ≡ true
 unfolding judge tick_of database_of carry is_one_of
@@ -183,7 +176,7 @@ chunk-within g n (Frame mac joined) octets =
     cond-passes (λ (j : Joined). within (1 ∷ 13 ∷ 14 ∷ []) (chunked g n j).answer) (ltb most_octets (length joined + length octets)) (RefusedChunk TooLong)
     (As (Frame mac (joined ++ octets))) refl refl
 
-module _ (g : Gateway) (n : ℕ) (s : Circuit) (known : circuit_of g.common n ≡ Known s) (mac : ℕ) (frame b : List ℕ) where
+module _ (g : Gateway) (n : ℕ) (s : Circuit) (known : circuit_of g.common n ≡ Some s) (mac : ℕ) (frame b : List ℕ) where
   frame-within : within frame_numbers (at g n (Receive mac frame b)).answer ≡ true
   unfolding at on lift act
   frame-within = rw known (receive-within n s mac b g.common _ frame)
@@ -192,7 +185,7 @@ module _ (g : Gateway) (n : ℕ) (s : Circuit) (known : circuit_of g.common n �
   pub received-by : (x : Refusal) → (at g n (Receive mac frame b)).answer ≡ Refused x → is_one_of (refusal_no x) frame_numbers ≡ true
   received-by x e = refused-within frame_numbers (at g n (Receive mac frame b)).answer x frame-within e
 
-ended-within : (g : Gateway) (n : ℕ) (s : Circuit) (b : List ℕ) (u : Unfinished) → circuit_of g.common n ≡ Known s
+ended-within : (g : Gateway) (n : ℕ) (s : Circuit) (b : List ℕ) (u : Unfinished) → circuit_of g.common n ≡ Some s
     → within (1 ∷ 13 ∷ frame_numbers) (ended g n b u).answer ≡ true
 unfolding ended is_one_of
 ended-within g n s b NoFrame known = refl
@@ -200,14 +193,14 @@ ended-within g n s b (Frame mac octets) known =
     let a : Answer = (at (with_unfinished g n NoFrame) n (Receive mac octets b)).answer in
     within_more 1 (13 ∷ frame_numbers) a (within_more 13 frame_numbers a (frame-within (with_unfinished g n NoFrame) n s known mac octets b))
 
-hand-within : (g : Gateway) (n : ℕ) (p : Piece) (q : Chosen) → circuit_of g.common n ≡ q → within (numbers_to p) (hand_on g n p q).answer ≡ true
+hand-within : (g : Gateway) (n : ℕ) (p : Piece) (q : Option Circuit) → circuit_of g.common n ≡ q → within (numbers_to p) (hand_on g n p q).answer ≡ true
 unfolding hand_on hand is_one_of
-hand-within g n (Begin mac) Unknown known = refl
-hand-within g n (Chunk octets) Unknown known = refl
-hand-within g n (End b) Unknown known = refl
-hand-within g n (Begin mac) (Known s) known = refl
-hand-within g n (Chunk octets) (Known s) known = chunk-within g n (unfinished_on g n) octets
-hand-within g n (End b) (Known s) known = ended-within g n s b (unfinished_on g n) known
+hand-within g n (Begin mac) None known = refl
+hand-within g n (Chunk octets) None known = refl
+hand-within g n (End b) None known = refl
+hand-within g n (Begin mac) (Some s) known = refl
+hand-within g n (Chunk octets) (Some s) known = chunk-within g n (unfinished_on g n) octets
+hand-within g n (End b) (Some s) known = ended-within g n s b (unfinished_on g n) known
 
 pub refuses-by-number : RefusesByNumber
 unfolding step at

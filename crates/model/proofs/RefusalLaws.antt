@@ -7,21 +7,15 @@ use mathlib.Core.List.{List, []}
 use Rattle.basics.proofs.BoolLaws.{by-test}
 use Rattle.hello.specs.Hello.{hello_read}
 use Rattle.hello.specs.declared.read.Hello.{Hello}
-use Rattle.hello.specs.declared.read.Read.{Read}
-use Rattle.hello.specs.declared.read.Read.TheVariants.{Refused as RefusedRead, Accepted as ReadAs}
 use Rattle.basics.specs.declared.refusal.Refusal.{Refusal}
 use Rattle.basics.specs.declared.refusal.Refusal.TheVariants.{ReplyRoom, WrongSource, NoCircuit, ClockBack, NotRestarting, NotBegun}
 use Rattle.adjacency.specs.Step.{wrong_source}
 use Rattle.basics.specs.Levels.{has_level}
-use Rattle.adjacency.specs.declared.react.Reaction.{Reaction}
-use Rattle.adjacency.specs.declared.react.Reaction.TheVariants.{Refused as RefusedReaction, Accepted}
 use Rattle.adjacency.specs.declared.record.Key.{Key}
 use Rattle.settings.specs.Mode.{is_running}
 use Rattle.settings.specs.Settings.{enabled_levels}
 use Rattle.settings.specs.declared.circuit.Circuit.{Circuit}
 use Rattle.control.specs.Common.{Common, circuit_of}
-use Rattle.settings.specs.declared.circuit.Chosen.{Chosen}
-use Rattle.settings.specs.declared.circuit.Chosen.TheVariants.{Known, Unknown}
 use Rattle.adjacency.specs.Keys.{key_in}
 use Rattle.room.specs.Accept.{decided}
 use Rattle.timers.specs.Hellos.{Hellos}
@@ -33,6 +27,8 @@ use Rattle.model.specs.Step.{Outcome, Local, Receive, Release, Clear, CsnpComple
 use Rattle.model.specs.Refusals.{is_one_of, drops_to, left_refused, RefusalsKeep}
 use Rattle.model.proofs.Lists.{renew-numbered}
 use Rattle.model.proofs.NumberLaws.{received-by}
+use Rattle.std.specs.Prelude.{Option, Some, None, Result, Ok, Err}
+use Rattle.adjacency.specs.React.{Reaction}
 
 -- ---- calls on a circuit
 
@@ -56,13 +52,13 @@ module _ (b : List ℕ) (c : Common) (r : Room) where
 
   reacted-keeps : (n : ℕ) (s : Circuit) (h : Hello) (k : Key) (d : Reaction) → Keeps (reacted n s h k b d c r)
   unfolding reacted accepted
-  reacted-keeps n s h k (RefusedReaction x) = refuse-keeps x
-  reacted-keeps n s h k (Accepted after reply line) = λ x e. absurd (let z : ◌≡◌ {A = ℕ} 0 1 = cc in omega arith)
+  reacted-keeps n s h k (Err x) = refuse-keeps x
+  reacted-keeps n s h k (Ok (after, reply, line)) = λ x e. absurd (let z : ◌≡◌ {A = ℕ} 0 1 = cc in omega arith)
 
-  read_keeps : (n : ℕ) (s : Circuit) (mac : ℕ) (d : Read) → Keeps (read_in n s mac b d c r)
+  read_keeps : (n : ℕ) (s : Circuit) (mac : ℕ) (d : Result Hello Refusal) → Keeps (read_in n s mac b d c r)
   unfolding read_in checked decided_in
-  read_keeps n s mac (RefusedRead x) = refuse-keeps x
-  read_keeps n s mac (ReadAs h) =
+  read_keeps n s mac (Err x) = refuse-keeps x
+  read_keeps n s mac (Ok h) =
       cond-keeps (wrong_source s.levels c.system h) (refuse b WrongSource c r) (decided_in n s mac b h c r) (refuse-keeps WrongSource)
       (reacted-keeps n s h (key_in s.kind mac h) (decided (here_of c s) (key_in s.kind mac h) h r.slots))
 
@@ -93,10 +89,10 @@ act-keeps n s (NextHello level) c r =
 abbrev Stays : Gateway → List ℕ → Outcome → Type 0
 Stays g b o = (x : Refusal) → o.answer ≡ Refused x → (o.next ≡ g) × (o.reply ≡ b)
 
-on-stays : (g : Gateway) (n : ℕ) (l : Local) (q : Chosen) → Stays g (lent l) (on g n l q)
+on-stays : (g : Gateway) (n : ℕ) (l : Local) (q : Option Circuit) → Stays g (lent l) (on g n l q)
 unfolding on lift
-on-stays g n l Unknown = λ x e. (refl, refl)
-on-stays g n l (Known s) = λ x e.
+on-stays g n l None = λ x e. (refl, refl)
+on-stays g n l (Some s) = λ x e.
     let k = act-keeps n s l g.common (room_of g n) x e in
     let room = ap (renew g.rooms n) k.room ∙ renew-numbered g.rooms n no_room in
     (ap (λ (c : Common). with_rooms (with_common g c) (renew g.rooms n (act n s l g.common (room_of g n)).room)) k.common ∙ ap (with_rooms g) room, k.reply)
@@ -157,19 +153,19 @@ unknown-leaves g n (Begin mac) = refused-leaves g n (Begin mac) NoCircuit refl
 unknown-leaves g n (Chunk octets) = refused-leaves g n (Chunk octets) NoCircuit refl
 unknown-leaves g n (End b) = refused-leaves g n (End b) NoCircuit refl
 
-end_leaves : (g : Gateway) (n : ℕ) (s : Circuit) (b : List ℕ) (u : Unfinished) → circuit_of g.common n ≡ Known s → Leaves g n (End b) (ended g n b u)
+end_leaves : (g : Gateway) (n : ℕ) (s : Circuit) (b : List ℕ) (u : Unfinished) → circuit_of g.common n ≡ Some s → Leaves g n (End b) (ended g n b u)
 unfolding ended at is_one_of
 end_leaves g n s b NoFrame known = refused-leaves g n (End b) NotBegun refl
 end_leaves g n s b (Frame mac octets) known = λ x e.
     let k = on-stays (with_unfinished g n NoFrame) n (Receive mac octets b) (circuit_of g.common n) x e in
     (rw (received-by (with_unfinished g n NoFrame) n s known mac octets b x e) k.0, k.1)
 
-hand-leaves : (g : Gateway) (n : ℕ) (p : Piece) (q : Chosen) → circuit_of g.common n ≡ q → Leaves g n p (hand_on g n p q)
+hand-leaves : (g : Gateway) (n : ℕ) (p : Piece) (q : Option Circuit) → circuit_of g.common n ≡ q → Leaves g n p (hand_on g n p q)
 unfolding hand_on hand
-hand-leaves g n p Unknown known = unknown-leaves g n p
-hand-leaves g n (Begin mac) (Known s) known = λ x e. absurd (let z : ◌≡◌ {A = ℕ} 0 1 = cc in omega arith)
-hand-leaves g n (Chunk octets) (Known s) known = chunk-stays g n (join (unfinished_on g n) octets)
-hand-leaves g n (End b) (Known s) known = end_leaves g n s b (unfinished_on g n) known
+hand-leaves g n p None known = unknown-leaves g n p
+hand-leaves g n (Begin mac) (Some s) known = λ x e. absurd (let z : ◌≡◌ {A = ℕ} 0 1 = cc in omega arith)
+hand-leaves g n (Chunk octets) (Some s) known = chunk-stays g n (join (unfinished_on g n) octets)
+hand-leaves g n (End b) (Some s) known = end_leaves g n s b (unfinished_on g n) known
 
 pub refusals-keep : RefusalsKeep
 unfolding step at

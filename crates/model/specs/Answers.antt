@@ -1,13 +1,9 @@
 -- What calls answer, in numbers (document 01, "What the gateway holds" and "Refusals by number"; document 02, W-201, W-202 and W-205), and for each answer of
 -- the code, case by case, which one it is.
-use Rattle.std.specs.Prelude.{ℕ, Bool, true, false, List}
+use Rattle.std.specs.Prelude.{ℕ, Bool, true, false, List, Option, Some, None, Result, Ok, Err}
 use Rattle.basics.specs.declared.refusal.Refusal.{Refusal}
 use Rattle.basics.specs.Mask.{circuits, bits_of}
-use Rattle.hello.specs.declared.reverse.ReverseMetric.{ReverseMetric}
-use Rattle.hello.specs.declared.reverse.ReverseMetric.TheVariants.{Absent as NoReverse, Present as Reverse}
 use Rattle.adjacency.specs.Record.{advertised, phase_of, expiry_of, mark_of, suppressed_of}
-use Rattle.adjacency.specs.declared.record.Adjacency.{Adjacency}
-use Rattle.adjacency.specs.declared.record.Adjacency.TheVariants.{Absent, Present}
 use Rattle.adjacency.specs.declared.record.Key.{Key}
 use Rattle.adjacency.specs.declared.record.Last.{Last}
 use Rattle.adjacency.specs.declared.record.Mark.TheVariants.{Clear}
@@ -15,8 +11,6 @@ use Rattle.adjacency.specs.declared.record.Phase.{Phase}
 use Rattle.adjacency.specs.declared.record.Phase.TheVariants.{Gone}
 use Rattle.adjacency.specs.declared.record.State.{State}
 use Rattle.adjacency.specs.declared.record.State.TheVariants.{Init, Up}
-use Rattle.chunks.specs.declared.slot.Handed.{Handed}
-use Rattle.chunks.specs.declared.slot.Handed.TheVariants.{Refused as RefusedPiece, Done as DonePiece}
 use Rattle.timers.specs.Hellos.{Hellos, hellos_of}
 use Rattle.timers.specs.declared.outcome.Overload.TheVariants.{Quiet}
 use Rattle.timers.specs.declared.outcome.TimerOutcome.{TimerOutcome}
@@ -24,21 +18,11 @@ use Rattle.timers.specs.declared.outcome.TimerOutcome.TheVariants.{Idle, Goes, E
 use Rattle.model.specs.Numbers.{refusal_no, reply_flags, reply_time, some_waits, lowest_no, levels_no, is_ordered, csnps_no, freed_no, hello_no, overload_no, restart_no, mark_no, phase_no, state_no}
 use Rattle.model.specs.declared.answers.Change.{Change}
 use Rattle.model.specs.declared.answers.Orders.{Orders}
-use Rattle.model.specs.declared.answers.Received.{Received as ReceivedCode}
-use Rattle.model.specs.declared.answers.Received.TheVariants.{Refused as RefusedFrame, Done as DoneFrame}
-use Rattle.model.specs.declared.answers.Ticked.{Ticked as TickedCode}
-use Rattle.model.specs.declared.answers.Ticked.TheVariants.{Refused as RefusedTick, Done as DoneTick}
-use Rattle.model.specs.declared.answers.Released.{Released}
-use Rattle.model.specs.declared.answers.Released.TheVariants.{Refused as RefusedRelease, Done as DoneRelease}
-use Rattle.model.specs.declared.answers.Noticed.{Noticed as NoticedCode}
-use Rattle.model.specs.declared.answers.Noticed.TheVariants.{Refused as RefusedNotice, Done as DoneNotice}
-use Rattle.model.specs.declared.answers.Looked.{Looked as LookedCode}
-use Rattle.model.specs.declared.answers.Looked.TheVariants.{Refused as RefusedLook, Nothing as NoRecord, Found}
-use Rattle.model.specs.declared.answers.Metric.{Metric as MetricCode}
-use Rattle.model.specs.declared.answers.Metric.TheVariants.{Refused as RefusedMetric, Link}
-use Rattle.model.specs.declared.answers.NextFlags.{NextFlags}
-use Rattle.model.specs.declared.answers.NextFlags.TheVariants.{Refused as RefusedFlags, Next}
 use Rattle.model.specs.declared.answers.Waiting.{Waiting}
+use Rattle.model.specs.declared.answers.Ticked.{Ticked as TickedCode}
+use Rattle.model.specs.declared.answers.Found.{Found}
+use Rattle.restart_tlv.specs.declared.flags.Flags.{Flags}
+use Rattle.hello.specs.declared.reverse.ReverseMetric.{ReverseMetric}
 
 -- ---- the parts of an answer
 
@@ -134,21 +118,21 @@ abbrev pub last_of : State → Last
 last_of (Init d) = d.last
 last_of (Up d m) = d.last
 
-abbrev pub is_reversed : ReverseMetric → Bool
-is_reversed NoReverse = false
-is_reversed (Reverse offset whole unreachable) = true
+abbrev pub is_reversed : Option ReverseMetric → Bool
+is_reversed None = false
+is_reversed (Some r) = true
 
-abbrev pub offset_of : ReverseMetric → ℕ
-offset_of NoReverse = 0
-offset_of (Reverse offset whole unreachable) = offset
+abbrev pub offset_of : Option ReverseMetric → ℕ
+offset_of None = 0
+offset_of (Some r) = r.offset
 
-abbrev pub whole_of : ReverseMetric → Bool
-whole_of NoReverse = false
-whole_of (Reverse offset whole unreachable) = whole
+abbrev pub whole_of : Option ReverseMetric → Bool
+whole_of None = false
+whole_of (Some r) = r.whole
 
-abbrev pub unreachable_of : ReverseMetric → Bool
-unreachable_of NoReverse = false
-unreachable_of (Reverse offset whole unreachable) = unreachable
+abbrev pub unreachable_of : Option ReverseMetric → Bool
+unreachable_of None = false
+unreachable_of (Some r) = r.unreachable
 
 -- a record in this state, which is advertised or not
 abbrev pub state_answer : State → Bool → RecordAnswer
@@ -157,8 +141,8 @@ state_answer s shown =
       state = state_no s;
       advertised = shown;
       expiry = expiry_of s;
-      mark = mark_no (mark_of (Present s));
-      suppressed = suppressed_of (Present s);
+      mark = mark_no (mark_of (Some s));
+      suppressed = suppressed_of (Some s);
       tlv = (last_of s).tlv;
       priority = (last_of s).priority;
       reversed = is_reversed (last_of s).reverse;
@@ -184,16 +168,16 @@ no_record =
     }
 
 -- "A record is advertised exactly when it is UP and not Suppressed."
-abbrev pub record_answer : Adjacency → RecordAnswer
-record_answer Absent = no_record
-record_answer (Present s) = state_answer s (advertised s)
+abbrev pub record_answer : Option State → RecordAnswer
+record_answer None = no_record
+record_answer (Some s) = state_answer s (advertised s)
 
-abbrev pub is_shown : Adjacency → Bool
-is_shown Absent = false
-is_shown (Present s) = advertised s
+abbrev pub is_shown : Option State → Bool
+is_shown None = false
+is_shown (Some s) = advertised s
 
 -- the record with the key k, its state before and itself after
-abbrev pub change_of : Key → Phase → Adjacency → Change
+abbrev pub change_of : Key → Phase → Option State → Change
 change_of k before after =
     record { level = k.level; system = k.system; before = before; after = phase_of after; advertised = is_shown after }
 
@@ -203,39 +187,39 @@ change_of k before after =
 abbrev pub lost_bits : ℕ → List Bool
 lost_bits m = bits_of circuits m
 
-abbrev pub received_of : ReceivedCode → Answer
-received_of (RefusedFrame x) = Refused x
-received_of (DoneFrame o) = Received (frame_answer o)
+abbrev pub received_of : Result Orders Refusal → Answer
+received_of (Err x) = Refused x
+received_of (Ok o) = Received (frame_answer o)
 
-abbrev pub ticked_of : TickedCode → Answer
-ticked_of (RefusedTick x) = Refused x
-ticked_of (DoneTick lost hellos o) = Ticked (lost_bits lost) (hellos_of hellos) (timers_answer o)
+abbrev pub ticked_of : Result TickedCode Refusal → Answer
+ticked_of (Err x) = Refused x
+ticked_of (Ok t) = Ticked (lost_bits t.lost) (hellos_of t.hellos) (timers_answer t.outcome)
 
-abbrev pub released_of : Released → Answer
-released_of (RefusedRelease x) = Refused x
-released_of DoneRelease = Told Done
+abbrev pub released_of : Result (Unit {0}) Refusal → Answer
+released_of (Err x) = Refused x
+released_of (Ok u) = Told Done
 
 -- of a begin or a chunk
-abbrev pub handed_of : Handed → Answer
-handed_of (RefusedPiece x) = Refused x
-handed_of DonePiece = Told Done
+abbrev pub handed_of : Result (Unit {0}) Refusal → Answer
+handed_of (Err x) = Refused x
+handed_of (Ok u) = Told Done
 
-abbrev pub noticed_of : NoticedCode → Answer
-noticed_of (RefusedNotice x) = Refused x
-noticed_of (DoneNotice o) = Told (Noticed (timers_answer o))
+abbrev pub noticed_of : Result TimerOutcome Refusal → Answer
+noticed_of (Err x) = Refused x
+noticed_of (Ok o) = Told (Noticed (timers_answer o))
 
-abbrev pub looked_of : LookedCode → Answer
-looked_of (RefusedLook x) = Refused x
-looked_of NoRecord = Told (Looked no_record)
-looked_of (Found s shown) = Told (Looked (state_answer s shown))
+abbrev pub looked_of : Result (Option Found) Refusal → Answer
+looked_of (Err x) = Refused x
+looked_of (Ok None) = Told (Looked no_record)
+looked_of (Ok (Some f)) = Told (Looked (state_answer f.state f.advertised))
 
-abbrev pub metric_of : MetricCode → Answer
-metric_of (RefusedMetric x) = Refused x
-metric_of (Link n) = Told (Metric n)
+abbrev pub metric_of : Result ℕ Refusal → Answer
+metric_of (Err x) = Refused x
+metric_of (Ok n) = Told (Metric n)
 
-abbrev pub flags_of : NextFlags → Answer
-flags_of (RefusedFlags x) = Refused x
-flags_of (Next f) = Told (HelloFlags f.bits)
+abbrev pub flags_of : Result Flags Refusal → Answer
+flags_of (Err x) = Refused x
+flags_of (Ok f) = Told (HelloFlags f.bits)
 
 abbrev pub waiting_of : Waiting → Answer
 waiting_of w = Told (Waits w.count (some_waits w.lowest) (lowest_no w.lowest))

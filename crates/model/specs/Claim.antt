@@ -1,5 +1,5 @@
 -- Demand 3 (document 01, "The runs of demand 3"; document 02, W-205): a bad neighbour harms itself. What two runs must agree on, and the claim.
-use Rattle.std.specs.Prelude.{ℕ, ◌≡◌, ◌≢◌, Bool, true, false, cond, not, ◌&&◌, List, [], ◌∷◌, eqb}
+use Rattle.std.specs.Prelude.{ℕ, ◌≡◌, ◌≢◌, Bool, true, false, cond, not, ◌&&◌, List, [], ◌∷◌, eqb, Option, Some, None}
 use Rattle.timers.specs.Hellos.{Hellos}
 use Rattle.basics.specs.declared.kind.CircuitKind.{CircuitKind}
 use Rattle.basics.specs.declared.kind.CircuitKind.TheVariants.{Lan, P2p}
@@ -7,13 +7,12 @@ use Rattle.adjacency.specs.declared.record.Key.{Key}
 use Rattle.settings.specs.declared.mode.Mode.TheVariants.{Running}
 use Rattle.settings.specs.declared.setup.Settings.{Settings}
 use Rattle.control.specs.Common.{circuit_of}
-use Rattle.settings.specs.declared.circuit.Chosen.{Chosen}
-use Rattle.settings.specs.declared.circuit.Chosen.TheVariants.{Known, Unknown}
 use Rattle.model.specs.Numbers.{refusal_no}
 use Rattle.model.specs.Answers.{Answer, Refused, Received, Ticked, Told, Done, FrameAnswer}
 use Rattle.model.specs.Gateway.{Gateway, Started, setup, renew, record_at, unfinished_on}
 use Rattle.model.specs.Step.{Local, Receive, Release, Clear, CsnpComplete, LookUp, LinkMetric, NextHello, Call, At, Over, Hand, Outcome}
 use Rattle.model.specs.Trace.{Turn, trace}
+use Rattle.settings.specs.declared.circuit.Circuit.{Circuit}
 
 -- a bad neighbour: one source MAC on one circuit
 pub record Neighbour : Type 0 where
@@ -45,9 +44,9 @@ shared b (c ∷ cs) = cond (is_its b c) (shared b cs) (c ∷ shared b cs)
 
 -- ---- "On its LAN, until a run answers 9 there"; document 02, W-205: "it covers runs in which every frame there is given whole"
 
-unfoldable pub is_lan : Chosen → Bool
-is_lan Unknown = false
-is_lan (Known s) = by s.kind
+unfoldable pub is_lan : Option Circuit → Bool
+is_lan None = false
+is_lan (Some s) = by s.kind
   where
     by : CircuitKind → Bool
     by Lan = true

@@ -1,9 +1,8 @@
 -- What the gateway holds (document 01, "What the gateway holds"; document 02, W-205): the common part, and of each circuit its records and its
 -- unfinished frame.
-use Rattle.std.specs.Prelude.{ℕ, zero, suc, cond, List, [], map, get_or, set, replicate}
+use Rattle.std.specs.Prelude.{ℕ, zero, suc, cond, List, [], map, get_or, set, replicate, Option}
 use Rattle.basics.specs.Mask.{circuits}
 use Rattle.basics.specs.declared.refusal.Refusal.TheVariants.{BadSetting}
-use Rattle.adjacency.specs.declared.record.Adjacency.{Adjacency}
 use Rattle.adjacency.specs.declared.record.Key.{Key}
 use Rattle.adjacency.specs.declared.place.Slot.{Slot}
 use Rattle.room.specs.Table.{find, empty_room}
@@ -15,6 +14,7 @@ use Rattle.settings.specs.declared.circuit.Circuit.{Circuit}
 use Rattle.settings.specs.declared.setup.Settings.{Settings}
 use Rattle.control.specs.Common.{Common, start_of, setup_common}
 use Rattle.model.specs.Numbers.{refusal_no}
+use Rattle.adjacency.specs.declared.record.State.{State}
 
 -- one circuit's own
 pub record Room : Type 0 where
@@ -64,7 +64,7 @@ abbrev pub with_unfinished : Gateway → ℕ → Unfinished → Gateway
 with_unfinished g n u = with_frames g (renew g.unfinished n u)
 
 -- the record of a key on a circuit
-unfoldable pub record_at : Gateway → ℕ → Key → Adjacency
+unfoldable pub record_at : Gateway → ℕ → Key → Option State
 record_at g n k = find k (room_of g n).slots
 
 -- ---- setup

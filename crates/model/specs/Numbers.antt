@@ -1,23 +1,16 @@
 -- The numbers of every answer, case by case: the one table of them ("For any answer that is an enum, a definition gives this paper's
 -- number and values for each of its cases"). Refusals, flags, levels and circuits have document 01's numbers ("Refusals by number", "TLVs
 -- read"); the others are house. Every promise of crates gateway and isis_gr goes by this table, through Answers.
-use Rattle.std.specs.Prelude.{ℕ, ◌+◌, ◌*◌, Bool, true, false}
+use Rattle.std.specs.Prelude.{ℕ, ◌+◌, ◌*◌, Bool, true, false, Option, Some, None}
 use Rattle.basics.specs.Bits.{bit_of}
 use Rattle.basics.specs.declared.levels.Levels.{Levels}
-use Rattle.basics.specs.declared.places.Lowest.{Lowest}
-use Rattle.basics.specs.declared.places.Lowest.TheVariants.{Circuit, Nothing as NoneWaits}
 use Rattle.basics.specs.declared.refusal.Refusal.{Refusal}
 use Rattle.basics.specs.declared.refusal.Refusal.TheVariants.{NoCircuit, ReplyRoom, NotHello, BadLength, TlvPastEnd, BadTlv, WrongSource, WrongNeighbor, NoRoom, ClockBack, NotRestarting, BadSetting, NotBegun, TooLong}
 use Rattle.restart_tlv.specs.Flags.{SA}
 use Rattle.restart_tlv.specs.Restart.{ack_flag}
-use Rattle.adjacency.specs.declared.duty.Csnps.{Csnps}
-use Rattle.adjacency.specs.declared.duty.Csnps.TheVariants.{Nothing as NoCsnps, Ordered}
-use Rattle.adjacency.specs.declared.marks.Acknowledgement.{Acknowledgement}
-use Rattle.adjacency.specs.declared.marks.Acknowledgement.TheVariants.{Nothing as NoReply, Send}
 use Rattle.adjacency.specs.declared.record.Mark.{Mark}
 use Rattle.adjacency.specs.declared.record.Mark.TheVariants.{Clear as Unmarked, Restart, Planned}
 use Rattle.adjacency.specs.Record.{phase_of}
-use Rattle.adjacency.specs.declared.record.Adjacency.TheVariants.{Present}
 use Rattle.adjacency.specs.declared.record.Phase.{Phase}
 use Rattle.adjacency.specs.declared.record.Phase.TheVariants.{Gone, Init as InitPhase, Up as UpPhase}
 use Rattle.adjacency.specs.declared.record.State.{State}
@@ -29,6 +22,7 @@ use Rattle.timers.specs.declared.outcome.TimerOutcome.{TimerOutcome}
 use Rattle.timers.specs.declared.outcome.TimerOutcome.TheVariants.{Idle, Goes, Ended}
 use Rattle.timers.specs.declared.outcome.Overload.{Overload}
 use Rattle.timers.specs.declared.outcome.Overload.TheVariants.{Quiet, Set, Clear, Both}
+use Rattle.restart_tlv.specs.declared.writer.Ack.{Ack}
 
 -- ---- document 01's
 
@@ -67,22 +61,22 @@ position_no NotBegun = 0
 position_no TooLong = 0
 
 -- the flags of the reply, "RA or PA alone" (2, 16), 0 without one; and its Remaining Time
-abbrev pub reply_flags : Acknowledgement → ℕ
-reply_flags NoReply = 0
-reply_flags (Send ack time) = ack_flag ack
+abbrev pub reply_flags : Option (Ack × ℕ) → ℕ
+reply_flags None = 0
+reply_flags (Some (ack, time)) = ack_flag ack
 
-abbrev pub reply_time : Acknowledgement → ℕ
-reply_time NoReply = 0
-reply_time (Send ack time) = time
+abbrev pub reply_time : Option (Ack × ℕ) → ℕ
+reply_time None = 0
+reply_time (Some (ack, time)) = time
 
 -- "the lowest such circuit (or none)": whether there is one, and its number; 0 for none
-abbrev pub some_waits : Lowest → Bool
-some_waits NoneWaits = false
-some_waits (Circuit n) = true
+abbrev pub some_waits : Option ℕ → Bool
+some_waits None = false
+some_waits (Some n) = true
 
-abbrev pub lowest_no : Lowest → ℕ
-lowest_no NoneWaits = 0
-lowest_no (Circuit n) = n
+abbrev pub lowest_no : Option ℕ → ℕ
+lowest_no None = 0
+lowest_no (Some n) = n
 
 -- ---- house
 
@@ -91,13 +85,13 @@ abbrev pub levels_no : Levels → ℕ
 levels_no l = bit_of l.one + 2 * bit_of l.two
 
 -- whether line 1 orders CSNPs, and the levels of its order
-abbrev pub is_ordered : Csnps → Bool
-is_ordered NoCsnps = false
-is_ordered (Ordered l) = true
+abbrev pub is_ordered : Option Levels → Bool
+is_ordered None = false
+is_ordered (Some l) = true
 
-abbrev pub csnps_no : Csnps → ℕ
-csnps_no NoCsnps = 0
-csnps_no (Ordered l) = levels_no l
+abbrev pub csnps_no : Option Levels → ℕ
+csnps_no None = 0
+csnps_no (Some l) = levels_no l
 
 -- the flags of the hello that a frame orders on its circuit (SA, 4: document 02, W-201), 0 without one
 abbrev pub hello_no : HelloOrder → ℕ
@@ -136,4 +130,4 @@ phase_no InitPhase = 1
 phase_no UpPhase = 2
 
 abbrev pub state_no : State → ℕ
-state_no s = phase_no (phase_of (Present s))
+state_no s = phase_no (phase_of (Some s))

@@ -1,20 +1,14 @@
 -- Receive on a circuit, by stages in the order of the refusals (document 01, "Refusals by number"; document 02, W-201 and W-202). A stage is a
 -- function of the common part and of the circuit's own; n is the circuit's number, s its settings, b the lent reply buffer.
-use Rattle.std.specs.Prelude.{ℕ, ◌-◌, Bool, cond, List, length, ltb}
+use Rattle.std.specs.Prelude.{ℕ, ◌-◌, Bool, cond, List, length, ltb, Option, Result, Ok, Err}
 use Rattle.hello.specs.Hello.{hello_read}
 use Rattle.hello.specs.declared.read.Hello.{Hello}
-use Rattle.hello.specs.declared.read.Read.{Read}
-use Rattle.hello.specs.declared.read.Read.TheVariants.{Refused as RefusedRead, Accepted as ReadAs}
 use Rattle.basics.specs.declared.refusal.Refusal.{Refusal}
 use Rattle.basics.specs.declared.refusal.Refusal.TheVariants.{ReplyRoom, WrongSource}
 use Rattle.adjacency.specs.Record.{phase_of}
 use Rattle.adjacency.specs.Step.{wrong_source, rises}
 use Rattle.adjacency.specs.declared.duty.Rank.{Rank}
-use Rattle.adjacency.specs.declared.marks.Acknowledgement.{Acknowledgement}
 use Rattle.adjacency.specs.declared.marks.Line.{Line}
-use Rattle.adjacency.specs.declared.react.Reaction.{Reaction}
-use Rattle.adjacency.specs.declared.react.Reaction.TheVariants.{Refused as RefusedReaction, Accepted}
-use Rattle.adjacency.specs.declared.record.Adjacency.{Adjacency}
 use Rattle.adjacency.specs.declared.record.Key.{Key}
 use Rattle.adjacency.specs.declared.step.Here.{Here}
 use Rattle.timer_parts.specs.Heard.{heard_of}
@@ -33,6 +27,9 @@ use Rattle.model.specs.declared.answers.Change.{Change}
 use Rattle.model.specs.declared.answers.Orders.{Orders}
 use Rattle.model.specs.Answers.{Answer, Refused, Received, frame_answer, change_of}
 use Rattle.model.specs.Gateway.{Room, with_slots}
+use Rattle.adjacency.specs.React.{Reaction}
+use Rattle.restart_tlv.specs.declared.writer.Ack.{Ack}
+use Rattle.adjacency.specs.declared.record.State.{State}
 
 -- what a call on a circuit answers and replies, and what it makes of the common part and of the circuit's own
 pub record Acted : Type 0 where
@@ -74,7 +71,7 @@ timers_after n s h x c = heard c.lengths c.clock (t1_of n s h) (has_risen x) (sa
 abbrev pub timers_orders : ℕ → Circuit → Hello → Change → Common → HeardOrders
 timers_orders n s h x c = heard_orders c.lengths c.clock (t1_of n s h) (has_risen x) (said_of c s h) c.timers
 
-abbrev pub orders_of : ℕ → Circuit → Hello → Acknowledgement → Line → Change → Common → Room → Orders
+abbrev pub orders_of : ℕ → Circuit → Hello → Option (Ack × ℕ) → Line → Change → Common → Room → Orders
 orders_of n s h reply line change c r =
     let o : HeardOrders = timers_orders n s h change c in
     record {
@@ -87,7 +84,7 @@ orders_of n s h reply line change c r =
     }
 
 -- The record, then line 1's order, then the timers, then the reply.
-unfoldable pub accepted : ℕ → Circuit → Hello → Key → List ℕ → Adjacency → Acknowledgement → Line → Common → Room → Acted
+unfoldable pub accepted : ℕ → Circuit → Hello → Key → List ℕ → Option State → Option (Ack × ℕ) → Line → Common → Room → Acted
 accepted n s h k b after reply line c r =
     let change : Change = change_of k (phase_of (find k r.slots)) after in
     let room : Room = with_slots r (kept k after r.slots) in
@@ -100,8 +97,8 @@ accepted n s h k b after reply line c r =
 
 -- refusals 8 and 9, or the frame's effect
 unfoldable pub reacted : ℕ → Circuit → Hello → Key → List ℕ → Reaction → Common → Room → Acted
-reacted n s h k b (RefusedReaction x) c r = refuse b x c r
-reacted n s h k b (Accepted after reply line) c r = accepted n s h k b after reply line c r
+reacted n s h k b (Err x) c r = refuse b x c r
+reacted n s h k b (Ok (after, reply, line)) c r = accepted n s h k b after reply line c r
 
 unfoldable pub decided_in : ℕ → Circuit → ℕ → List ℕ → Hello → Common → Room → Acted
 decided_in n s mac b h c r =
@@ -113,9 +110,9 @@ checked n s mac b h c r =
     cond (wrong_source s.levels c.system h) (refuse b WrongSource c r) (decided_in n s mac b h c r)
 
 -- refusals 3 to 6
-unfoldable pub read_in : ℕ → Circuit → ℕ → List ℕ → Read → Common → Room → Acted
-read_in n s mac b (RefusedRead x) = refuse b x
-read_in n s mac b (ReadAs h) = checked n s mac b h
+unfoldable pub read_in : ℕ → Circuit → ℕ → List ℕ → Result Hello Refusal → Common → Room → Acted
+read_in n s mac b (Err x) = refuse b x
+read_in n s mac b (Ok h) = checked n s mac b h
 
 -- refusal 2: "reply buffer under 11 octets, reply due or not"
 abbrev pub is_short : List ℕ → Bool

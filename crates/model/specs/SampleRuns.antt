@@ -1,10 +1,7 @@
 -- Document 01, "Sample runs", C1 to C10, as runs of `step` from what setup returned: all rows under one statement. On the right of ≡
 -- stand the document's numbers; expiries that it leaves out (383 in C8; 32, 37 and 39 in C9) are clock + Remaining Time and
 -- clock + Holding Time, by lines 3 and 5 of its "Marks and holding time".
-use Rattle.std.specs.Prelude.{ℕ, true, false, ◌≡◌, List, [], ◌∷◌, ◌++◌, map, replicate, eqb, ltb}
-use Rattle.hello.specs.declared.reverse.ReverseMetric.TheVariants.{Absent as NoMetric}
-use Rattle.adjacency.specs.declared.record.Adjacency.{Adjacency}
-use Rattle.adjacency.specs.declared.record.Adjacency.TheVariants.{Present}
+use Rattle.std.specs.Prelude.{ℕ, true, false, ◌≡◌, List, [], ◌∷◌, ◌++◌, map, replicate, eqb, ltb, Option, Some, None}
 use Rattle.adjacency.specs.declared.record.Data.{Data}
 use Rattle.adjacency.specs.declared.record.Key.{Key}
 use Rattle.adjacency.specs.declared.record.Mark.{Mark}
@@ -19,11 +16,12 @@ use Rattle.model.specs.Gateway.{Gateway, setup, record_at}
 use Rattle.model.specs.Step.{Outcome, LinkMetric, At, step}
 use Rattle.model.specs.Trace.{after}
 use Rattle.model.specs.SampleFrames.{settings, hello, acknowledging, reversing, Row, row, lent_octets, receiving, calls_of, played, From}
+use Rattle.adjacency.specs.declared.record.State.{State}
 
 -- ---- what is seen of a row
 
 pub record Seen : Type 0 where
-  pub adjacency : Adjacency
+  pub adjacency : Option State
   pub reply : List ℕ
   pub answer : Answer
 
@@ -33,14 +31,14 @@ key = record { level = 0; system = 0x192168001002; mac = 0 }
 abbrev pub seen : Outcome → Seen
 seen o = record { adjacency = record_at o.next 1 key; reply = o.reply; answer = o.answer }
 
-abbrev pub saw : Adjacency → List ℕ → Answer → Seen
+abbrev pub saw : Option State → List ℕ → Answer → Seen
 saw adjacency reply answer = record { adjacency = adjacency; reply = reply; answer = answer }
 
 abbrev pub kept : ℕ → Data
-kept expiry = record { expiry = expiry; suppressed = false; last = record { priority = 0; tlv = true; reverse = NoMetric } }
+kept expiry = record { expiry = expiry; suppressed = false; last = record { priority = 0; tlv = true; reverse = None } }
 
-abbrev pub up : ℕ → Mark → Adjacency
-up expiry mark = Present (Up (kept expiry) mark)
+abbrev pub up : ℕ → Mark → Option State
+up expiry mark = Some (Up (kept expiry) mark)
 
 -- 211, 9, the flag, Remaining Time, the sender's System ID
 abbrev pub octets : ℕ → ℕ → ℕ → List ℕ
@@ -100,7 +98,7 @@ C7 =
     From (setup (settings Running 10 100))
     (λ g.
     played seen g (row 100 2 (1 ∷ 0 ∷ 0 ∷ []) ∷ [])
-    ≡ saw (Present (Init (kept 127))) (octets 0x02 0x00 0x1B) (received 2 27 0 0 1) ∷ [])
+    ≡ saw (Some (Init (kept 127))) (octets 0x02 0x00 0x1B) (received 2 27 0 0 1) ∷ [])
 
 -- ---- C8: lengths of the Restart TLV
 

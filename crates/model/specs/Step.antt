@@ -1,6 +1,6 @@
 -- The calls, and the step that each is (document 01, "What the gateway holds" and "Refusals by number"; document 02, W-205): its answer, the reply
 -- buffer, and the next gateway. Each call's promise and every claim about lists of calls cite this step.
-use Rattle.std.specs.Prelude.{ℕ, ◌-◌, Bool, true, false, cond, List, [], ◌∷◌, map, get_or, replicate, ltb}
+use Rattle.std.specs.Prelude.{ℕ, ◌-◌, Bool, true, false, cond, List, [], ◌∷◌, map, get_or, replicate, ltb, Option, Some, None}
 use Rattle.basics.specs.declared.kind.CircuitKind.{CircuitKind}
 use Rattle.basics.specs.declared.kind.CircuitKind.TheVariants.{Lan, P2p}
 use Rattle.basics.specs.declared.levels.Levels.{Levels}
@@ -22,8 +22,6 @@ use Rattle.settings.specs.Settings.{enabled_levels}
 use Rattle.settings.specs.Serving.{t1_place}
 use Rattle.settings.specs.declared.circuit.Circuit.{Circuit}
 use Rattle.control.specs.Common.{Common, with_clock, with_timers, circuit_of}
-use Rattle.settings.specs.declared.circuit.Chosen.{Chosen}
-use Rattle.settings.specs.declared.circuit.Chosen.TheVariants.{Known, Unknown}
 use Rattle.adjacency.specs.Keys.{key_on}
 use Rattle.model.specs.Numbers.{some_waits, lowest_no}
 use Rattle.model.specs.Answers.{Answer, Refused as RefusedAnswer, Ticked, Told, Fact, Done, Noticed, Looked, Metric, HelloFlags, Waits, TimersAnswer, timers_answer, record_answer}
@@ -140,9 +138,9 @@ abbrev pub refused : Gateway → List ℕ → Refusal → Outcome
 refused g b x = record { answer = RefusedAnswer x; reply = b; next = g }
 
 -- 1: "no circuit of that number"
-unfoldable pub on : Gateway → ℕ → Local → Chosen → Outcome
-on g n l Unknown = refused g (lent l) NoCircuit
-on g n l (Known s) = lift g n (act n s l)
+unfoldable pub on : Gateway → ℕ → Local → Option Circuit → Outcome
+on g n l None = refused g (lent l) NoCircuit
+on g n l (Some s) = lift g n (act n s l)
 
 unfoldable pub at : Gateway → ℕ → Local → Outcome
 at g n l = on g n l (circuit_of g.common n)
@@ -236,9 +234,9 @@ lent_to (Chunk octets) = []
 lent_to (End b) = b
 
 -- 1, ahead of 13 and 14
-unfoldable pub hand_on : Gateway → ℕ → Piece → Chosen → Outcome
-hand_on g n p Unknown = refused g (lent_to p) NoCircuit
-hand_on g n p (Known s) = hand g n p
+unfoldable pub hand_on : Gateway → ℕ → Piece → Option Circuit → Outcome
+hand_on g n p None = refused g (lent_to p) NoCircuit
+hand_on g n p (Some s) = hand g n p
 
 -- ---- every call
 

@@ -1,16 +1,12 @@
 -- What a call is to the timers (document 01, "Timers while Restarting"; document 02, W-201, W-202 and W-205): one event. The timers after a call are those
 -- that its event leaves (proofs/TimerEventLaws), so that a claim about the timers over lists of calls is one about lists of events.
-use Rattle.std.specs.Prelude.{ℕ, ◌-◌, Bool, false, cond, not, ◌&&◌, eqb, List, [], ◌∷◌, map}
+use Rattle.std.specs.Prelude.{ℕ, ◌-◌, Bool, false, cond, not, ◌&&◌, eqb, List, [], ◌∷◌, map, Option, Some, None, Result, Ok, Err}
 use Rattle.basics.specs.Levels.{only_level}
 use Rattle.basics.specs.declared.levels.Levels.{Levels}
 use Rattle.settings.specs.Serving.{t1_place}
 use Rattle.hello.specs.Hello.{hello_read}
-use Rattle.hello.specs.declared.read.Read.{Read}
-use Rattle.hello.specs.declared.read.Read.TheVariants.{Refused as RefusedRead, Accepted as ReadAs}
 use Rattle.settings.specs.declared.lengths.Lengths.{Lengths}
 use Rattle.settings.specs.declared.circuit.Circuit.{Circuit}
-use Rattle.settings.specs.declared.circuit.Chosen.{Chosen}
-use Rattle.settings.specs.declared.circuit.Chosen.TheVariants.{Known, Unknown}
 use Rattle.timer_parts.specs.declared.heard.Heard.{Heard}
 use Rattle.timers.specs.Timers.{Timers, ticked, heard, csnp_noticed, database_noticed}
 use Rattle.control.specs.Common.{Common, circuit_of}
@@ -22,6 +18,8 @@ use Rattle.model.specs.Gateway.{Gateway, unfinished_on}
 use Rattle.model.specs.Receive.{said_of, t1_of}
 use Rattle.model.specs.Step.{Local, Receive, Release, Clear, CsnpComplete, LookUp, LinkMetric, NextHello, Global, Tick, DatabaseComplete, Waiting, Piece, Begin, Chunk, End, Call, At, Over, Hand, none_of, step}
 use Rattle.model.specs.Trace.{Turn}
+use Rattle.hello.specs.declared.read.Hello.{Hello as HelloRead}
+use Rattle.basics.specs.declared.refusal.Refusal.{Refusal}
 
 -- A hello: the clock at its arrival, the place of its T1, whether its record became UP, and what the frame says. A CSNP notice: the place of its T1,
 -- and the notice's level. Places count from 0.
@@ -46,20 +44,20 @@ moved_all (e ∷ es) t = moved_all es (moved e t)
 
 -- ---- of a call
 
-unfoldable pub heard_from : ℕ → Circuit → Common → Bool → Read → TimerEvent
-heard_from n s c rose (RefusedRead x) = Nothing
-heard_from n s c rose (ReadAs h) = Hello c.lengths c.clock (t1_of n s h) rose (said_of c s h)
+unfoldable pub heard_from : ℕ → Circuit → Common → Bool → Result HelloRead Refusal → TimerEvent
+heard_from n s c rose (Err x) = Nothing
+heard_from n s c rose (Ok h) = Hello c.lengths c.clock (t1_of n s h) rose (said_of c s h)
 
 -- what it is if it is not refused; rose: a frame's record became UP
-unfoldable pub offered_on : ℕ → Common → Bool → Local → Chosen → TimerEvent
-offered_on n c rose l Unknown = Nothing
-offered_on n c rose (Receive mac frame b) (Known s) = heard_from n s c rose (hello_read s.kind s.mac frame)
-offered_on n c rose Release (Known s) = Nothing
-offered_on n c rose Clear (Known s) = Nothing
-offered_on n c rose (CsnpComplete level) (Known s) = CsnpSet (t1_place s.kind (n - 1) level) (only_level level)
-offered_on n c rose (LookUp k) (Known s) = Nothing
-offered_on n c rose LinkMetric (Known s) = Nothing
-offered_on n c rose (NextHello level) (Known s) = Nothing
+unfoldable pub offered_on : ℕ → Common → Bool → Local → Option Circuit → TimerEvent
+offered_on n c rose l None = Nothing
+offered_on n c rose (Receive mac frame b) (Some s) = heard_from n s c rose (hello_read s.kind s.mac frame)
+offered_on n c rose Release (Some s) = Nothing
+offered_on n c rose Clear (Some s) = Nothing
+offered_on n c rose (CsnpComplete level) (Some s) = CsnpSet (t1_place s.kind (n - 1) level) (only_level level)
+offered_on n c rose (LookUp k) (Some s) = Nothing
+offered_on n c rose LinkMetric (Some s) = Nothing
+offered_on n c rose (NextHello level) (Some s) = Nothing
 
 -- memory that was never set up holds no timer for a tick
 unfoldable pub offered_over : Common → Global → TimerEvent

@@ -1,9 +1,9 @@
-// What the calls answer (document 01, "What the gateway holds"). An order is an action the caller must take. A mask over circuits has
-// the lowest bit for circuit 1.
-use adjacency::duty::Csnps;
-use adjacency::marks::Acknowledgement;
+// What the calls answer (document 01, "What the gateway holds"): `Err` with the refusal, or `Ok` with what follows here; release, clear, and begin and chunk
+// of a frame have nothing to report. A notice answers how the timers ended and what they order, setup the hellos that are ordered. An order is an action the
+// caller must take. A mask over circuits has the lowest bit for circuit 1.
+use adjacency::marks::Reply;
 use adjacency::record::{Phase, State};
-use basics::places::Lowest;
+use basics::levels::Levels;
 use basics::refusal::Refusal;
 use restart_tlv::flags::Flags;
 use timer_parts::t1::Freed;
@@ -25,75 +25,32 @@ pub struct Change {
 // stopped for want of a Restart TLV, the hello that is ordered on the circuit (on a LAN, of its level), and what became of the record.
 #[derive(Clone, Copy)]
 pub struct Orders {
-    pub reply: Acknowledgement,
-    pub csnps: Csnps,
+    pub reply: Option<Reply>,
+    pub csnps: Option<Levels>,
     pub outcome: TimerOutcome,
     pub freed: Freed,
     pub hello: HelloOrder,
     pub change: Change,
 }
 
-#[derive(Clone, Copy)]
-pub enum Received {
-    Refused(Refusal),
-    Done(Orders),
-}
-
 // Of a tick: the circuits that lost a record, the hellos that are ordered, and how the timers ended.
 #[derive(Clone, Copy)]
-pub enum Ticked {
-    Refused(Refusal),
-    Done {
-        lost: u8,
-        hellos: HelloOrders,
-        outcome: TimerOutcome,
-    },
+pub struct Ticked {
+    pub lost: u8,
+    pub hellos: HelloOrders,
+    pub outcome: TimerOutcome,
 }
 
-// Of a call with nothing to report: release and clear.
+// Of a look up: the state of the record with the key, if there is one, and whether it is advertised.
 #[derive(Clone, Copy)]
-pub enum Released {
-    Refused(Refusal),
-    Done,
-}
-
-// Of a notice: how the timers ended and what they order.
-#[derive(Clone, Copy)]
-pub enum Noticed {
-    Refused(Refusal),
-    Done(TimerOutcome),
-}
-
-// Of a look up: the state of the record with the key and whether it is advertised, or that there is none.
-#[derive(Clone, Copy)]
-pub enum Looked {
-    Refused(Refusal),
-    Nothing,
-    Found { state: State, advertised: bool },
-}
-
-#[derive(Clone, Copy)]
-pub enum Metric {
-    Refused(Refusal),
-    Link(u32),
-}
-
-#[derive(Clone, Copy)]
-pub enum NextFlags {
-    Refused(Refusal),
-    Next(Flags),
+pub struct Found {
+    pub state: State,
+    pub advertised: bool,
 }
 
 // How many T1s run, and the lowest circuit with one.
 #[derive(Clone, Copy)]
 pub struct Waiting {
     pub count: u32,
-    pub lowest: Lowest,
-}
-
-// Of setup: the hellos that are ordered.
-#[derive(Clone, Copy)]
-pub enum SetUp {
-    Refused(Refusal),
-    Done(HelloOrders),
+    pub lowest: Option<u8>,
 }

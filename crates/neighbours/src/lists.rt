@@ -5,14 +5,7 @@ ghost use Rattle.neighbours.specs.Neighbours.{listed_in};
 ghost use Rattle.neighbours.specs.Lists.{neighbours_fault, list_read};
 
 use crate::search::is_listed_in;
-use tlv::tlvs::{Found, IS_NEIGHBOURS, find, value_at};
-
-// What reading them gives: a length is no multiple of 6, or whether a MAC is listed.
-#[derive(Clone, Copy)]
-pub enum ListRead {
-    Bad,
-    Good(bool),
-}
+use tlv::tlvs::{BrokenRule, IS_NEIGHBOURS, find, value_at};
 
 // Whether the MAC was listed before, or is in the value of the TLV from `at` to `next`.
 fn is_listed_here(listed: bool, pdu: &[u8], at: usize, next: usize, mac: u64) -> bool
@@ -26,23 +19,23 @@ fn is_listed_here(listed: bool, pdu: &[u8], at: usize, next: usize, mac: u64) ->
 }
 
 // The list of a PDU that has one, as most have. Apart from the others it costs no loop over TLVs, and its search has more registers.
-fn read_lone(pdu: &[u8], from: usize, mac: u64) -> ListRead
+fn read_lone(pdu: &[u8], from: usize, mac: u64) -> Result<bool, BrokenRule>
     requires { 1 ≡ length (of_type 6 (tlvs pdu.now from)) }
     ensures { result ≡ list_read mac (of_type 6 (tlvs pdu.now from)) }
 {
     let found = find(pdu, from, IS_NEIGHBOURS);
-    let Found::At(p) = found else {
-        return ListRead::Good(false);
+    let Some(p) = found else {
+        return Ok(false);
     };
     let v = value_at(pdu, p);
     if v.len() % 6 != 0 {
-        return ListRead::Bad;
+        return Err(BrokenRule);
     }
-    ListRead::Good(is_listed_in(pdu, p, p + 2 + v.len(), mac))
+    Ok(is_listed_in(pdu, p, p + 2 + v.len(), mac))
 }
 
 // The lists of a PDU that has any number of them.
-fn read_each(pdu: &[u8], from: usize, count: usize, mac: u64) -> ListRead
+fn read_each(pdu: &[u8], from: usize, count: usize, mac: u64) -> Result<bool, BrokenRule>
     requires { count ≡ length (of_type 6 (tlvs pdu.now from)) }
     ensures { result ≡ list_read mac (of_type 6 (tlvs pdu.now from)) }
 {
@@ -51,22 +44,22 @@ fn read_each(pdu: &[u8], from: usize, count: usize, mac: u64) -> ListRead
     let mut left = count;
     while 0 < left {
         let found = find(pdu, at, IS_NEIGHBOURS);
-        let Found::At(p) = found else {
-            return ListRead::Good(listed);
+        let Some(p) = found else {
+            return Ok(listed);
         };
         let v = value_at(pdu, p);
         if v.len() % 6 != 0 {
-            return ListRead::Bad;
+            return Err(BrokenRule);
         }
         at = p + 2 + v.len();
         listed = is_listed_here(listed, pdu, p, at, mac);
         left -= 1;
     }
-    ListRead::Good(listed)
+    Ok(listed)
 }
 
 // The lists of a PDU whose TLVs start at `from`, of which `count` are lists.
-pub fn read_lists(pdu: &[u8], from: usize, count: usize, mac: u64) -> ListRead
+pub fn read_lists(pdu: &[u8], from: usize, count: usize, mac: u64) -> Result<bool, BrokenRule>
     requires { count ≡ length (of_type 6 (tlvs pdu.now from)) }
     ensures { result ≡ list_read mac (of_type 6 (tlvs pdu.now from)) }
 {
@@ -77,20 +70,20 @@ pub fn read_lists(pdu: &[u8], from: usize, count: usize, mac: u64) -> ListRead
 }
 
 // The first list of a PDU whose length is no multiple of 6.
-pub fn lists_fault(pdu: &[u8], from: usize) -> Found
+pub fn lists_fault(pdu: &[u8], from: usize) -> Option<usize>
     ensures { result ≡ neighbours_fault (of_type 6 (tlvs pdu.now from)) }
 {
     let mut at = from;
     while at < pdu.len() {
         let found = find(pdu, at, IS_NEIGHBOURS);
-        let Found::At(p) = found else {
-            return Found::Nothing;
+        let Some(p) = found else {
+            return None;
         };
         let v = value_at(pdu, p);
         if v.len() % 6 != 0 {
-            return Found::At(p);
+            return Some(p);
         }
         at = p + 2 + v.len();
     }
-    Found::Nothing
+    None
 }

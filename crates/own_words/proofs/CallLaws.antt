@@ -12,7 +12,6 @@ use borrow.Rule.Slice.PartMut.{put_mid}
 use Rattle.own_words.specs.Tick.{ticked_common, SweepsAll}
 use Rattle.basics.specs.declared.refusal.Refusal.TheVariants.{NoCircuit, ClockBack, NotRestarting}
 use Rattle.basics.specs.Levels.{has_level, only_level}
-use Rattle.adjacency.specs.declared.record.Adjacency.{Adjacency}
 use Rattle.adjacency.specs.declared.record.Key.{Key}
 use Rattle.slots.specs.Slots.{table_of, room_words}
 use Rattle.adjacency.specs.Place.{expired_by}
@@ -26,7 +25,6 @@ use Rattle.basics.specs.declared.kind.CircuitKind.{CircuitKind}
 use Rattle.basics.specs.declared.kind.CircuitKind.TheVariants.{Lan}
 use Rattle.basics.specs.Mask.{bits_of, circuits}
 use Rattle.timer_parts.specs.T1.{hello_flags}
-use Rattle.basics.specs.declared.places.Lowest.{Lowest}
 use Rattle.timers.specs.Hellos.{Hellos}
 use Rattle.timers.specs.Timers.{Timers, to_t3, csnp_in, notice_t2s, no_t1, count_runs, lowest_runs}
 use Rattle.settings.specs.Mode.{is_running}
@@ -48,6 +46,8 @@ use Rattle.model.specs.Step.{Call, Judged, Refused as RefusedCall, Tell, Release
 use Rattle.own_words.specs.Words.{own_words, room_place, gateway_of, Meets}
 use Rattle.basics.specs.Lists.{part}
 use Rattle.own_words.proofs.WordLaws.{along, asks, common-at, common-put, room-put, room-at, room-of, renew-at, same-room}
+use Rattle.std.specs.Prelude.{Option}
+use Rattle.adjacency.specs.declared.record.State.{State}
 
 -- ---- a call on a circuit that changes the common part, or the circuit's own
 
@@ -125,17 +125,17 @@ module _ (ws : List ℕ) (n : ℕ) (len : length ws ≡ own_words) where
     unfolding lift look_up
     looks-not e = rw e refl
 
-    pub looks : (lo : 0 < n) (hi : n ≤ circuits) (own : Key) (stood : Adjacency) (a : Answer) → asks_level s.kind s.levels k.level ≡ true → own ≡ key_on s.kind k
+    pub looks : (lo : 0 < n) (hi : n ≤ circuits) (own : Key) (stood : Option State) (a : Answer) → asks_level s.kind s.levels k.level ≡ true → own ≡ key_on s.kind k
         → stood ≡ find own (table_of (part (room_place (n - 1)) (room_place (n - 1) + room_words - room_place (n - 1)) ws)) → a ≡ Told (Looked (record_answer stood))
         → Meets a (lift g n (look_up s k)) ws ws []
     unfolding look_up
     looks lo hi own stood a e ke f p =
         let w : stood ≡ find (key_on s.kind k) (room_of g n).slots =
         f ∙ ap (λ (x : Key). find x (table_of (part (room_place (n - 1)) (room_place (n - 1) + room_words - room_place (n - 1)) ws))) ke ∙ ap (find (key_on s.kind k)) (room-of ws n lo hi) in
-        asks ws n (look_up s k) a (rw e (p ∙ ap (λ (x : Adjacency). Told (Looked (record_answer x))) w)) (rw e refl) (rw e refl) (rw e refl)
+        asks ws n (look_up s k) a (rw e (p ∙ ap (λ (x : Option State). Told (Looked (record_answer x))) w)) (rw e refl) (rw e refl) (rw e refl)
 
   -- link metric
-  pub measures : (lo : 0 < n) (hi : n ≤ circuits) (s : Circuit) (stood : Adjacency) (m : ℕ)
+  pub measures : (lo : 0 < n) (hi : n ≤ circuits) (s : Circuit) (stood : Option State) (m : ℕ)
       → stood ≡ first_state (table_of (part (room_place (n - 1)) (room_place (n - 1) + room_words - room_place (n - 1)) ws)) → m ≡ link_metric s.kind s.metric stood
       → Meets (Told (Metric m)) (lift g n (act n s LinkMetric)) ws ws []
   unfolding act link_metric_of
@@ -281,7 +281,7 @@ module _ (ws : List ℕ) where
           })
 
   -- the T1s that run
-  pub waits : (k : ℕ) (low : Lowest) → k ≡ count_runs cs.timers.t1s → low ≡ lowest_runs cs.timers.t1s → Meets (Told (Waits k (some_waits low) (lowest_no low))) (step gw (Over Waiting)) ws ws []
+  pub waits : (k : ℕ) (low : Option ℕ) → k ≡ count_runs cs.timers.t1s → low ≡ lowest_runs cs.timers.t1s → Meets (Told (Waits k (some_waits low) (lowest_no low))) (step gw (Over Waiting)) ws ws []
   unfolding step judge carry gateway_of
   waits k low e f = record { answer = λ i. Told (Waits (e i) (some_waits (f i)) (lowest_no (f i))); reply = refl; next = refl; kept = λ x y. refl }
 

@@ -12,18 +12,12 @@ use Rattle.own_words.specs.Frame.{common_after, GivesOrders}
 use Rattle.basics.specs.Mask.{circuits}
 use Rattle.hello.specs.Hello.{hello_read}
 use Rattle.hello.specs.declared.read.Hello.{Hello}
-use Rattle.hello.specs.declared.read.Read.TheVariants.{Refused as RefusedRead, Accepted as ReadAs}
 use Rattle.basics.specs.declared.refusal.Refusal.{Refusal}
 use Rattle.basics.specs.declared.refusal.Refusal.TheVariants.{ReplyRoom, WrongSource}
 use Rattle.adjacency.specs.Record.{phase_of}
 use Rattle.adjacency.specs.Step.{wrong_source}
-use Rattle.adjacency.specs.declared.duty.Csnps.{Csnps}
 use Rattle.adjacency.specs.declared.duty.Rank.{Rank}
-use Rattle.adjacency.specs.declared.marks.Acknowledgement.{Acknowledgement}
 use Rattle.adjacency.specs.declared.marks.Line.{Line}
-use Rattle.adjacency.specs.declared.react.Reaction.{Reaction}
-use Rattle.adjacency.specs.declared.react.Reaction.TheVariants.{Refused as RefusedReaction, Accepted}
-use Rattle.adjacency.specs.declared.record.Adjacency.{Adjacency}
 use Rattle.adjacency.specs.declared.record.Key.{Key}
 use Rattle.adjacency.specs.declared.record.Phase.{Phase}
 use Rattle.adjacency.specs.declared.step.Here.{Here}
@@ -49,12 +43,17 @@ use Rattle.model.specs.Step.{Receive, act, lift}
 use Rattle.own_words.specs.Words.{own_words, room_place, gateway_of, circuit_held, Meets}
 use Rattle.basics.specs.Lists.{part}
 use Rattle.own_words.proofs.WordLaws.{along, refuses, common-at, common-put, common-stays, room-put, room-same, room-of, renew-at}
+use Rattle.std.specs.Prelude.{Option, Ok, Err}
+use Rattle.adjacency.specs.React.{Reaction}
+use Rattle.basics.specs.declared.levels.Levels.{Levels}
+use Rattle.restart_tlv.specs.declared.writer.Ack.{Ack}
+use Rattle.adjacency.specs.declared.record.State.{State}
 
 pub hears-said : {i i' : ℕ} {rose rose' : Bool} {d d' : Heard} {ws u : List ℕ} {o : HeardOrders} → i ≡ i' → rose ≡ rose' → d ≡ d' → CommonHears i rose d ws u o
     → CommonHears i' rose' d' ws u o
 hears-said p r e h = rw (← p, ← r, ← e) h
 
-pub of-circuit : {n : ℕ} {s s' : Circuit} {h : Hello} {reply : Acknowledgement} {line : Line} {change : Change} {ws u : List ℕ} {o : Orders} → s ≡ s'
+pub of-circuit : {n : ℕ} {s s' : Circuit} {h : Hello} {reply : Option (Ack × ℕ)} {line : Line} {change : Change} {ws u : List ℕ} {o : Orders} → s ≡ s'
     → GivesOrders n s h reply line change ws u o → GivesOrders n s' h reply line change ws u o
 of-circuit e g = rw (← e) g
 
@@ -70,11 +69,11 @@ module _ (g : Gateway) (n : ℕ) (s : Circuit) (mac : ℕ) (frame b : List ℕ) 
   small h = rw (lt-ltb (length b) 11 h) refl
 
   module _ (room : 11 ≤ length b) where
-    pub reads-bad : (x : Refusal) → hello_read s.kind s.mac frame ≡ RefusedRead x → lift g n (refuse b x) ≡ lift g n (receive n s mac frame b)
+    pub reads-bad : (x : Refusal) → hello_read s.kind s.mac frame ≡ Err x → lift g n (refuse b x) ≡ lift g n (receive n s mac frame b)
     unfolding receive read_in
     reads-bad x e = rw (le-ltb (length b) 11 room, e) refl
 
-    pub reads-good : (h : Hello) → hello_read s.kind s.mac frame ≡ ReadAs h → lift g n (checked n s mac b h) ≡ lift g n (receive n s mac frame b)
+    pub reads-good : (h : Hello) → hello_read s.kind s.mac frame ≡ Ok h → lift g n (checked n s mac b h) ≡ lift g n (receive n s mac frame b)
     unfolding receive read_in
     reads-good h e = rw (le-ltb (length b) 11 room, e) refl
 
@@ -100,12 +99,12 @@ module _ (ws : List ℕ) (n : ℕ) (s : Circuit) (mac : ℕ) (h : Hello) (b : Li
   abbrev k : Key
   k = key_in s.kind mac h
 
-  refused-is : (x : Refusal) → RefusedReaction x ≡ decided (here_of g.common s) k h (room_of g n).slots → lift g n (refuse b x) ≡ lift g n (decided_in n s mac b h)
+  refused-is : (x : Refusal) → Err x ≡ decided (here_of g.common s) k h (room_of g n).slots → lift g n (refuse b x) ≡ lift g n (decided_in n s mac b h)
   unfolding lift decided_in reacted
   refused-is x e = rw (← e) refl
 
-  accepted-is : (after : Adjacency) (reply : Acknowledgement) (line : Line)
-      → Accepted after reply line ≡ decided (here_of g.common s) k h (room_of g n).slots
+  accepted-is : (after : Option State) (reply : Option (Ack × ℕ)) (line : Line)
+      → Ok (after, reply, line) ≡ decided (here_of g.common s) k h (room_of g n).slots
       → lift g n (accepted n s h k b after reply line) ≡ lift g n (decided_in n s mac b h)
   unfolding lift decided_in reacted
   accepted-is after reply line e = rw (← e) refl
@@ -118,14 +117,14 @@ module _ (ws : List ℕ) (n : ℕ) (s : Circuit) (mac : ℕ) (h : Hello) (b : Li
         ∙ ap (λ (x : Key). decided (here_of g.common s) x h (table_of (part a (a + room_words - a) ws))) ke
         ∙ ap (decided (here_of g.common s) k h) (room-of ws n lo hi)
 
-    pub left : (x : Refusal) (t b' : List ℕ) (d : Decision) → d.reaction ≡ RefusedReaction x → Accepts here key h (part a (a + room_words - a) ws) b t b' d
+    pub left : (x : Refusal) (t b' : List ℕ) (d : Decision) → d.reaction ≡ Err x → Accepts here key h (part a (a + room_words - a) ws) b t b' d
         → Meets (Refused x) (lift g n (decided_in n s mac b h)) ws (put_mid a (a + room_words - a) ws t) b'
     left x t b' d e l =
-        let did : Did key h.system (part a (a + room_words - a) ws) b t b' (RefusedReaction x) = rw e at l.did in
+        let did : Did key h.system (part a (a + room_words - a) ws) b t b' (Err x) = rw e at l.did in
         let w : put_mid a (a + room_words - a) ws t ≡ ws = ap (put_mid a (a + room_words - a) ws) did.0 ∙ put_same a (a + room_words - a) ws in
-        rw (w, did.1) (along (refused-is x (decided-at (RefusedReaction x) (sym e ∙ l.is))) (refuses ws n b x))
+        rw (w, did.1) (along (refused-is x (decided-at (Err x) (sym e ∙ l.is))) (refuses ws n b x))
 
-    module _ (t b' : List ℕ) (after : Adjacency) (reply : Acknowledgement) (line : Line) (lt : length t ≡ a + room_words - a) where
+    module _ (t b' : List ℕ) (after : Option State) (reply : Option (Ack × ℕ)) (line : Line) (lt : length t ≡ a + room_words - a) where
       abbrev ws1 : List ℕ
       ws1 = put_mid a (a + room_words - a) ws t
 
@@ -146,12 +145,12 @@ module _ (ws : List ℕ) (n : ℕ) (s : Circuit) (mac : ℕ) (h : Hello) (b : Li
           ap (λ (x : Phase). change_of key x after) (e ∙ ap (λ (x : List Slot). phase_of (find key x)) (room-of ws n lo hi))
           ∙ ap (λ (x : Key). change_of x (phase_of (find x (room_of g n).slots)) after) ke
 
-      pub taken : (ws2 : List ℕ) (o : Orders) (d : Decision) → d.reaction ≡ Accepted after reply line
+      pub taken : (ws2 : List ℕ) (o : Orders) (d : Decision) → d.reaction ≡ Ok (after, reply, line)
           → Accepts here key h (part a (a + room_words - a) ws) b t b' d → (change : Change) → change ≡ change_of key d.before after
           → GivesOrders n s h reply line change ws1 ws2 o → Meets (Received (frame_answer o)) (lift g n (decided_in n s mac b h)) ws ws2 b'
       unfolding lift accepted
       taken ws2 o d de l change ce y =
-          let did : Did key h.system (part a (a + room_words - a) ws) b t b' (Accepted after reply line) = rw de at l.did in
+          let did : Did key h.system (part a (a + room_words - a) ws) b t b' (Ok (after, reply, line)) = rw de at l.did in
           let e = kept1 did.0 in
           let cs = ce ∙ changed-at d.before l.before in
           let own : room_of (gateway_of ws1) n ≡ room =
@@ -159,7 +158,7 @@ module _ (ws : List ℕ) (n : ℕ) (s : Circuit) (mac : ℕ) (h : Hello) (b : Li
           let same : gateway_of ws1 ≡ with_rooms g (renew g.rooms n room) =
           put1 ∙ ap (λ (x : List Slot). with_rooms g (set g.rooms (n - 1) (record { slots = x }))) e ∙ ap (with_rooms g) (sym (renew-at g.rooms n room lo)) in
           let common : (gateway_of ws1).common ≡ g.common = ap (λ (x : Gateway). x.common) same in
-          along (accepted-is after reply line (decided-at (Accepted after reply line) (sym de ∙ l.is)))
+          along (accepted-is after reply line (decided-at (Ok (after, reply, line)) (sym de ∙ l.is)))
           (record {
             answer = ap (λ (x : Orders). Received (frame_answer x)) (y.orders ∙ (λ i. orders_of n s h reply line (cs i) (common i) (own i)));
             reply = did.1;
@@ -186,11 +185,11 @@ module _ (ws : List ℕ) (n : ℕ) (s : Circuit) (h : Hello) (t : List ℕ) (len
 
 -- ---- the orders of an accepted frame
 
-module _ (ws : List ℕ) (n : ℕ) (s : Circuit) (h : Hello) (reply : Acknowledgement) (line : Line) (change : Change) (len : length ws ≡ own_words) (lo : 0 < n) (hi : n ≤ circuits) where
+module _ (ws : List ℕ) (n : ℕ) (s : Circuit) (h : Hello) (reply : Option (Ack × ℕ)) (line : Line) (change : Change) (len : length ws ≡ own_words) (lo : 0 < n) (hi : n ≤ circuits) where
   abbrev at : ℕ
   at = room_place (n - 1)
 
-  pub gives : (rank : Rank) (cs : Csnps) (timed : HeardOrders) (u : List ℕ) → length u ≡ control_words → rank ≡ rank_of s h
+  pub gives : (rank : Rank) (cs : Option Levels) (timed : HeardOrders) (u : List ℕ) → length u ≡ control_words → rank ≡ rank_of s h
       → cs ≡ csnps_in rank line s.levels h.link (table_of (part at (at + room_words - at) ws))
       → CommonHears (t1_of n s h) (has_risen change) (said_of (common_of (part 0 control_words ws)) s h) (part 0 control_words ws) u timed
       → GivesOrders n s h reply line change ws (put_mid 0 control_words ws u)

@@ -25,12 +25,12 @@ use Rattle.control.specs.Common.{start_of, setup_common}
 use Rattle.control.specs.Setup.{SetsControl, settings_on, basis_of}
 use Rattle.control.specs.declared.setup.Basis.{Basis}
 use Rattle.control.proofs.SetupLaws.{Stored, stored-step, stored-all}
-use Rattle.model.specs.declared.answers.SetUp.TheVariants.{Refused, Done}
 use Rattle.model.specs.Gateway.{Gateway, Room, with_common, new_room, no_frames, new_gateway, setup}
 use Rattle.own_words.specs.Words.{own_words, room_place, gateway_of}
 use Rattle.own_words.specs.Setup.{Begun, PutsCircuit, HoldsCircuits, counted_basis, Begins, SetsUp}
 use Rattle.own_words.proofs.CallLaws.{copy_step, gather-end}
 use Rattle.own_words.proofs.WordLaws.{length-common, length-rooms, common-put, common-stays, room-put}
+use Rattle.std.specs.Prelude.{Ok, Err}
 
 -- ---- a circuit
 
@@ -109,12 +109,12 @@ pub begins-as : {b b' : Basis} {ws ws' : List ℕ} {h : Hellos} → b ≡ b' →
 begins-as e h = rw (← e) h
 
 module _ (ws : List ℕ) (s : Settings) where
-  pub set-up-refused : settings_ok s ≡ false → SetsUp (setup s) ws ws (Refused BadSetting)
+  pub set-up-refused : settings_ok s ≡ false → SetsUp (setup s) ws ws (Err BadSetting)
   unfolding setup
   set-up-refused e = rw e (record { answer = refl; next = refl; kept = λ x y. refl })
 
   pub set-up-done : (ws1 ws' : List ℕ) (hellos : HelloOrders) → settings_ok s ≡ true → HoldsCircuits s.circuits ws1
-      → Begins (basis_of s) ws1 ws' (hellos_of hellos) → SetsUp (setup s) ws ws' (Done hellos)
+      → Begins (basis_of s) ws1 ws' (hellos_of hellos) → SetsUp (setup s) ws ws' (Ok hellos)
   unfolding setup new_gateway gateway_of
   set-up-done ws1 ws' hellos e held b =
       let on : settings_on (basis_of s) (circuits_from (part 0 control_words ws1) 0 circuits) ≡ s = ap (settings_on (basis_of s)) held.stored in

@@ -18,8 +18,6 @@ use Rattle.slots.specs.Slots.{table_of, room_words}
 use Rattle.basics.proofs.ListLaws.{tabulate-set, tabulate-same, get_or-tabulate, length-tabulate}
 use Rattle.control.specs.Common.{Common, circuit_of, Chooses}
 use Rattle.control.specs.Words.{common_of, control_words}
-use Rattle.settings.specs.declared.circuit.Chosen.{Chosen}
-use Rattle.settings.specs.declared.circuit.Chosen.TheVariants.{Known, Unknown}
 use Rattle.basics.proofs.PartLaws.{length_back, part_same, outside}
 use Rattle.settings.specs.declared.circuit.Circuit.{Circuit}
 use Rattle.model.specs.Answers.{Answer, Refused}
@@ -28,6 +26,7 @@ use Rattle.model.specs.Receive.{Acted, refuse}
 use Rattle.model.specs.Step.{Outcome, Local, At, lent, lift, on, at, step, refused, act}
 use Rattle.own_words.specs.Words.{own_words, room_place, room_at, gateway_of, Meets}
 use Rattle.basics.specs.Lists.{part}
+use Rattle.std.specs.Prelude.{Option, Some, None}
 
 -- ---- a part put back leaves every part that it does not meet
 
@@ -134,7 +133,7 @@ unfolding renew numbered
 same-room l zero = refl
 same-room l (suc i) = set-get_or l i no_room
 
-pub choice : (ws : List ℕ) (n : ℕ) (r r' : Chosen) → Chooses (common_of (part 0 control_words ws)) n r → r ≡ r' → circuit_of (gateway_of ws).common n ≡ r'
+pub choice : (ws : List ℕ) (n : ℕ) (r r' : Option Circuit) → Chooses (common_of (part 0 control_words ws)) n r → r ≡ r' → circuit_of (gateway_of ws).common n ≡ r'
 unfolding gateway_of
 choice ws n r r' c e = sym c.is ∙ e
 
@@ -171,10 +170,10 @@ module _ (ws : List ℕ) (n : ℕ) where
 
 -- refusal 1, and the circuit of the number
 module _ (g : Gateway) (n : ℕ) (l : Local) where
-  pub no-circuit : circuit_of g.common n ≡ Unknown → refused g (lent l) NoCircuit ≡ step g (At n l)
+  pub no-circuit : circuit_of g.common n ≡ None → refused g (lent l) NoCircuit ≡ step g (At n l)
   unfolding step at on
   no-circuit e = rw e refl
 
-  pub a-circuit : (s : Circuit) → circuit_of g.common n ≡ Known s → lift g n (act n s l) ≡ step g (At n l)
+  pub a-circuit : (s : Circuit) → circuit_of g.common n ≡ Some s → lift g n (act n s l) ≡ step g (At n l)
   unfolding step at on
   a-circuit s e = rw e refl

@@ -1,11 +1,9 @@
 -- What setup is to do to the gateway's own words, in parts and whole (document 01, "What the gateway holds").
-use Rattle.std.specs.Prelude.{ℕ, ◌<◌, ◌≤◌, ◌≡◌, ◌≢◌, List, map, set}
+use Rattle.std.specs.Prelude.{ℕ, ◌<◌, ◌≤◌, ◌≡◌, ◌≢◌, List, map, set, Result, Ok, Err}
 use Rattle.timers.specs.Hellos.{Hellos, hellos_of}
 use Rattle.timers.specs.Events.{start_hellos}
 use Rattle.basics.specs.Mask.{circuits}
 use Rattle.settings.specs.declared.circuit.Circuit.{Circuit}
-use Rattle.model.specs.declared.answers.SetUp.{SetUp}
-use Rattle.model.specs.declared.answers.SetUp.TheVariants.{Refused as RefusedAnswer, Done}
 use Rattle.model.specs.Numbers.{refusal_no}
 use Rattle.basics.specs.Lists.{part}
 use Rattle.control.specs.Words.{control_words, circuit_at, circuits_from, count_in}
@@ -14,6 +12,8 @@ use Rattle.control.specs.Setup.{settings_on}
 use Rattle.control.specs.declared.setup.Basis.{Basis}
 use Rattle.model.specs.Gateway.{Gateway, with_common, new_room, Setup, Refused as RefusedSetup, Started}
 use Rattle.own_words.specs.Words.{gateway_of}
+use Rattle.basics.specs.declared.refusal.Refusal.{Refusal}
+use Rattle.timers.specs.declared.hellos.HelloOrders.{HelloOrders}
 
 -- Setup in parts, of the words ws. A circuit (from 0) is put: its own settings and room, and no other's; nothing past the last.
 pub record PutsCircuit (i : ℕ) (s : Circuit) (ws ws' : List ℕ) : Type 0 where
@@ -41,9 +41,9 @@ pub data Report : Type 0 where
   Refused : (number : ℕ) → Report
   Begun : Hellos → Report
 
-abbrev pub report_of : SetUp → Report
-report_of (RefusedAnswer x) = Refused (refusal_no x)
-report_of (Done hellos) = Begun (hellos_of hellos)
+abbrev pub report_of : Result HelloOrders Refusal → Report
+report_of (Err x) = Refused (refusal_no x)
+report_of (Ok hellos) = Begun (hellos_of hellos)
 
 abbrev pub report_in : Setup → Report
 report_in (RefusedSetup x) = Refused x
@@ -55,7 +55,7 @@ started_in before (RefusedSetup x) = before
 started_in before (Started g hellos) = g
 
 -- What setup on the words ws is to do, o being its outcome: a refusal leaves every word as it was.
-pub record SetsUp (o : Setup) (ws ws' : List ℕ) (r : SetUp) : Type 0 where
+pub record SetsUp (o : Setup) (ws ws' : List ℕ) (r : Result HelloOrders Refusal) : Type 0 where
   pub answer : report_of r ≡ report_in o
   pub next : gateway_of ws' ≡ started_in (gateway_of ws) o
   pub kept : (x : ℕ) → report_of r ≡ Refused x → ws' ≡ ws

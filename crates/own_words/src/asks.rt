@@ -8,17 +8,18 @@ ghost use Rattle.model.specs.Step.{Waiting as Waits};
 ghost use Rattle.own_words.specs.Words.{own_words, gateway_of, Meets};
 
 use adjacency::keys::key_on;
-use adjacency::record::{Adjacency, Key, is_advertised};
+use adjacency::record::{Key, State, is_advertised};
 use basics::kind::CircuitKind;
 use basics::levels::{Levels, has_level};
 use basics::refusal::Refusal;
 use control::timing::{count_waiting, lowest_waiting, next_flags};
 use control::words::{CONTROL_WORDS, circuit_of};
 use metric::link_metric;
-use model::answers::{Looked, Metric, NextFlags, Waiting};
+use model::answers::{Found, Waiting};
+use restart_tlv::flags::Flags;
 use room::place::found;
 use room::search::first_state;
-use settings::circuit::{Chosen, Circuit};
+use settings::circuit::Circuit;
 use settings::serving::t1_place;
 use slots::slot::ROOM_WORDS;
 
@@ -33,19 +34,19 @@ pub fn asks_level(kind: CircuitKind, levels: Levels, level: u8) -> bool
 }
 
 // "A record is advertised exactly when it is UP and not Suppressed."
-fn looked_at(stood: Adjacency) -> Looked
+fn looked_at(stood: Option<State>) -> Result<Option<Found>, Refusal>
     ensures { looked_of result ≡ Told (LookedFact (record_answer stood)) }
 {
     match stood {
-        Adjacency::Absent => Looked::Nothing,
-        Adjacency::Present(state) => Looked::Found {
+        None => Ok(None),
+        Some(state) => Ok(Some(Found {
             state,
             advertised: is_advertised(state),
-        },
+        })),
     }
 }
 
-fn look_on(gateway: &[u64], n: u8, s: Circuit, key: Key) -> Looked
+fn look_on(gateway: &[u64], n: u8, s: Circuit, key: Key) -> Result<Option<Found>, Refusal>
     requires { (length gateway.now ≡ own_words) × (0 < n) × (n ≤ circuits) }
     ensures { Meets (looked_of result) (lift (gateway_of gateway.now) n (look_up s key)) gateway.now gateway.now [] }
 {
@@ -58,54 +59,54 @@ fn look_on(gateway: &[u64], n: u8, s: Circuit, key: Key) -> Looked
         let stood = found(&gateway[a..a + ROOM_WORDS], own);
         return looked_at(stood);
     }
-    Looked::Refused(Refusal::NoCircuit)
+    Err(Refusal::NoCircuit)
 }
 
 // The record with a key on a circuit.
-pub fn look_in(gateway: &[u64], n: u8, key: Key) -> Looked
+pub fn look_in(gateway: &[u64], n: u8, key: Key) -> Result<Option<Found>, Refusal>
     requires { length gateway.now ≡ own_words }
     ensures { Meets (looked_of result) (step (gateway_of gateway.now) (At n (LookUp key))) gateway.now gateway.now [] }
 {
-    let Chosen::Known(s) = circuit_of(&gateway[0..CONTROL_WORDS], n) else {
-        return Looked::Refused(Refusal::NoCircuit);
+    let Some(s) = circuit_of(&gateway[0..CONTROL_WORDS], n) else {
+        return Err(Refusal::NoCircuit);
     };
     look_on(gateway, n, s, key)
 }
 
-pub fn metric_in(gateway: &[u64], n: u8) -> Metric
+pub fn metric_in(gateway: &[u64], n: u8) -> Result<u32, Refusal>
     requires { length gateway.now ≡ own_words }
     ensures { Meets (metric_of result) (step (gateway_of gateway.now) (At n LinkMetric)) gateway.now gateway.now [] }
 {
-    let Chosen::Known(s) = circuit_of(&gateway[0..CONTROL_WORDS], n) else {
-        return Metric::Refused(Refusal::NoCircuit);
+    let Some(s) = circuit_of(&gateway[0..CONTROL_WORDS], n) else {
+        return Err(Refusal::NoCircuit);
     };
     let kind = s.kind;
     let a = CONTROL_WORDS + ROOM_WORDS * (n as usize - 1);
     let stood = first_state(&gateway[a..a + ROOM_WORDS]);
-    Metric::Link(link_metric(kind, s.metric, stood))
+    Ok(link_metric(kind, s.metric, stood))
 }
 
-fn flags_on(gateway: &[u64], n: u8, s: Circuit, level: u8) -> NextFlags
+fn flags_on(gateway: &[u64], n: u8, s: Circuit, level: u8) -> Result<Flags, Refusal>
     requires { (length gateway.now ≡ own_words) × (0 < n) × (n ≤ circuits) }
     ensures { Meets (flags_of result) (lift (gateway_of gateway.now) n (next_hello n s level)) gateway.now gateway.now [] }
 {
     let kind = s.kind;
     let levels = s.levels;
     if !has_level(levels, level) {
-        return NextFlags::Refused(Refusal::NoCircuit);
+        return Err(Refusal::NoCircuit);
     }
     let i = t1_place(kind, n as usize - 1, level);
     let flags = next_flags(&gateway[0..CONTROL_WORDS], i);
-    NextFlags::Next(flags)
+    Ok(flags)
 }
 
 // The flags of the next hello on a circuit, at a level.
-pub fn flags_in(gateway: &[u64], n: u8, level: u8) -> NextFlags
+pub fn flags_in(gateway: &[u64], n: u8, level: u8) -> Result<Flags, Refusal>
     requires { length gateway.now ≡ own_words }
     ensures { Meets (flags_of result) (step (gateway_of gateway.now) (At n (NextHello level))) gateway.now gateway.now [] }
 {
-    let Chosen::Known(s) = circuit_of(&gateway[0..CONTROL_WORDS], n) else {
-        return NextFlags::Refused(Refusal::NoCircuit);
+    let Some(s) = circuit_of(&gateway[0..CONTROL_WORDS], n) else {
+        return Err(Refusal::NoCircuit);
     };
     flags_on(gateway, n, s, level)
 }

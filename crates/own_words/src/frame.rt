@@ -12,20 +12,20 @@ ghost use Rattle.own_words.specs.Frame.{Settled, GivesOrders};
 
 use adjacency::duty::Rank;
 use adjacency::keys::key_in;
-use adjacency::marks::{Acknowledgement, Line};
+use adjacency::marks::{Line, Reply};
 use adjacency::react::Reaction;
-use adjacency::record::{Adjacency, Key, Phase, is_advertised, phase_of};
+use adjacency::record::{Key, Phase, State, is_advertised, phase_of};
 use adjacency::step::{Here, is_wrong_source, rises};
 use basics::octets::six;
 use basics::refusal::Refusal;
 use control::head::mode_of;
 use control::timing::hear;
 use control::words::{CONTROL_WORDS, circuit_of, clock_of, load_circuit, system_of};
-use hello::read::{Hello, Read, read_hello};
-use model::answers::{Change, Orders, Received};
+use hello::read::{Hello, read_hello};
+use model::answers::{Change, Orders};
 use room::accept::accept_in;
 use room::duty::csnps_in;
-use settings::circuit::{Chosen, Circuit};
+use settings::circuit::Circuit;
 use settings::mode::is_restarting;
 use slots::slot::ROOM_WORDS;
 use timer_parts::heard::{Heard, heard_of};
@@ -54,7 +54,7 @@ fn order_in(
     n: u8,
     frame: Hello,
     said: Heard,
-    reply: Acknowledgement,
+    reply: Option<Reply>,
     line: Line,
     change: Change,
 ) -> Orders
@@ -97,17 +97,17 @@ fn order_in(
     }
 }
 
-fn is_shown(left: Adjacency) -> bool
+fn is_shown(left: Option<State>) -> bool
     ensures { result ≡ is_shown left }
 {
     match left {
-        Adjacency::Absent => false,
-        Adjacency::Present(state) => is_advertised(state),
+        None => false,
+        Some(state) => is_advertised(state),
     }
 }
 
 // What became of the record with a key.
-fn change_of(key: Key, before: Phase, left: Adjacency) -> Change
+fn change_of(key: Key, before: Phase, left: Option<State>) -> Change
     ensures { result ≡ change_of key before left }
 {
     let after = phase_of(left);
@@ -129,7 +129,7 @@ fn decide_in(
     mac: u64,
     frame: Hello,
     reply: &mut [u8],
-) -> Received
+) -> Result<Orders, Refusal>
     requires { (length gateway.old ≡ own_words) × (0 < n) × (n ≤ circuits) × (11 ≤ length reply.old) × (s ≡ circuit_held gateway.old n) × (kind_of frame.link ≡ s.kind) }
     ensures { Meets (received_of result) (lift (gateway_of gateway.old) n (decided_in n s mac reply.old frame)) gateway.old gateway.new reply.new }
 {
@@ -142,8 +142,8 @@ fn decide_in(
     let before = decided.before;
     let reaction = decided.reaction;
     match reaction {
-        Reaction::Refused(x) => Received::Refused(x),
-        Reaction::Accepted(after, acknowledgement, line) => Received::Done(order_in(
+        Err(x) => Err(x),
+        Ok((after, acknowledgement, line)) => Ok(order_in(
             gateway,
             n,
             frame,
@@ -163,14 +163,14 @@ fn check_in(
     source: &[u8],
     frame: Hello,
     reply: &mut [u8],
-) -> Received
+) -> Result<Orders, Refusal>
     requires { (length gateway.old ≡ own_words) × (0 < n) × (n ≤ circuits) × (11 ≤ length reply.old) × (length source.now ≡ 6) × (s ≡ circuit_held gateway.old n) × (kind_of frame.link ≡ s.kind) }
     ensures { Meets (received_of result) (lift (gateway_of gateway.old) n (checked n s (big 6 source.now 0) reply.old frame)) gateway.old gateway.new reply.new }
 {
     let levels = s.levels;
     let own = system_of(&gateway[0..CONTROL_WORDS]);
     if is_wrong_source(levels, own, frame) {
-        return Received::Refused(Refusal::WrongSource);
+        return Err(Refusal::WrongSource);
     }
     let mac = six(source, 0);
     decide_in(gateway, n, s, mac, frame, reply)
@@ -184,17 +184,17 @@ fn read_in(
     source: &[u8],
     frame: &[u8],
     reply: &mut [u8],
-) -> Received
+) -> Result<Orders, Refusal>
     requires { (length gateway.old ≡ own_words) × (0 < n) × (n ≤ circuits) × (length source.now ≡ 6) × (s ≡ circuit_held gateway.old n) }
     ensures { Meets (received_of result) (lift (gateway_of gateway.old) n (Rattle.model.specs.Receive.receive n s (big 6 source.now 0) frame.now reply.old)) gateway.old gateway.new reply.new }
 {
     let kind = s.kind;
     if reply.len() < 11 {
-        return Received::Refused(Refusal::ReplyRoom);
+        return Err(Refusal::ReplyRoom);
     }
     match read_hello(frame, kind, s.mac) {
-        Read::Refused(x) => Received::Refused(x),
-        Read::Accepted(hello) => check_in(gateway, n, s, source, hello, reply),
+        Err(x) => Err(x),
+        Ok(hello) => check_in(gateway, n, s, source, hello, reply),
     }
 }
 
@@ -205,12 +205,12 @@ pub fn receive_in(
     source: &[u8],
     frame: &[u8],
     reply: &mut [u8],
-) -> Received
+) -> Result<Orders, Refusal>
     requires { (length gateway.old ≡ own_words) × (length source.now ≡ 6) }
     ensures { Meets (received_of result) (step (gateway_of gateway.old) (At n (Receive (big 6 source.now 0) frame.now reply.old))) gateway.old gateway.new reply.new }
 {
-    let Chosen::Known(s) = circuit_of(&gateway[0..CONTROL_WORDS], n) else {
-        return Received::Refused(Refusal::NoCircuit);
+    let Some(s) = circuit_of(&gateway[0..CONTROL_WORDS], n) else {
+        return Err(Refusal::NoCircuit);
     };
     read_in(gateway, n, s, source, frame, reply)
 }

@@ -10,7 +10,6 @@ use basics::mask::CIRCUITS;
 use basics::refusal::Refusal;
 use control::setup::{Basis, begin, store_circuit};
 use control::words::CONTROL_WORDS;
-use model::answers::SetUp;
 use room::empty::open_room;
 use settings::circuit::Circuit;
 use settings::setup::{Settings, are_settings_ok};
@@ -49,7 +48,7 @@ pub fn begin_in(gateway: &mut [u64], s: Basis) -> HelloOrders
 }
 
 // Refusal 12, or a new gateway, whatever the words were.
-pub fn set_up_in(gateway: &mut [u64], s: Settings) -> SetUp
+pub fn set_up_in(gateway: &mut [u64], s: Settings) -> Result<HelloOrders, Refusal>
     requires { length gateway.old ≡ own_words }
     ensures { SetsUp (setup s) gateway.old gateway.new result }
 {
@@ -66,9 +65,9 @@ pub fn set_up_in(gateway: &mut [u64], s: Settings) -> SetUp
         };
         put_circuits(gateway, all);
         let hellos = begin_in(gateway, basis);
-        return SetUp::Done(hellos);
+        return Ok(hellos);
     }
-    SetUp::Refused(Refusal::BadSetting)
+    Err(Refusal::BadSetting)
 }
 
 // A count above 8 counts for none, as it does in the words.

@@ -11,11 +11,10 @@ use basics::mask::{CIRCUITS, put_bit};
 use basics::refusal::Refusal;
 use control::timing::tick;
 use control::words::{CONTROL_WORDS, circuit_of, clock_of, count_of};
-use model::answers::{Released, Ticked};
+use model::answers::Ticked;
 use restart_tlv::flags::Flags;
 use room::empty::open_room;
 use room::sweep::{expire, release};
-use settings::circuit::Chosen;
 use slots::slot::ROOM_WORDS;
 use timers::hellos::HelloOrders;
 use timers::outcome::TimerOutcome;
@@ -45,7 +44,7 @@ fn sweep_rooms(gateway: &mut [u64], clock: u32) -> u8
 }
 
 // The rooms, and then the clock and the timers.
-fn sweep_all(gateway: &mut [u64], clock: u32) -> Ticked
+fn sweep_all(gateway: &mut [u64], clock: u32) -> Result<Ticked, Refusal>
     requires { length gateway.old ≡ own_words }
     ensures { SweepsAll clock gateway.old gateway.new (ticked_of result) }
 {
@@ -53,57 +52,57 @@ fn sweep_all(gateway: &mut [u64], clock: u32) -> Ticked
     let x = tick(&mut gateway[0..CONTROL_WORDS], clock);
     let hellos = x.hellos;
     let outcome = x.outcome;
-    Ticked::Done {
+    Ok(Ticked {
         lost,
         hellos,
         outcome,
-    }
+    })
 }
 
 // Refusal 10, or the tick. Memory that was never set up has no circuit: there a tick does nothing.
-pub fn tick_in(gateway: &mut [u64], clock: u32) -> Ticked
+pub fn tick_in(gateway: &mut [u64], clock: u32) -> Result<Ticked, Refusal>
     requires { length gateway.old ≡ own_words }
     ensures { Meets (ticked_of result) (step (gateway_of gateway.old) (Over (Tick clock))) gateway.old gateway.new [] }
 {
     if count_of(&gateway[0..CONTROL_WORDS]) == 0 {
-        return Ticked::Done {
+        return Ok(Ticked {
             lost: 0,
             hellos: HelloOrders {
                 t1s: 0,
                 flags: Flags::NONE,
             },
             outcome: TimerOutcome::Idle,
-        };
+        });
     }
     if clock < clock_of(&gateway[0..CONTROL_WORDS]) {
-        return Ticked::Refused(Refusal::ClockBack);
+        return Err(Refusal::ClockBack);
     }
     sweep_all(gateway, clock)
 }
 
 // Refusal 1, or the circuit's Planned records go.
-pub fn release_in(gateway: &mut [u64], n: u8) -> Released
+pub fn release_in(gateway: &mut [u64], n: u8) -> Result<(), Refusal>
     requires { length gateway.old ≡ own_words }
     ensures { Meets (released_of result) (step (gateway_of gateway.old) (At n Release)) gateway.old gateway.new [] }
 {
-    let Chosen::Known(_) = circuit_of(&gateway[0..CONTROL_WORDS], n) else {
-        return Released::Refused(Refusal::NoCircuit);
+    let Some(_) = circuit_of(&gateway[0..CONTROL_WORDS], n) else {
+        return Err(Refusal::NoCircuit);
     };
     let a = CONTROL_WORDS + ROOM_WORDS * (n as usize - 1);
     release(&mut gateway[a..a + ROOM_WORDS]);
-    Released::Done
+    Ok(())
 }
 
 // Refusal 1, or all records of the circuit go.
-pub fn clear_in(gateway: &mut [u64], n: u8) -> Released
+pub fn clear_in(gateway: &mut [u64], n: u8) -> Result<(), Refusal>
     requires { length gateway.old ≡ own_words }
     ensures { Meets (released_of result) (step (gateway_of gateway.old) (At n Clear)) gateway.old gateway.new [] }
 {
-    let Chosen::Known(s) = circuit_of(&gateway[0..CONTROL_WORDS], n) else {
-        return Released::Refused(Refusal::NoCircuit);
+    let Some(s) = circuit_of(&gateway[0..CONTROL_WORDS], n) else {
+        return Err(Refusal::NoCircuit);
     };
     let kind = s.kind;
     let a = CONTROL_WORDS + ROOM_WORDS * (n as usize - 1);
     open_room(&mut gateway[a..a + ROOM_WORDS], kind);
-    Released::Done
+    Ok(())
 }

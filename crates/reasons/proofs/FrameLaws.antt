@@ -10,22 +10,14 @@ use Rattle.basics.specs.declared.refusal.Refusal.TheVariants.{ReplyRoom, WrongSo
 use Rattle.basics.proofs.BoolLaws.{by-test}
 use Rattle.hello.specs.Hello.{hello_read}
 use Rattle.hello.specs.declared.read.Hello.{Hello}
-use Rattle.hello.specs.declared.read.Read.{Read}
-use Rattle.hello.specs.declared.read.Read.TheVariants.{Refused as RefusedRead, Accepted as ReadAs}
 use Rattle.adjacency.specs.Keys.{key_in}
 use Rattle.adjacency.specs.React.{line_in, react_of}
 use Rattle.adjacency.specs.Record.{phase_of}
 use Rattle.adjacency.specs.Step.{wrong_source}
-use Rattle.adjacency.specs.declared.marks.Acknowledgement.{Acknowledgement}
 use Rattle.adjacency.specs.declared.marks.Line.{Line}
-use Rattle.adjacency.specs.declared.react.Reaction.{Reaction}
-use Rattle.adjacency.specs.declared.react.Reaction.TheVariants.{Refused as RefusedReaction, Accepted}
-use Rattle.adjacency.specs.declared.record.Adjacency.{Adjacency}
 use Rattle.adjacency.specs.declared.record.Key.{Key}
 use Rattle.room.specs.Accept.{if_room, decided, kept, written, csnps_in}
 use Rattle.room.specs.Table.{find, has, full, crowded}
-use Rattle.settings.specs.declared.circuit.Chosen.{Chosen}
-use Rattle.settings.specs.declared.circuit.Chosen.TheVariants.{Known, Unknown}
 use Rattle.settings.specs.declared.circuit.Circuit.{Circuit}
 use Rattle.control.specs.Common.{Common, circuit_of}
 use Rattle.model.specs.Numbers.{is_ordered}
@@ -34,6 +26,10 @@ use Rattle.model.specs.Gateway.{Room, Gateway, with_rooms, with_common, with_slo
 use Rattle.model.specs.Receive.{Acted, refuse, here_of, rank_of, orders_of, accepted, reacted, decided_in, checked, read_in, is_short, receive}
 use Rattle.model.specs.Step.{Receive, Call, At, Outcome, act, lift, on, at, step}
 use Rattle.reasons.proofs.LineLaws.{line-fits}
+use Rattle.std.specs.Prelude.{Option, Some, None, Result, Ok, Err}
+use Rattle.adjacency.specs.React.{Reaction}
+use Rattle.restart_tlv.specs.declared.writer.Ack.{Ack}
+use Rattle.adjacency.specs.declared.record.State.{State}
 
 -- ---- a receive on a circuit that is there
 
@@ -41,12 +37,12 @@ module _ (n : ℕ) (s : Circuit) (mac : ℕ) (frame b : List ℕ) (c : Common) (
   -- what holds where the frame is taken
   pub record Taken : Type 0 where
     pub hello : Hello
-    pub reads : hello_read s.kind s.mac frame ≡ ReadAs hello
+    pub reads : hello_read s.kind s.mac frame ≡ Ok hello
     pub source : wrong_source s.levels c.system hello ≡ false
-    pub after : Adjacency
-    pub reply : Acknowledgement
+    pub after : Option State
+    pub reply : Option (Ack × ℕ)
     pub line : Line
-    pub reacts : react_of (here_of c s) hello (find (key_in s.kind mac hello) r.slots) ≡ Accepted after reply line
+    pub reacts : react_of (here_of c s) hello (find (key_in s.kind mac hello) r.slots) ≡ Ok (after, reply, line)
     pub free : crowded (key_in s.kind mac hello) r.slots ≡ false
     pub acts : receive n s mac frame b c r ≡ accepted n s hello (key_in s.kind mac hello) b after reply line c r
 
@@ -54,20 +50,20 @@ module _ (n : ℕ) (s : Circuit) (mac : ℕ) (frame b : List ℕ) (c : Common) (
     turned : (x : Refusal) → receive n s mac frame b c r ≡ refuse b x c r → Comes
     taken : Taken → Comes
 
-  react-comes : (h : Hello) → hello_read s.kind s.mac frame ≡ ReadAs h → wrong_source s.levels c.system h ≡ false → (a : Reaction)
+  react-comes : (h : Hello) → hello_read s.kind s.mac frame ≡ Ok h → wrong_source s.levels c.system h ≡ false → (a : Reaction)
       → react_of (here_of c s) h (find (key_in s.kind mac h) r.slots) ≡ a
       → receive n s mac frame b c r ≡ reacted n s h (key_in s.kind mac h) b (if_room (crowded (key_in s.kind mac h) r.slots) a) c r → Comes
   unfolding if_room reacted
-  react-comes h d w (RefusedReaction x) e p = turned x p
-  react-comes h d w (Accepted after reply line) e p =
+  react-comes h d w (Err x) e p = turned x p
+  react-comes h d w (Ok (after, reply, line)) e p =
       by-test (crowded (key_in s.kind mac h) r.slots) (λ f. turned NoRoom (rw f at p))
       (λ f.
       taken (record { hello = h; reads = d; source = w; after = after; reply = reply; line = line; reacts = e; free = f; acts = rw f at p }))
 
-  read-comes : (d : Read) → hello_read s.kind s.mac frame ≡ d → receive n s mac frame b c r ≡ read_in n s mac b d c r → Comes
+  read-comes : (d : Result Hello Refusal) → hello_read s.kind s.mac frame ≡ d → receive n s mac frame b c r ≡ read_in n s mac b d c r → Comes
   unfolding read_in checked decided_in decided
-  read-comes (RefusedRead x) d p = turned x p
-  read-comes (ReadAs h) d p =
+  read-comes (Err x) d p = turned x p
+  read-comes (Ok h) d p =
       by-test (wrong_source s.levels c.system h) (λ w. turned WrongSource (rw w at p)) (λ w. react-comes h d w _ refl (rw w at p))
 
   pub receive-comes : Comes
@@ -92,20 +88,20 @@ no-room-crowded k = refl
 -- ---- the laws
 
 -- the room that a frame leaves
-abbrev pub room_left : Gateway → ℕ → Key → Adjacency → Room
+abbrev pub room_left : Gateway → ℕ → Key → Option State → Room
 room_left g n k after = with_slots (room_of g n) (kept k after (room_of g n).slots)
 
 -- circuit n took the frame, and answered f
 pub record Took (g : Gateway) (n mac : ℕ) (frame b : List ℕ) (f : FrameAnswer) : Type 0 where
   pub settings : Circuit
-  pub known : circuit_of g.common n ≡ Known settings
+  pub known : circuit_of g.common n ≡ Some settings
   pub hello : Hello
-  pub reads : hello_read settings.kind settings.mac frame ≡ ReadAs hello
+  pub reads : hello_read settings.kind settings.mac frame ≡ Ok hello
   pub source : wrong_source settings.levels g.common.system hello ≡ false
-  pub after : Adjacency
-  pub reply : Acknowledgement
+  pub after : Option State
+  pub reply : Option (Ack × ℕ)
   pub line : Line
-  pub reacts : react_of (here_of g.common settings) hello (find (key_in settings.kind mac hello) (room_of g n).slots) ≡ Accepted after reply line
+  pub reacts : react_of (here_of g.common settings) hello (find (key_in settings.kind mac hello) (room_of g n).slots) ≡ Ok (after, reply, line)
   pub fits : line ≡ line_in (here_of g.common settings) hello (record_at g n (key_in settings.kind mac hello))
   pub free : crowded (key_in settings.kind mac hello) (room_of g n).slots ≡ false
   pub answer : f ≡ frame_answer
@@ -130,7 +126,7 @@ module _ (g : Gateway) (n mac : ℕ) (frame b : List ℕ) where
   abbrev call : Call
   call = At n (Receive mac frame b)
 
-  taken-took : (f : FrameAnswer) (s : Circuit) → circuit_of g.common n ≡ Known s → (t : Taken n s mac frame b g.common (room_of g n))
+  taken-took : (f : FrameAnswer) (s : Circuit) → circuit_of g.common n ≡ Some s → (t : Taken n s mac frame b g.common (room_of g n))
       → step g call ≡ outcome_of g n (receive n s mac frame b g.common (room_of g n)) → (step g call).answer ≡ Received f → Took g n mac frame b f
   unfolding accepted record_at
   taken-took f s k t p e =
@@ -156,11 +152,11 @@ module _ (g : Gateway) (n mac : ℕ) (frame b : List ℕ) where
             (λ q. true≢false (sym (no-room-crowded key) ∙ sym (ap (λ (r : Room). crowded key r.slots) q) ∙ t.free));
       }
 
-  on-took : (f : FrameAnswer) (q : Chosen) → circuit_of g.common n ≡ q → step g call ≡ on g n (Receive mac frame b) q
+  on-took : (f : FrameAnswer) (q : Option Circuit) → circuit_of g.common n ≡ q → step g call ≡ on g n (Receive mac frame b) q
       → (step g call).answer ≡ Received f → Took g n mac frame b f
   unfolding on lift act refuse
-  on-took f Unknown k p e = absurd (let z : ◌≡◌ {A = ℕ} 0 1 = cc in omega arith)
-  on-took f (Known s) k p e = go (receive-comes n s mac frame b g.common (room_of g n))
+  on-took f None k p e = absurd (let z : ◌≡◌ {A = ℕ} 0 1 = cc in omega arith)
+  on-took f (Some s) k p e = go (receive-comes n s mac frame b g.common (room_of g n))
     where
       go : Comes n s mac frame b g.common (room_of g n) → Took g n mac frame b f
       go (turned x t) = absurd (let w = ap (λ (o : Outcome). o.answer) (p ∙ ap (outcome_of g n) t) in let z : ◌≡◌ {A = ℕ} 0 1 = cc in omega arith)
@@ -176,10 +172,10 @@ module _ (g : Gateway) (n mac : ℕ) (frame b : List ℕ) where
       ≡ is_ordered (csnps_in (rank_of t.settings t.hello) t.line t.settings.levels t.hello.link (room_of (step g call).next n).slots)
   took-ordered f t = rw t.next (ap (λ (x : FrameAnswer). x.ordered) t.answer)
 
-  on-said : (q : Chosen) → Said (on g n (Receive mac frame b) q).answer
+  on-said : (q : Option Circuit) → Said (on g n (Receive mac frame b) q).answer
   unfolding on lift act refuse accepted
-  on-said Unknown = refusing
-  on-said (Known s) = go (receive-comes n s mac frame b g.common (room_of g n))
+  on-said None = refusing
+  on-said (Some s) = go (receive-comes n s mac frame b g.common (room_of g n))
     where
       go : Comes n s mac frame b g.common (room_of g n) → Said (receive n s mac frame b g.common (room_of g n)).answer
       go (turned x t) = rw t refusing

@@ -15,8 +15,6 @@ use Rattle.adjacency.specs.Keys.{same_key, key_on}
 use Rattle.adjacency.specs.Place.{expired_by, planned_state}
 use Rattle.adjacency.specs.Record.{expiry_of}
 use Rattle.adjacency.specs.declared.place.Slot.{Slot}
-use Rattle.adjacency.specs.declared.record.Adjacency.{Adjacency}
-use Rattle.adjacency.specs.declared.record.Adjacency.TheVariants.{Absent, Present}
 use Rattle.adjacency.specs.declared.record.Key.{Key}
 use Rattle.adjacency.specs.declared.record.State.{State}
 use Rattle.adjacency.proofs.KeysLaws.{same_key-eq}
@@ -27,8 +25,6 @@ use Rattle.room.proofs.TableLaws.{find-is, gather-sweep, find-put-same, find-put
 use Rattle.timers.specs.Hellos.{Hellos}
 use Rattle.settings.specs.Mode.{is_running}
 use Rattle.settings.specs.Settings.{enabled_levels}
-use Rattle.settings.specs.declared.circuit.Chosen.{Chosen}
-use Rattle.settings.specs.declared.circuit.Chosen.TheVariants.{Known, Unknown}
 use Rattle.settings.specs.declared.circuit.Circuit.{Circuit}
 use Rattle.control.specs.Common.{Common, circuit_of}
 use Rattle.model.specs.Answers.{Answer, TimersAnswer}
@@ -41,6 +37,7 @@ use Rattle.model.proofs.Near.{circuit_of-same}
 use Rattle.reasons.specs.Holds.{Went}
 use Rattle.reasons.specs.Why.{stands_on, standing}
 use Rattle.reasons.proofs.FrameLaws.{Comes, turned, taken, receive-comes, renew-there}
+use Rattle.std.specs.Prelude.{Option, Some, None}
 
 -- ---- rooms by number
 
@@ -50,21 +47,21 @@ swept_at clock rs n = numbered-map (swept_room clock) rs n no_room
 
 -- ---- a record that goes from a room
 
-keep-lost : (p : State → Bool) (l : List State) (v : State) → first l ≡ Present v → first (keep p l) ≡ Absent → p v ≡ true
+keep-lost : (p : State → Bool) (l : List State) (v : State) → first l ≡ Some v → first (keep p l) ≡ None → p v ≡ true
 unfolding first keep
 keep-lost p [] v e g = cc
 keep-lost p (s ∷ l) v e g = let z : s ≡ v = cc in by-test (p s) (λ a. rw (← z) a) (λ a. cc)
 
-sweep-lost : (p : State → Bool) (k : Key) (t : List Slot) (v : State) → find k t ≡ Present v → find k (sweep p t) ≡ Absent → p v ≡ true
+sweep-lost : (p : State → Bool) (k : Key) (t : List Slot) (v : State) → find k t ≡ Some v → find k (sweep p t) ≡ None → p v ≡ true
 sweep-lost p k t v e g =
     keep-lost p (gather k t) v (sym (find-is k t) ∙ e) (cc (find-is k (sweep p t), gather-sweep p k t))
 
 -- what a frame leaves keeps every record
-kept-lost : (j k : Key) (after : Adjacency) (t : List Slot) (v : State) → crowded k t ≡ false → find j t ≡ Present v → find j (kept k after t) ≡ Absent
+kept-lost : (j k : Key) (after : Option State) (t : List Slot) (v : State) → crowded k t ≡ false → find j t ≡ Some v → find j (kept k after t) ≡ None
     → ⊥
 unfolding kept
-kept-lost j k Absent t v f e g = let z : ◌≡◌ {A = ℕ} 0 1 = cc in omega arith
-kept-lost j k (Present s) t v f e g =
+kept-lost j k None t v f e g = let z : ◌≡◌ {A = ℕ} 0 1 = cc in omega arith
+kept-lost j k (Some s) t v f e g =
     let z : ◌≡◌ {A = ℕ} 0 1 =
     by-test (same_key j k) (λ a. let q = same_key-eq j k a in cc (find-put-same k s t f)) (λ a. cc (find-put-other j k s t a)) in
     omega arith
@@ -115,16 +112,16 @@ module _ (n : ℕ) (s : Circuit) (c : Common) (r : Room) where
   act-circuits LinkMetric = refl
   act-circuits (NextHello level) = (hello-leaves level).0
 
-  module _ (j : Key) (v : State) (stood : find j r.slots ≡ Present v) where
-    same-lost : (t : Room) → t ≡ r → find j t.slots ≡ Absent → ⊥
+  module _ (j : Key) (v : State) (stood : find j r.slots ≡ Some v) where
+    same-lost : (t : Room) → t ≡ r → find j t.slots ≡ None → ⊥
     same-lost t q e = let z : ◌≡◌ {A = ℕ} 0 1 = cc in omega arith
 
-    receive-lost : (mac : ℕ) (frame b : List ℕ) → Comes n s mac frame b c r → find j (receive n s mac frame b c r).room.slots ≡ Absent → ⊥
+    receive-lost : (mac : ℕ) (frame b : List ℕ) → Comes n s mac frame b c r → find j (receive n s mac frame b c r).room.slots ≡ None → ⊥
     unfolding refuse accepted
     receive-lost mac frame b (turned x t) e = same-lost r refl (rw t at e)
     receive-lost mac frame b (taken t) e = kept-lost j _ t.after r.slots v t.free stood (rw t.acts at e)
 
-    act-lost : (l : Local) → find j (act n s l c r).room.slots ≡ Absent → LostBy l v
+    act-lost : (l : Local) → find j (act n s l c r).room.slots ≡ None → LostBy l v
     unfolding act link_metric_of
     act-lost (Receive mac frame b) e = receive-lost mac frame b (receive-comes n s mac frame b c r) e
     act-lost Release e = sweep-lost planned_state j r.slots v stood e
@@ -134,18 +131,18 @@ module _ (n : ℕ) (s : Circuit) (c : Common) (r : Room) where
     act-lost LinkMetric e = same-lost r refl e
     act-lost (NextHello level) e = same-lost _ (hello-leaves level).1 e
 
-on-circuits : (g : Gateway) (m : ℕ) (l : Local) (q : Chosen) → (on g m l q).next.common.circuits ≡ g.common.circuits
+on-circuits : (g : Gateway) (m : ℕ) (l : Local) (q : Option Circuit) → (on g m l q).next.common.circuits ≡ g.common.circuits
 unfolding on lift
-on-circuits g m l Unknown = refl
-on-circuits g m l (Known s) = act-circuits m s g.common (room_of g m) l
+on-circuits g m l None = refl
+on-circuits g m l (Some s) = act-circuits m s g.common (room_of g m) l
 
 -- a room that has a record is there
-room-there : (g : Gateway) (m : ℕ) (j : Key) (v : State) → find j (room_of g m).slots ≡ Present v → room_of g m ≡ no_room → ⊥
+room-there : (g : Gateway) (m : ℕ) (j : Key) (v : State) → find j (room_of g m).slots ≡ Some v → room_of g m ≡ no_room → ⊥
 unfolding find
 room-there g m j v e q = let w = ap (λ (r : Room). find j r.slots) q in let z : ◌≡◌ {A = ℕ} 0 1 = cc in omega arith
 
 module _ (g : Gateway) (m : ℕ) (s : Circuit) (l : Local) (j : Key) (v : State) where
-  lift-lost : find j (room_of g m).slots ≡ Present v → find j (room_of (lift g m (act m s l)).next m).slots ≡ Absent → LostBy l v
+  lift-lost : find j (room_of g m).slots ≡ Some v → find j (room_of (lift g m (act m s l)).next m).slots ≡ None → LostBy l v
   unfolding lift
   lift-lost p e =
       act-lost m s g.common (room_of g m) j v p l
@@ -155,11 +152,11 @@ module _ (g : Gateway) (m : ℕ) (s : Circuit) (l : Local) (j : Key) (v : State)
   unfolding lift
   lift-away n h = renew-other g.rooms m n _ no_room (λ e. h (sym e))
 
-on-lost : (g : Gateway) (m : ℕ) (l : Local) (q : Chosen) (n : ℕ) (j : Key) (v : State) → record_at g n j ≡ Present v
-    → record_at (on g m l q).next n j ≡ Absent → (m ≡ n) × LostBy l v
+on-lost : (g : Gateway) (m : ℕ) (l : Local) (q : Option Circuit) (n : ℕ) (j : Key) (v : State) → record_at g n j ≡ Some v
+    → record_at (on g m l q).next n j ≡ None → (m ≡ n) × LostBy l v
 unfolding on record_at
-on-lost g m l Unknown n j v p e = absurd (let z : ◌≡◌ {A = ℕ} 0 1 = cc in omega arith)
-on-lost g m l (Known s) n j v p e =
+on-lost g m l None n j v p e = absurd (let z : ◌≡◌ {A = ℕ} 0 1 = cc in omega arith)
+on-lost g m l (Some s) n j v p e =
     by-test (eqb m n)
     (λ a. let q = eqb-true m n a in (q, lift-lost g m s l j v (rw (← q) at p) (rw (← q) at e)))
     (λ a. absurd (let w = lift-away g m s l j v n (eqb-false m n a) in let z : ◌≡◌ {A = ℕ} 0 1 = cc in omega arith))
@@ -174,7 +171,7 @@ LostOver Waiting v = ⊥
 -- what such a call leaves, and what the loss of a record says of it
 record Carries (g : Gateway) (w : Global) (d : Judged) : Type 0 where
   circuits : (carry g d).next.common.circuits ≡ g.common.circuits
-  lost : (n : ℕ) (j : Key) (v : State) → record_at g n j ≡ Present v → record_at (carry g d).next n j ≡ Absent → LostOver w v
+  lost : (n : ℕ) (j : Key) (v : State) → record_at g n j ≡ Some v → record_at (carry g d).next n j ≡ None → LostOver w v
 
 module _ (g : Gateway) where
   refused-carries : (w : Global) (x : Refusal) → Carries g w (RefusedCall x)
@@ -209,7 +206,7 @@ module _ (g : Gateway) where
 
 record Hands (g d : Gateway) : Type 0 where
   circuits : d.common.circuits ≡ g.common.circuits
-  lost : (n : ℕ) (j : Key) (v : State) → record_at g n j ≡ Present v → record_at d n j ≡ Absent → ⊥
+  lost : (n : ℕ) (j : Key) (v : State) → record_at g n j ≡ Some v → record_at d n j ≡ None → ⊥
 
 module _ (g : Gateway) where
   -- the rooms are as they were
@@ -231,12 +228,12 @@ module _ (g : Gateway) where
         lost = λ n j v p e. (on-lost (with_unfinished g m NoFrame) m (Receive mac octets b) (circuit_of g.common m) n j v p e).1;
       }
 
-  hands : (m : ℕ) (p : Piece) (q : Chosen) → Hands g (hand_on g m p q).next
+  hands : (m : ℕ) (p : Piece) (q : Option Circuit) → Hands g (hand_on g m p q).next
   unfolding hand_on hand
-  hands m p Unknown = same-hands _
-  hands m (Begin mac) (Known s) = same-hands _
-  hands m (Chunk octets) (Known s) = chunk-hands m (join (unfinished_on g m) octets)
-  hands m (End b) (Known s) = end-hands m b (unfinished_on g m)
+  hands m p None = same-hands _
+  hands m (Begin mac) (Some s) = same-hands _
+  hands m (Chunk octets) (Some s) = chunk-hands m (join (unfinished_on g m) octets)
+  hands m (End b) (Some s) = end-hands m b (unfinished_on g m)
 
 -- ---- every call
 
@@ -251,18 +248,18 @@ LostIn (At m l) n v = (m ≡ n) × LostBy l v
 LostIn (Over w) n v = LostOver w v
 LostIn (Hand m p) n v = ⊥
 
-step-lost : (g : Gateway) (c : Call) (n : ℕ) (j : Key) (v : State) → record_at g n j ≡ Present v → record_at (step g c).next n j ≡ Absent → LostIn c n v
+step-lost : (g : Gateway) (c : Call) (n : ℕ) (j : Key) (v : State) → record_at g n j ≡ Some v → record_at (step g c).next n j ≡ None → LostIn c n v
 unfolding step at
 step-lost g (At m l) n j v p e = on-lost g m l (circuit_of g.common m) n j v p e
 step-lost g (Over w) n j v p e = (judge-carries g w).lost n j v p e
 step-lost g (Hand m i) n j v p e = (hands g m i (circuit_of g.common m)).lost n j v p e
 
 -- of the record that is asked for, by the same key before and after
-stands-lost : (g : Gateway) (c : Call) (n : ℕ) (k : Key) (v : State) (q : Chosen) → stands_on g n k q ≡ Present v
-    → stands_on (step g c).next n k q ≡ Absent → LostIn c n v
+stands-lost : (g : Gateway) (c : Call) (n : ℕ) (k : Key) (v : State) (q : Option Circuit) → stands_on g n k q ≡ Some v
+    → stands_on (step g c).next n k q ≡ None → LostIn c n v
 unfolding stands_on
-stands-lost g c n k v Unknown p e = absurd (let z : ◌≡◌ {A = ℕ} 0 1 = cc in omega arith)
-stands-lost g c n k v (Known s) p e =
+stands-lost g c n k v None p e = absurd (let z : ◌≡◌ {A = ℕ} 0 1 = cc in omega arith)
+stands-lost g c n k v (Some s) p e =
     by-test (asks_level s.kind s.levels k.level) (λ a. step-lost g c n (key_on s.kind k) v (rw a at p) (rw a at e))
     (λ a. absurd (let w = rw a at p in let z : ◌≡◌ {A = ℕ} 0 1 = cc in omega arith))
 

@@ -21,8 +21,6 @@ use Rattle.adjacency.specs.declared.duty.Rank.{Rank}
 use Rattle.adjacency.specs.declared.marks.Line.{Line}
 use Rattle.adjacency.specs.declared.marks.Line.TheVariants.{One, Two, Three, Four, Five}
 use Rattle.adjacency.specs.declared.place.Slot.{Slot}
-use Rattle.adjacency.specs.declared.record.Adjacency.{Adjacency}
-use Rattle.adjacency.specs.declared.record.Adjacency.TheVariants.{Absent, Present}
 use Rattle.adjacency.specs.declared.record.Key.{Key}
 use Rattle.adjacency.specs.declared.record.State.{State}
 use Rattle.adjacency.specs.declared.record.State.TheVariants.{Init as InitState, Up as UpState}
@@ -43,10 +41,11 @@ use Rattle.reasons.specs.declared.why.Question.TheVariants.{NotAdvertised, Vanis
 use Rattle.reasons.proofs.DutyLaws.{duty-greatest, duty-ours}
 use Rattle.reasons.proofs.FrameLaws.{Took, took, took-ordered, Said, refusing, receiving, receive-said}
 use Rattle.reasons.proofs.StandingLaws.{went-lost}
+use Rattle.std.specs.Prelude.{Option, Some, None}
 
 -- ---- not advertised
 
-unknown-holds : (g : Gateway) (c : Call) (n : ℕ) (k : Key) (a : Answer) → (step g c).answer ≡ a → leaves g c n k ≡ Absent
+unknown-holds : (g : Gateway) (c : Call) (n : ℕ) (k : Key) (a : Answer) → (step g c).answer ≡ a → leaves g c n k ≡ None
     → Unshown g c n k (unknown n c a)
 unfolding turned_away
 unknown-holds g (At m (Receive mac frame b)) n k (RefusedAnswer x) e z =
@@ -63,12 +62,12 @@ unknown-holds g (At m (NextHello level)) n k a e z = (z, λ y r s. false≢true 
 unknown-holds g (Over w) n k a e z = (z, λ y r s. false≢true r)
 unknown-holds g (Hand m p) n k a e z = (z, λ y r s. false≢true r)
 
-unshown-holds : (g : Gateway) (c : Call) (n : ℕ) (k : Key) (a : Adjacency) → leaves g c n k ≡ a
+unshown-holds : (g : Gateway) (c : Call) (n : ℕ) (k : Key) (a : Option State) → leaves g c n k ≡ a
     → Unshown g c n k (not_advertised n c (step g c).answer a)
 unfolding not_advertised
-unshown-holds g c n k Absent e = unknown-holds g c n k (step g c).answer refl e
-unshown-holds g c n k (Present (InitState d)) e = ap phase_of e
-unshown-holds g c n k (Present (UpState d m)) e =
+unshown-holds g c n k None e = unknown-holds g c n k (step g c).answer refl e
+unshown-holds g c n k (Some (InitState d)) e = ap phase_of e
+unshown-holds g c n k (Some (UpState d m)) e =
     by-test d.suppressed (λ q. rw q (ap phase_of e, ap suppressed_of e ∙ q)) (λ q. rw q (ap is_shown e ∙ rw q refl))
 
 -- ---- vanished
@@ -91,12 +90,12 @@ gone-holds g (Over (DatabaseComplete level)) n k s w = λ v u. went-lost g _ n k
 gone-holds g (Over Waiting) n k s w = λ v u. went-lost g _ n k v u
 gone-holds g (Hand m p) n k s w = λ v u. went-lost g _ n k v u
 
-vanished-holds : (g : Gateway) (c : Call) (n : ℕ) (k : Key) (before after : Adjacency) → standing g n k ≡ before → leaves g c n k ≡ after
+vanished-holds : (g : Gateway) (c : Call) (n : ℕ) (k : Key) (before after : Option State) → standing g n k ≡ before → leaves g c n k ≡ after
     → Gone g c n k (vanished c before after)
 unfolding vanished
-vanished-holds g c n k Absent after p e = λ s w. let z : ◌≡◌ {A = ℕ} 0 1 = cc in omega arith
-vanished-holds g c n k (Present s) (Present v) p e = λ u w. let z : ◌≡◌ {A = ℕ} 0 1 = cc in omega arith
-vanished-holds g c n k (Present s) Absent p e = gone-holds g c n k s (record { stood = p; gone = e })
+vanished-holds g c n k None after p e = λ s w. let z : ◌≡◌ {A = ℕ} 0 1 = cc in omega arith
+vanished-holds g c n k (Some s) (Some v) p e = λ u w. let z : ◌≡◌ {A = ℕ} 0 1 = cc in omega arith
+vanished-holds g c n k (Some s) None p e = gone-holds g c n k s (record { stood = p; gone = e })
 
 -- ---- no CSNPs
 
@@ -192,18 +191,18 @@ why-holds NotAdvertised g c n k = unshown-holds g c n k (leaves g c n k) refl
 why-holds Vanished g c n k = vanished-holds g c n k (standing g n k) (leaves g c n k) refl refl
 why-holds NoCsnps g c n k = no-csnps-holds g c n k
 
-shown-not-so : (n : ℕ) (c : Call) (a : Answer) (left : Adjacency) → is_shown left ≡ true → not_advertised n c a left ≡ NotSo
+shown-not-so : (n : ℕ) (c : Call) (a : Answer) (left : Option State) → is_shown left ≡ true → not_advertised n c a left ≡ NotSo
 unfolding not_advertised
-shown-not-so n c a Absent e = absurd (false≢true e)
-shown-not-so n c a (Present (InitState d)) e = absurd (false≢true e)
-shown-not-so n c a (Present (UpState d m)) e = rw (not-true d.suppressed e) refl
+shown-not-so n c a None e = absurd (false≢true e)
+shown-not-so n c a (Some (InitState d)) e = absurd (false≢true e)
+shown-not-so n c a (Some (UpState d m)) e = rw (not-true d.suppressed e) refl
 
-stayed-not-so : (g : Gateway) (c : Call) (n : ℕ) (k : Key) (before after : Adjacency) → standing g n k ≡ before → leaves g c n k ≡ after
+stayed-not-so : (g : Gateway) (c : Call) (n : ℕ) (k : Key) (before after : Option State) → standing g n k ≡ before → leaves g c n k ≡ after
     → NotAsAsked Vanished g c n k → vanished c before after ≡ NotSo
 unfolding vanished
-stayed-not-so g c n k Absent after p e h = refl
-stayed-not-so g c n k (Present s) (Present v) p e h = refl
-stayed-not-so g c n k (Present s) Absent p e h = absurd (h s (record { stood = p; gone = e }))
+stayed-not-so g c n k None after p e h = refl
+stayed-not-so g c n k (Some s) (Some v) p e h = refl
+stayed-not-so g c n k (Some s) None p e h = absurd (h s (record { stood = p; gone = e }))
 
 ordered-not-so : (a : Answer) (w : Why) → orders_csnps a ≡ true → unordered a w ≡ NotSo
 unfolding unordered

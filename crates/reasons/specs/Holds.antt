@@ -1,11 +1,10 @@
 -- What each reason says of the step's outcome, and the claims (document 02, W-204: it "names the reason, true of the definitions"): the reason named
 -- holds, and "not so" is told exactly when the document says.
-use Rattle.std.specs.Prelude.{ℕ, ◌≤◌, ◌≡◌, Bool, true, false, List, ◌⊎◌, eqb, get_or}
+use Rattle.std.specs.Prelude.{ℕ, ◌≤◌, ◌≡◌, Bool, true, false, List, ◌⊎◌, eqb, get_or, Option, Some, None, Ok}
 use Rattle.basics.specs.declared.refusal.Refusal.{Refusal}
 use Rattle.basics.specs.declared.kind.CircuitKind.TheVariants.{Lan}
 use Rattle.hello.specs.Hello.{hello_read}
 use Rattle.hello.specs.declared.read.Hello.{Hello}
-use Rattle.hello.specs.declared.read.Read.TheVariants.{Accepted as ReadAs}
 use Rattle.adjacency.specs.Duty.{outranks}
 use Rattle.adjacency.specs.Keys.{key_in}
 use Rattle.adjacency.specs.Place.{planned_state}
@@ -16,13 +15,10 @@ use Rattle.adjacency.specs.declared.marks.Line.{Line}
 use Rattle.adjacency.specs.declared.marks.Line.TheVariants.{One}
 use Rattle.adjacency.specs.declared.place.Slot.{Slot}
 use Rattle.adjacency.specs.declared.place.Slot.TheVariants.{Free, Held}
-use Rattle.adjacency.specs.declared.record.Adjacency.{Adjacency}
-use Rattle.adjacency.specs.declared.record.Adjacency.TheVariants.{Absent, Present}
 use Rattle.adjacency.specs.declared.record.Key.{Key}
 use Rattle.adjacency.specs.declared.record.Phase.TheVariants.{Init as InitPhase, Up as UpPhase}
 use Rattle.adjacency.specs.declared.record.Record.{Record}
 use Rattle.adjacency.specs.declared.record.State.{State}
-use Rattle.settings.specs.declared.circuit.Chosen.TheVariants.{Known}
 use Rattle.settings.specs.declared.circuit.Circuit.{Circuit}
 use Rattle.control.specs.Common.{circuit_of}
 use Rattle.model.specs.Answers.{Answer, Refused as RefusedAnswer, Received, Ticked, Told, FrameAnswer, is_shown}
@@ -51,13 +47,13 @@ orders_csnps (Ticked lost hellos t) = false
 orders_csnps (Told f) = false
 
 -- the record that is asked for, after the call
-abbrev pub leaves : Gateway → Call → ℕ → Key → Adjacency
+abbrev pub leaves : Gateway → Call → ℕ → Key → Option State
 leaves g c n k = standing (step g c).next n k
 
 -- the record stood before the call, in this state, and stands no more
 pub record Went (g : Gateway) (c : Call) (n : ℕ) (k : Key) (s : State) : Type 0 where
-  pub stood : standing g n k ≡ Present s
-  pub gone : leaves g c n k ≡ Absent
+  pub stood : standing g n k ≡ Some s
+  pub gone : leaves g c n k ≡ None
 
 -- ---- "not so"
 
@@ -73,9 +69,9 @@ abbrev pub Unshown : Gateway → Call → ℕ → Key → Why → Type 0
 Unshown g c n k NotSo = NotAsAsked NotAdvertised g c n k
 Unshown g c n k Init = phase_of (leaves g c n k) ≡ InitPhase
 Unshown g c n k Suppressed = (phase_of (leaves g c n k) ≡ UpPhase) × (suppressed_of (leaves g c n k) ≡ true)
-Unshown g c n k (Refused x) = (leaves g c n k ≡ Absent) × (receives_at n c ≡ true) × ((step g c).answer ≡ RefusedAnswer x)
+Unshown g c n k (Refused x) = (leaves g c n k ≡ None) × (receives_at n c ≡ true) × ((step g c).answer ≡ RefusedAnswer x)
 Unshown g c n k NoRecord =
-    (leaves g c n k ≡ Absent) × ((x : Refusal) → receives_at n c ≡ true → (step g c).answer ≡ RefusedAnswer x → ⊥)
+    (leaves g c n k ≡ None) × ((x : Refusal) → receives_at n c ≡ true → (step g c).answer ≡ RefusedAnswer x → ⊥)
 Unshown g c n k Expired = ⊥
 Unshown g c n k Released = ⊥
 Unshown g c n k Cleared = ⊥
@@ -128,8 +124,8 @@ pub record Unordered (g : Gateway) (c : Call) : Type 0 where
   pub hello : Hello
   pub answer : FrameAnswer
   pub receives : c ≡ At circuit (Receive mac octets buffer)
-  pub known : circuit_of g.common circuit ≡ Known settings
-  pub reads : hello_read settings.kind settings.mac octets ≡ ReadAs hello
+  pub known : circuit_of g.common circuit ≡ Some settings
+  pub reads : hello_read settings.kind settings.mac octets ≡ Ok hello
   pub accepted : (step g c).answer ≡ Received answer
   pub without : answer.ordered ≡ false
 

@@ -1,19 +1,13 @@
 -- Why (document 02, W-204): the reason, of a gateway before a call, the call, a circuit and a record's key. Each definition goes over the step's outcome.
-use Rattle.std.specs.Prelude.{ℕ, cond, List, eqb}
+use Rattle.std.specs.Prelude.{ℕ, cond, List, eqb, Option, Some, None, Result, Ok, Err}
 use Rattle.basics.specs.declared.refusal.Refusal.{Refusal}
 use Rattle.hello.specs.Hello.{hello_read}
-use Rattle.hello.specs.declared.read.Read.{Read}
-use Rattle.hello.specs.declared.read.Read.TheVariants.{Refused as RefusedRead, Accepted as ReadAs}
 use Rattle.adjacency.specs.Keys.{key_on, key_in}
 use Rattle.adjacency.specs.React.{line_in}
 use Rattle.adjacency.specs.declared.marks.Line.{Line}
 use Rattle.adjacency.specs.declared.marks.Line.TheVariants.{One, Two, Three, Four, Five}
-use Rattle.adjacency.specs.declared.record.Adjacency.{Adjacency}
-use Rattle.adjacency.specs.declared.record.Adjacency.TheVariants.{Absent, Present}
 use Rattle.adjacency.specs.declared.record.Key.{Key}
 use Rattle.adjacency.specs.declared.record.State.TheVariants.{Init as InitState, Up as UpState}
-use Rattle.settings.specs.declared.circuit.Chosen.{Chosen}
-use Rattle.settings.specs.declared.circuit.Chosen.TheVariants.{Known, Unknown}
 use Rattle.settings.specs.declared.circuit.Circuit.{Circuit}
 use Rattle.control.specs.Common.{circuit_of}
 use Rattle.model.specs.Answers.{Answer, Refused as RefusedAnswer, Received, Ticked, Told}
@@ -29,6 +23,8 @@ use Rattle.reasons.specs.declared.why.Question.{Question}
 use Rattle.reasons.specs.declared.why.Question.TheVariants.{NotAdvertised, Vanished, NoCsnps}
 use Rattle.reasons.specs.declared.why.Reason.{Reason}
 use Rattle.reasons.specs.declared.why.Reason.TheVariants.{NotSo as NotSoCode, Init as InitCode, Suppressed as SuppressedCode, NoRecord as NoRecordCode, Refused as RefusedCode, Expired as ExpiredCode, Released as ReleasedCode, Cleared as ClearedCode, Fits as FitsCode, Outranked as OutrankedCode}
+use Rattle.hello.specs.declared.read.Hello.{Hello}
+use Rattle.adjacency.specs.declared.record.State.{State}
 
 -- ---- the reasons, in document 01's numbers
 
@@ -55,11 +51,11 @@ line_no Five = 5
 -- ---- the record
 
 -- "a circuit not there has no record", and no more has a level not enabled there
-unfoldable pub stands_on : Gateway → ℕ → Key → Chosen → Adjacency
-stands_on g n k Unknown = Absent
-stands_on g n k (Known s) = cond (asks_level s.kind s.levels k.level) (record_at g n (key_on s.kind k)) Absent
+unfoldable pub stands_on : Gateway → ℕ → Key → Option Circuit → Option State
+stands_on g n k None = None
+stands_on g n k (Some s) = cond (asks_level s.kind s.levels k.level) (record_at g n (key_on s.kind k)) None
 
-unfoldable pub standing : Gateway → ℕ → Key → Adjacency
+unfoldable pub standing : Gateway → ℕ → Key → Option State
 standing g n k = stands_on g n k (circuit_of g.common n)
 
 -- ---- a call
@@ -90,10 +86,10 @@ abbrev pub unknown : ℕ → Call → Answer → Why
 unknown n c a = of_receive c (λ m mac frame. turned_away n m a) NoRecord
 
 -- of the record after the call: "the first that holds: .. INIT, Suppressed", and then the rest; "not so" of one that is advertised
-unfoldable pub not_advertised : ℕ → Call → Answer → Adjacency → Why
-not_advertised n c a Absent = unknown n c a
-not_advertised n c a (Present (InitState d)) = Init
-not_advertised n c a (Present (UpState d m)) = cond d.suppressed Suppressed NotSo
+unfoldable pub not_advertised : ℕ → Call → Answer → Option State → Why
+not_advertised n c a None = unknown n c a
+not_advertised n c a (Some (InitState d)) = Init
+not_advertised n c a (Some (UpState d m)) = cond d.suppressed Suppressed NotSo
 
 -- ---- "why did it vanish"
 
@@ -112,10 +108,10 @@ gone_by (Over Waiting) = NotSo
 gone_by (Hand m p) = NotSo
 
 -- of the record before the call and after it: it stood, and stands no more
-unfoldable pub vanished : Call → Adjacency → Adjacency → Why
-vanished c Absent after = NotSo
-vanished c (Present s) (Present v) = NotSo
-vanished c (Present s) Absent = gone_by c
+unfoldable pub vanished : Call → Option State → Option State → Why
+vanished c None after = NotSo
+vanished c (Some s) (Some v) = NotSo
+vanished c (Some s) None = gone_by c
 
 -- ---- "why did we not order CSNPs"
 
@@ -133,14 +129,14 @@ by_line Five d = Fits (line_no Five)
 
 -- Of an accepted frame: the line that fits is that of the gateway before, the duty that of the room as the frame left it. Its circuit is there, and it was
 -- read, so the other clauses are never asked.
-unfoldable pub fits_read : Gateway → Gateway → ℕ → Circuit → ℕ → Read → Why
-fits_read g next n s mac (RefusedRead x) = NotSo
-fits_read g next n s mac (ReadAs h) =
+unfoldable pub fits_read : Gateway → Gateway → ℕ → Circuit → ℕ → Result Hello Refusal → Why
+fits_read g next n s mac (Err x) = NotSo
+fits_read g next n s mac (Ok h) =
     by_line (line_in (here_of g.common s) h (record_at g n (key_in s.kind mac h))) (duty_in (rank_of s h) (room_of next n).slots)
 
-unfoldable pub fits_on : Gateway → Gateway → ℕ → ℕ → List ℕ → Chosen → Why
-fits_on g next n mac frame Unknown = NotSo
-fits_on g next n mac frame (Known s) = fits_read g next n s mac (hello_read s.kind s.mac frame)
+unfoldable pub fits_on : Gateway → Gateway → ℕ → ℕ → List ℕ → Option Circuit → Why
+fits_on g next n mac frame None = NotSo
+fits_on g next n mac frame (Some s) = fits_read g next n s mac (hello_read s.kind s.mac frame)
 
 -- "the refusal's number", "not so" where CSNPs were ordered, or else this
 unfoldable pub unordered : Answer → Why → Why

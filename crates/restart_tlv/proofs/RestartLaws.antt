@@ -15,10 +15,10 @@ use Rattle.tlv.proofs.TlvLaws.{by_count, lone-read, unless-is-bad, unless-is-goo
 use Rattle.restart_tlv.specs.Flags.{PR, counted, without, needs_neighbor, needs_time}
 use Rattle.restart_tlv.specs.Restart.{least_length, restart_bad, restart_fault, restart_in, restart_of, restart_read}
 use Rattle.restart_tlv.specs.declared.flags.Flags.{Flags}
-use Rattle.restart_tlv.specs.declared.reader.Neighbor.{Neighbor}
-use Rattle.restart_tlv.specs.declared.reader.RestartRead.TheVariants.{Bad, Good}
 use Rattle.restart_tlv.specs.declared.reader.RestartTlv.{RestartTlv}
 use Rattle.restart_tlv.specs.declared.reader.RestartTlv.TheVariants.{Absent, Ignored, Present}
+use Rattle.std.specs.Prelude.{Option, Ok, Err}
+use Rattle.tlv.specs.Tlv.{broken_rule}
 
 -- a value that breaks no rule has its flags, and the length that they ask for
 module _ (v : List ℕ) (e : restart_bad v ≡ false) where
@@ -50,30 +50,24 @@ module _ (f : ℕ) where
 
 -- the reading, by how often the type occurs
 pub restart-read : (ts : List Tlv)
-    → restart_read ts ≡ by_count (length ts) (Good Absent) (cond (restart_bad (first_value ts)) Bad (Good (restart_of (first_value ts)))) Bad
+    → restart_read ts ≡ by_count (length ts) (Ok Absent) (cond (restart_bad (first_value ts)) (Err broken_rule) (Ok (restart_of (first_value ts)))) (Err broken_rule)
 unfolding restart_read
 restart-read [] = lone-read _ _ restart_bad []
 restart-read (t ∷ []) = lone-read _ _ restart_bad (t ∷ [])
 restart-read (t ∷ u ∷ ts) = lone-read _ _ restart_bad (t ∷ u ∷ ts)
 
 -- what a `let .. else` that takes a Present out knows in its else
-pub not-present : (r : RestartTlv) → ((f : Flags) (time : ℕ) (n : Neighbor) → r ≡ Present f time n → ⊥) → (r ≡ Absent) ⊎ (r ≡ Ignored)
+pub not-present : (r : RestartTlv) → ((f : Flags) (time : ℕ) (n : Option ℕ) → r ≡ Present f time n → ⊥) → (r ≡ Absent) ⊎ (r ≡ Ignored)
 not-present Absent h = inl refl
 not-present Ignored h = inr refl
 not-present (Present f time n) h = absurd (h f time n refl)
 
-differ : (r : RestartTlv) → Good r ≡ Bad → ⊥
-differ r e = let z : ◌≡◌ {A = ℕ} 0 1 = cc in omega arith
-
-same : (a b : RestartTlv) → Good a ≡ Good b → a ≡ b
-same a b e = cc
-
 -- the reading taken apart
 module _ (ts : List Tlv) where
-  pub restart-is-bad : restart_read ts ≡ Bad → is_found (restart_fault ts) ≡ true
+  pub restart-is-bad : restart_read ts ≡ Err broken_rule → is_found (restart_fault ts) ≡ true
   unfolding restart_read
-  restart-is-bad = unless-is-bad Good Bad differ same (restart_fault ts) (restart_in ts)
+  restart-is-bad = unless-is-bad (restart_fault ts) (restart_in ts)
 
-  pub restart-is-good : (r : RestartTlv) → restart_read ts ≡ Good r → (is_found (restart_fault ts) ≡ false) × (r ≡ restart_in ts)
+  pub restart-is-good : (r : RestartTlv) → restart_read ts ≡ Ok r → (is_found (restart_fault ts) ≡ false) × (r ≡ restart_in ts)
   unfolding restart_read
-  restart-is-good r = unless-is-good Good Bad differ same (restart_fault ts) (restart_in ts) r
+  restart-is-good r = unless-is-good (restart_fault ts) (restart_in ts) r

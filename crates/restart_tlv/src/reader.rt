@@ -3,20 +3,12 @@
 //   octet  1      2-3             4-9
 //          flags  Remaining Time  Restarting Neighbor System ID
 ghost use Rattle.std.specs.Prelude.{◌≡◌, ◌≤◌, length, false, cond};
-ghost use Rattle.tlv.specs.Tlv.{tlvs, of_type};
+ghost use Rattle.tlv.specs.Tlv.{tlvs, of_type, broken_rule};
 ghost use Rattle.restart_tlv.specs.Restart.{least_length, restart_bad, restart_of, time_of, neighbor_of, restart_fault, restart_read};
-ghost use Rattle.restart_tlv.specs.declared.reader.RestartRead.TheVariants.{Good, Bad};
 
 use crate::flags::Flags;
 use basics::octets::{six, two};
-use tlv::tlvs::{Found, RESTART, find, find_after, value_at, value_of};
-
-// Whom the TLV names.
-#[derive(Clone, Copy)]
-pub enum Neighbor {
-    Unnamed,
-    Named(u64),
-}
+use tlv::tlvs::{BrokenRule, RESTART, find, find_after, value_at, value_of};
 
 // The Restart TLV of a frame. Ignored: it came with flags that may not stand together.
 #[derive(Clone, Copy)]
@@ -26,15 +18,8 @@ pub enum RestartTlv {
     Present {
         flags: Flags,
         time: u16,
-        neighbor: Neighbor,
+        neighbor: Option<u64>,
     },
-}
-
-// What reading it gives: a rule is broken, or the TLV.
-#[derive(Clone, Copy)]
-pub enum RestartRead {
-    Bad,
-    Good(RestartTlv),
 }
 
 fn least_length(flags: Flags) -> usize
@@ -71,14 +56,14 @@ fn decode_time(flags: Flags, v: &[u8]) -> u16
     0
 }
 
-fn decode_neighbor(flags: Flags, v: &[u8]) -> Neighbor
+fn decode_neighbor(flags: Flags, v: &[u8]) -> Option<u64>
     requires { least_length flags.bits ≤ length v.now }
     ensures { result ≡ neighbor_of flags.bits v.now }
 {
     if flags.needs_neighbor() {
-        return Neighbor::Named(six(v, 3));
+        return Some(six(v, 3));
     }
-    Neighbor::Unnamed
+    None
 }
 
 // The fields of a value that breaks no rule.
@@ -99,39 +84,39 @@ fn decode_restart(v: &[u8]) -> RestartTlv
     }
 }
 
-fn check_restart(v: &[u8]) -> RestartRead
-    ensures { result ≡ cond (restart_bad v.now) Bad (Good (restart_of v.now)) }
+fn check_restart(v: &[u8]) -> Result<RestartTlv, BrokenRule>
+    ensures { result ≡ cond (restart_bad v.now) (Err broken_rule) (Ok (restart_of v.now)) }
 {
     if is_bad_restart(v) {
-        return RestartRead::Bad;
+        return Err(BrokenRule);
     }
-    RestartRead::Good(decode_restart(v))
+    Ok(decode_restart(v))
 }
 
 // The Restart TLV of a PDU whose TLVs start at `from`, of which `count` are Restart TLVs: at most one, and by its rule.
-pub fn read_restart(pdu: &[u8], from: usize, count: usize) -> RestartRead
+pub fn read_restart(pdu: &[u8], from: usize, count: usize) -> Result<RestartTlv, BrokenRule>
     requires { count ≡ length (of_type 211 (tlvs pdu.now from)) }
     ensures { result ≡ restart_read (of_type 211 (tlvs pdu.now from)) }
 {
     if count == 0 {
-        return RestartRead::Good(RestartTlv::Absent);
+        return Ok(RestartTlv::Absent);
     }
     if count == 1 {
         return check_restart(value_of(pdu, from, RESTART));
     }
-    RestartRead::Bad
+    Err(BrokenRule)
 }
 
 // The first Restart TLV of a PDU that breaks a rule: its own, or that there is at most one.
-pub fn restart_fault(pdu: &[u8], from: usize) -> Found
+pub fn restart_fault(pdu: &[u8], from: usize) -> Option<usize>
     ensures { result ≡ restart_fault (of_type 211 (tlvs pdu.now from)) }
 {
     let found = find(pdu, from, RESTART);
-    let Found::At(at) = found else {
-        return Found::Nothing;
+    let Some(at) = found else {
+        return None;
     };
     if is_bad_restart(value_at(pdu, at)) {
-        return Found::At(at);
+        return Some(at);
     }
     find_after(pdu, at, RESTART)
 }

@@ -10,13 +10,13 @@ use Rattle.basics.proofs.BoolLaws.{by-test}
 use Rattle.adjacency.specs.declared.record.State.{State}
 use Rattle.adjacency.specs.declared.record.Key.{Key}
 use Rattle.adjacency.specs.declared.record.Record.{Record}
-use Rattle.adjacency.specs.declared.record.Adjacency.TheVariants.{Absent, Present}
 use Rattle.adjacency.specs.Place.{is_free, has_key}
 use Rattle.adjacency.specs.declared.place.Slot.{Slot}
 use Rattle.adjacency.specs.declared.place.Slot.TheVariants.{Free, Held, Closed}
 use Rattle.room.specs.Table.{record_with, has, full, crowded, replace, insert, put}
 use Rattle.room.specs.Place.{first_of, state_in, Placed}
 use Rattle.room.proofs.SearchLaws.{find_at}
+use Rattle.std.specs.Prelude.{Some, None}
 
 -- what is put is put at the first place with the key, or at the first free one
 
@@ -66,7 +66,7 @@ none_free (Closed ∷ t) l = none_free t (omega (arith, l))
 module _ (k : Key) (t : List Slot) (len : length t ≡ places) where
   -- the key's record stands at its place
   pub stands : (r : Record) → first_of (has_key k) t < places → get_or t (first_of (has_key k) t) Free ≡ Held r
-      → Placed k t (record { before = Present r.state; at = first_of (has_key k) t })
+      → Placed k t (record { before = Some r.state; at = first_of (has_key k) t })
   unfolding put crowded
   stands r l g =
       let y : has k t ≡ true = has-key k t (omega (arith, len, l)) in
@@ -80,7 +80,7 @@ module _ (k : Key) (t : List Slot) (len : length t ≡ places) where
       }
 
   -- no record has the key: the first free place, or refusal 9
-  pub lacks : places ≤ first_of (has_key k) t → Placed k t (record { before = Absent; at = first_of is_free t })
+  pub lacks : places ≤ first_of (has_key k) t → Placed k t (record { before = None; at = first_of is_free t })
   unfolding put crowded
   lacks l =
       let n : has k t ≡ false = no_key k t (omega (arith, len, l)) in

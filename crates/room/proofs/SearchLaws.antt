@@ -9,7 +9,6 @@ use lib.ListN.{length, get_or, drop, drop_of_length-le}
 use lib.Seq.{drop-cons}
 use Rattle.basics.proofs.BoolLaws.{by-test}
 use Rattle.adjacency.specs.declared.record.Key.{Key}
-use Rattle.adjacency.specs.declared.record.Adjacency.TheVariants.{Absent}
 use Rattle.adjacency.specs.Place.{is_held, has_key}
 use Rattle.adjacency.specs.Keys.{same_key}
 use Rattle.adjacency.specs.declared.place.Slot.{Slot}
@@ -17,6 +16,7 @@ use Rattle.adjacency.specs.declared.place.Slot.TheVariants.{Free, Held, Closed}
 use Rattle.room.specs.Table.{find, first_state}
 use Rattle.basics.specs.Lists.{some}
 use Rattle.room.specs.Place.{first_of, state_in}
+use Rattle.std.specs.Prelude.{None}
 
 module _ (p : Slot → Bool) (t : List Slot) (i : ℕ) (lt : i < length t) where
   pub first-here : p (get_or t i Free) ≡ true → first_of p (drop i t) ≡ 0
@@ -47,7 +47,7 @@ first-true p (s ∷ t) l =
     let go = first-true p t in
     by-test (p s) (λ q. rw q q) (λ q. let m : suc (first_of p t) < suc (length t) = rw q at l in rw q (go (omega (arith, m))))
 
-pub no-state : (s : Slot) → is_held s ≡ false → Absent ≡ state_in s
+pub no-state : (s : Slot) → is_held s ≡ false → None ≡ state_in s
 no-state Free e = refl
 no-state (Held r) e = absurd (true≢false e)
 no-state Closed e = refl

@@ -7,12 +7,12 @@ use Rattle.basics.proofs.BoolLaws.{by-test}
 use Rattle.adjacency.specs.declared.record.State.{State}
 use Rattle.adjacency.specs.declared.record.Key.{Key}
 use Rattle.basics.specs.declared.kind.CircuitKind.TheVariants.{P2p}
-use Rattle.adjacency.specs.declared.record.Adjacency.TheVariants.{Present}
 use Rattle.adjacency.specs.Keys.{same_key}
 use Rattle.adjacency.specs.declared.place.Slot.{Slot}
 use Rattle.adjacency.specs.declared.place.Slot.TheVariants.{Free, Held, Closed}
 use Rattle.room.specs.Table.{find, has, full, crowded, replace, insert, put, sweep, empty_room}
 use Rattle.room.specs.Gather.{gather, first, filled, rest, keep}
+use Rattle.std.specs.Prelude.{Some}
 
 -- what each function is, told by gather
 
@@ -103,7 +103,7 @@ gather-put-same k v t e =
     let i = gather-insert-same k v t h f in
     cc (gather_none k t h))
 
-pub find-put-same : (k : Key) (v : State) (t : List Slot) → crowded k t ≡ false → find k (put k v t) ≡ Present v
+pub find-put-same : (k : Key) (v : State) (t : List Slot) → crowded k t ≡ false → find k (put k v t) ≡ Some v
 unfolding first
 find-put-same k v t e = find-is k (put k v t) ∙ ap first (gather-put-same k v t e)
 

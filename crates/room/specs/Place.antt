@@ -1,10 +1,8 @@
 -- What the code's searches answer: the first place that is asked for, and the place that a key's record takes.
-use Rattle.std.specs.Prelude.{ℕ, suc, ◌<◌, ◌≤◌, ◌≡◌, Bool, true, false, cond, List, [], ◌∷◌, set}
+use Rattle.std.specs.Prelude.{ℕ, suc, ◌<◌, ◌≤◌, ◌≡◌, Bool, true, false, cond, List, [], ◌∷◌, set, Option, Some, None}
 use Rattle.slots.specs.Slots.{places}
 use Rattle.adjacency.specs.declared.record.State.{State}
 use Rattle.adjacency.specs.declared.record.Key.{Key}
-use Rattle.adjacency.specs.declared.record.Adjacency.{Adjacency}
-use Rattle.adjacency.specs.declared.record.Adjacency.TheVariants.{Absent, Present}
 use Rattle.adjacency.specs.declared.place.Slot.{Slot}
 use Rattle.adjacency.specs.declared.place.Slot.TheVariants.{Free, Held, Closed}
 use Rattle.room.specs.Table.{record_with, find, put, crowded}
@@ -16,10 +14,10 @@ first_of p [] = 0
 first_of p (s ∷ t) = cond (p s) 0 (suc (first_of p t))
 
 -- the state of the record at a place
-abbrev pub state_in : Slot → Adjacency
-state_in Free = Absent
-state_in (Held r) = Present r.state
-state_in Closed = Absent
+abbrev pub state_in : Slot → Option State
+state_in Free = None
+state_in (Held r) = Some r.state
+state_in Closed = None
 
 -- the key's record is, or would be, at i
 pub record Takes (k : Key) (t : List Slot) (i : ℕ) : Type 0 where

@@ -1,6 +1,6 @@
 -- A circuit's room: 16 places, in which records are found by key, kept and removed (document 01, "What the gateway holds" and
 -- "Marks and holding time").
-use Rattle.std.specs.Prelude.{ℕ, Bool, true, false, not, cond, ◌&&◌, ◌||◌, List, [], ◌∷◌, map, eqb}
+use Rattle.std.specs.Prelude.{ℕ, Bool, true, false, not, cond, ◌&&◌, ◌||◌, List, [], ◌∷◌, map, eqb, Option, Some, None}
 use Rattle.slots.specs.Slots.{places}
 use Rattle.basics.specs.Lists.{some, tabulate}
 use Rattle.basics.specs.declared.kind.CircuitKind.{CircuitKind}
@@ -9,8 +9,6 @@ use Rattle.adjacency.specs.declared.duty.Rank.{Rank}
 use Rattle.adjacency.specs.declared.record.State.{State}
 use Rattle.adjacency.specs.declared.record.Key.{Key}
 use Rattle.adjacency.specs.declared.record.Record.{Record}
-use Rattle.adjacency.specs.declared.record.Adjacency.{Adjacency}
-use Rattle.adjacency.specs.declared.record.Adjacency.TheVariants.{Absent, Present}
 use Rattle.adjacency.specs.Place.{is_free, has_key, meets, expired_by, planned_state, outranked_at}
 use Rattle.adjacency.specs.Keys.{same_key}
 use Rattle.adjacency.specs.declared.place.Slot.{Slot}
@@ -20,10 +18,10 @@ abbrev pub record_with : Key → State → Record
 record_with k v = record { key = k; state = v }
 
 -- the state of the record with this key, if one stands
-unfoldable pub find : Key → List Slot → Adjacency
-find k [] = Absent
+unfoldable pub find : Key → List Slot → Option State
+find k [] = None
 find k (Free ∷ t) = find k t
-find k (Held r ∷ t) = cond (same_key k r.key) (Present r.state) (find k t)
+find k (Held r ∷ t) = cond (same_key k r.key) (Some r.state) (find k t)
 find k (Closed ∷ t) = find k t
 
 -- some record has this key
@@ -79,10 +77,10 @@ abbrev pub any_outranks : Rank → List Slot → Bool
 any_outranks rank t = some (outranked_at rank) t
 
 -- the state of the first record
-unfoldable pub first_state : List Slot → Adjacency
-first_state [] = Absent
+unfoldable pub first_state : List Slot → Option State
+first_state [] = None
 first_state (Free ∷ t) = first_state t
-first_state (Held r ∷ t) = Present r.state
+first_state (Held r ∷ t) = Some r.state
 first_state (Closed ∷ t) = first_state t
 
 -- a LAN circuit has room for 16 records, a P2P circuit for 1

@@ -6,9 +6,9 @@ ghost use Rattle.room.specs.Accept.{kept, written};
 ghost use Rattle.room.specs.AcceptWords.{Accepts, AcceptsAt};
 
 use crate::place::{place_of, store_state};
-use adjacency::marks::Acknowledgement;
+use adjacency::marks::Reply;
 use adjacency::react::{Reaction, react_to};
-use adjacency::record::{Adjacency, Key, Phase, phase_of};
+use adjacency::record::{Key, Phase, State, phase_of};
 use adjacency::step::{Here, wrong_of};
 use basics::refusal::Refusal;
 use hello::read::Hello;
@@ -16,22 +16,22 @@ use restart_tlv::writer::write_restart;
 use slots::slot::PLACES;
 
 // The reply, if one is due.
-fn answer(reply: &mut [u8], what: Acknowledgement, system: u64)
+fn answer(reply: &mut [u8], what: Option<Reply>, system: u64)
     requires { 11 ≤ length reply.old }
     ensures { reply.new ≡ written system what reply.old }
 {
-    let Acknowledgement::Send(ack, time) = what else {
+    let Some((ack, time)) = what else {
         return;
     };
     write_restart(reply, ack, time, system);
 }
 
 // The record of a key at its place; where the step gives none, none stood, and none is kept.
-fn keep(words: &mut [u64], i: usize, key: Key, after: Adjacency)
+fn keep(words: &mut [u64], i: usize, key: Key, after: Option<State>)
     requires { (length words.old ≡ room_words) × Takes key (table_of words.old) i }
     ensures { table_of words.new ≡ kept key after (table_of words.old) }
 {
-    let Adjacency::Present(state) = after else {
+    let Some(state) = after else {
         return;
     };
     store_state(words, i, key, state);
@@ -49,15 +49,15 @@ fn accept_at(
     requires { (length words.old ≡ room_words) × Spots key (table_of words.old) at × (11 ≤ length reply.old) }
     ensures { AcceptsAt key what system words.old reply.old words.new reply.new result }
 {
-    let Reaction::Accepted(after, acknowledgement, line) = what else {
+    let Ok((after, acknowledgement, line)) = what else {
         return what;
     };
     if PLACES <= at {
-        return Reaction::Refused(Refusal::NoRoom);
+        return Err(Refusal::NoRoom);
     }
     keep(words, at, key, after);
     answer(reply, acknowledgement, system);
-    Reaction::Accepted(after, acknowledgement, line)
+    Ok((after, acknowledgement, line))
 }
 
 // What is decided of a frame, and the state of its record before it.

@@ -5,13 +5,13 @@ ghost use Rattle.adjacency.specs.Keys.{level_in};
 ghost use Rattle.room.specs.Accept.{csnps_in};
 
 use crate::search::is_outranked;
-use adjacency::duty::{Csnps, Rank};
+use adjacency::duty::Rank;
 use adjacency::marks::Line;
 use basics::levels::{Levels, only_level};
 use hello::read::Link;
 
 // Line 1's order. On P2P it is given always, so only on a LAN is the room looked through. Our rank is at the frame's level.
-fn line_one_csnps(words: &[u64], rank: Rank, levels: Levels, link: Link) -> Csnps
+fn line_one_csnps(words: &[u64], rank: Rank, levels: Levels, link: Link) -> Option<Levels>
     requires { (length words.now ≡ room_words) × (rank.level ≡ level_in link) }
     ensures { result ≡ csnps_in rank Line.One levels link (table_of words.now) }
 {
@@ -21,24 +21,24 @@ fn line_one_csnps(words: &[u64], rank: Rank, levels: Levels, link: Link) -> Csnp
         listed: _,
     } = link
     else {
-        return Csnps::Ordered(levels);
+        return Some(levels);
     };
     if is_outranked(words, rank) {
-        return Csnps::Nothing;
+        return None;
     }
-    Csnps::Ordered(only_level(rank.level))
+    Some(only_level(rank.level))
 }
 
 // Of the lines only line 1 orders.
-pub fn csnps_in(words: &[u64], rank: Rank, line: Line, levels: Levels, link: Link) -> Csnps
+pub fn csnps_in(words: &[u64], rank: Rank, line: Line, levels: Levels, link: Link) -> Option<Levels>
     requires { (length words.now ≡ room_words) × (rank.level ≡ level_in link) }
     ensures { result ≡ csnps_in rank line levels link (table_of words.now) }
 {
     match line {
         Line::One => line_one_csnps(words, rank, levels, link),
-        Line::Two => Csnps::Nothing,
-        Line::Three => Csnps::Nothing,
-        Line::Four => Csnps::Nothing,
-        Line::Five => Csnps::Nothing,
+        Line::Two => None,
+        Line::Three => None,
+        Line::Four => None,
+        Line::Five => None,
     }
 }

@@ -7,19 +7,19 @@ ghost use Rattle.room.specs.Place.{Placed};
 
 use crate::search::{find_key, first_free, state_at};
 use adjacency::place::Slot;
-use adjacency::record::{Adjacency, Key, Record, State};
+use adjacency::record::{Key, Record, State};
 use slots::slot::{PLACES, load, store};
 
 // The state of the record with a key, and the place that it has or would take: PLACES where the room is full and no record has the key
 // (refusal 9).
 #[derive(Clone, Copy)]
 pub struct Place {
-    pub before: Adjacency,
+    pub before: Option<State>,
     pub at: usize,
 }
 
 // The record with a key.
-pub fn found(words: &[u64], key: Key) -> Adjacency
+pub fn found(words: &[u64], key: Key) -> Option<State>
     requires { length words.now ≡ room_words }
     ensures { result ≡ find key (table_of words.now) }
 {
@@ -33,16 +33,16 @@ pub fn place_of(words: &[u64], key: Key) -> Place
 {
     let at = find_key(words, key.level, key.system, key.mac);
     if PLACES <= at {
-        let before = Adjacency::Absent;
+        let before = None;
         let at = first_free(words);
         return Place { before, at };
     }
     let Slot::Held(entry) = load(words, at) else {
-        let before = Adjacency::Absent;
+        let before = None;
         return Place { before, at };
     };
     let state = entry.state;
-    let before = Adjacency::Present(state);
+    let before = Some(state);
     Place { before, at }
 }
 

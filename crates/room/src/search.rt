@@ -8,7 +8,7 @@ ghost use Rattle.room.specs.Place.{first_of, state_in};
 
 use adjacency::duty::Rank;
 use adjacency::place::Slot;
-use adjacency::record::{Adjacency, Key};
+use adjacency::record::{Key, State};
 use slots::probe::{is_free_at, is_held_at, is_key_at, is_outranked_at};
 use slots::slot::{PLACES, load};
 
@@ -58,22 +58,22 @@ fn first_held(words: &[u64]) -> usize
 }
 
 // The state of the record at a place, if one stands there.
-pub fn state_at(words: &[u64], i: usize) -> Adjacency
+pub fn state_at(words: &[u64], i: usize) -> Option<State>
     requires { length words.now ≡ room_words }
     ensures { result ≡ state_in (get_or (table_of words.now) i Free) }
 {
     if PLACES <= i {
-        return Adjacency::Absent;
+        return None;
     }
     let Slot::Held(entry) = load(words, i) else {
-        return Adjacency::Absent;
+        return None;
     };
     let state = entry.state;
-    Adjacency::Present(state)
+    Some(state)
 }
 
 // The first record; a P2P room has one at most.
-pub fn first_state(words: &[u64]) -> Adjacency
+pub fn first_state(words: &[u64]) -> Option<State>
     requires { length words.now ≡ room_words }
     ensures { result ≡ first_state (table_of words.now) }
 {

@@ -9,7 +9,6 @@ use borrow.Author.Tests.{ltb-false}
 use Rattle.basics.specs.Mask.{circuits}
 use Rattle.basics.proofs.BoolLaws.{by-test}
 use Rattle.basics.proofs.ListLaws.{length-tabulate}
-use Rattle.settings.specs.declared.circuit.Chosen.TheVariants.{Known}
 use Rattle.settings.specs.declared.circuit.Circuit.{Circuit}
 use Rattle.control.specs.Common.{circuit_of}
 use Rattle.control.specs.Words.{control_words, sealed, count_place, count_in, count_of}
@@ -26,6 +25,7 @@ use Rattle.invariants.proofs.CuttingLaws.{any-cutting}
 use Rattle.runs.specs.Runs.{Lent, meaning, Made, Ran, turn_of}
 use Rattle.runs.specs.Claims.{CodeCutting}
 use Rattle.runs.proofs.ClaimsHold.{code-follows}
+use Rattle.std.specs.Prelude.{Some}
 
 -- ---- the last of a list
 
@@ -57,7 +57,7 @@ last_made m left xs c ms e r =
 count-le : (n : ℕ) → count_in n ≤ circuits
 count-le n = by-test (ltb circuits n) (λ e. rw e (omega arith)) (λ e. rw e (ltb-false circuits n e))
 
-has-place : (m : Lent) (n : ℕ) (s : Circuit) → circuit_of (meaning m).common n ≡ Known s → n ≤ length (meaning m).unfinished
+has-place : (m : Lent) (n : ℕ) (s : Circuit) → circuit_of (meaning m).common n ≡ Some s → n ≤ length (meaning m).unfinished
 unfolding whole_of gateway_of count_of
 has-place m n s e =
     let l : length (meaning m).common.circuits ≤ circuits = rw (circuits-length (part 0 control_words m.words)) (count-le (sealed (part 0 control_words m.words) count_place)) in

@@ -1,8 +1,7 @@
 -- What is proved of the code's own runs: they are the model's, and demands 1 and 3, the invariants and any cutting of a frame (document 02, W-205) hold of
 -- the lent memories.
-use Rattle.std.specs.Prelude.{ℕ, ◌≤◌, ◌≡◌, false, List, [], ◌∷◌, ◌++◌, length}
+use Rattle.std.specs.Prelude.{ℕ, ◌≤◌, ◌≡◌, false, List, [], ◌∷◌, ◌++◌, length, Some}
 use Rattle.basics.specs.declared.refusal.Refusal.{Refusal}
-use Rattle.settings.specs.declared.circuit.Chosen.TheVariants.{Known}
 use Rattle.settings.specs.declared.circuit.Circuit.{Circuit}
 use Rattle.settings.specs.declared.mode.Mode.TheVariants.{Running}
 use Rattle.settings.specs.declared.setup.Settings.{Settings}
@@ -62,7 +61,7 @@ pub record EndsSo (n : ℕ) (e r : Made) : Type 0 where
 
 abbrev pub CodeCutting : Type 0
 CodeCutting =
-    (m₁ m₂ left₁ left₂ : Lent) → meaning m₁ ≡ meaning m₂ → (n mac : ℕ) (s : Circuit) → circuit_of (meaning m₁).common n ≡ Known s
+    (m₁ m₂ left₁ left₂ : Lent) → meaning m₁ ≡ meaning m₂ → (n mac : ℕ) (s : Circuit) → circuit_of (meaning m₁).common n ≡ Some s
     → (cs others : List Call) (chunks : List (List ℕ)) → Between n cs chunks others → length (joined chunks) ≤ most_octets → (b : List ℕ)
     → (ms₁ ms₂ : List Made) (e r : Made)
     → Ran m₁ ((Hand n (Begin mac) ∷ cs) ++ Hand n (End b) ∷ []) (ms₁ ++ e ∷ []) left₁

@@ -1,15 +1,16 @@
 -- A run of the code over lent memories: every call keeps its promise on the words, and on the octets of unfinished frames (document 02, W-205), that the
 -- last one left (document 01, "The runs of demand 3": "Each call gets the gateway that the last one returned or left; nobody else writes it meanwhile").
-use Rattle.std.specs.Prelude.{ℕ, ◌≡◌, List, [], ◌∷◌, map}
+use Rattle.std.specs.Prelude.{ℕ, ◌≡◌, List, [], ◌∷◌, map, Result}
 use Rattle.settings.specs.declared.setup.Settings.{Settings}
 use Rattle.timers.specs.Hellos.{Hellos}
-use Rattle.model.specs.declared.answers.SetUp.{SetUp}
 use Rattle.model.specs.Answers.{Answer}
 use Rattle.model.specs.Gateway.{Gateway, setup}
 use Rattle.model.specs.Step.{Call}
 use Rattle.model.specs.Trace.{Turn}
 use Rattle.own_words.specs.Setup.{Begun, report_of}
 use Rattle.gateway.specs.Whole.{whole_of, DoesWith, SetsUpWhole}
+use Rattle.basics.specs.declared.refusal.Refusal.{Refusal}
+use Rattle.timers.specs.declared.hellos.HelloOrders.{HelloOrders}
 
 -- the lent memories
 pub record Lent : Type 0 where
@@ -39,7 +40,7 @@ pub data Ran : Lent → List Call → List Made → Lent → Type 0 where
 
 -- words that a set-up with these settings left, where it was not refused; and any octets
 pub data Begins (s : Settings) : Lent → Type 0 where
-  begins : {ws0 ws fs : List ℕ} {r : SetUp} {hellos : Hellos} → SetsUpWhole (setup s) ws0 ws r → report_of r ≡ Begun hellos
+  begins : {ws0 ws fs : List ℕ} {r : Result HelloOrders Refusal} {hellos : Hellos} → SetsUpWhole (setup s) ws0 ws r → report_of r ≡ Begun hellos
       → Begins s (record { words = ws; octets = fs })
 
 -- the same as a turn of the gateway that the memories mean

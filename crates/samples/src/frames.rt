@@ -39,7 +39,7 @@ pub fn start(
     metric: u32,
 ) {
     let one = circuit(kind, metric);
-    set_up(
+    let _ = set_up(
         gateway,
         GatewaySettings {
             system: OWN,

@@ -11,7 +11,7 @@ fn row(rt: &impl Print, name: &str, what: &str, configured: u32, frame: &[u8]) -
     let mut gateway = [0u64; GATEWAY_WORDS];
     let mut reply = [0u8; 11];
     start(&mut gateway, CircuitKind::P2p, Mode::Running, 0, configured);
-    receive(&mut gateway, 1, &SOURCE, frame, &mut reply);
+    let _ = receive(&mut gateway, 1, &SOURCE, frame, &mut reply);
     cell(rt, name, 5)?;
     cell(rt, what, 43)?;
     metric(rt, link_metric(&gateway, 1))?;

@@ -20,7 +20,7 @@ fn row(
 ) -> io::Result<()> {
     let mut reply = [0u8; 11];
     let frame = restart(state, 3, flags, time);
-    tick(gateway, clock);
+    let _ = tick(gateway, clock);
     let r = receive(gateway, 1, &SOURCE, &frame, &mut reply);
     let l = look_up(gateway, 1, 0, &NEIGHBOUR, &SOURCE);
     cell(rt, name, 5)?;

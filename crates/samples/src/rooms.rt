@@ -2,19 +2,20 @@
 use crate::frames::{lan, start};
 use crate::show::{cell, text, verdict};
 use basics::kind::CircuitKind;
+use basics::refusal::Refusal;
 use gateway::calls::{receive, tick};
 use gateway::whole::GATEWAY_WORDS;
-use model::answers::Received;
+use model::answers::Orders;
 use settings::mode::Mode;
 use std::io;
 
-fn send(gateway: &mut [u64; GATEWAY_WORDS], router: u8, hold: u8) -> Received {
+fn send(gateway: &mut [u64; GATEWAY_WORDS], router: u8, hold: u8) -> Result<Orders, Refusal> {
     let mut reply = [0u8; 11];
     let frame = lan(router, hold);
     receive(gateway, 1, &[2, 0, 0, 0, 0, router], &frame, &mut reply)
 }
 
-fn row(rt: &impl Print, what: &str, r: Received) -> io::Result<()> {
+fn row(rt: &impl Print, what: &str, r: Result<Orders, Refusal>) -> io::Result<()> {
     cell(rt, "C12", 5)?;
     cell(rt, what, 43)?;
     verdict(rt, r)?;
@@ -25,13 +26,13 @@ fn row(rt: &impl Print, what: &str, r: Received) -> io::Result<()> {
 pub fn c12(rt: &impl Print) -> io::Result<()> {
     let mut gateway = [0u64; GATEWAY_WORDS];
     start(&mut gateway, CircuitKind::Lan, Mode::Running, 0, 10);
-    send(&mut gateway, 1, 10);
+    let _ = send(&mut gateway, 1, 10);
     let mut i = 2u8;
     while i < 17 {
-        send(&mut gateway, i, 30);
+        let _ = send(&mut gateway, i, 30);
         i += 1;
     }
     row(rt, "a 17th key", send(&mut gateway, 17, 30))?;
-    tick(&mut gateway, 10);
+    let _ = tick(&mut gateway, 10);
     row(rt, "again after one expired", send(&mut gateway, 17, 30))
 }

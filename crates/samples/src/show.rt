@@ -1,10 +1,8 @@
 // What is printed: cells of a width, and of an answer or a record its parts.
-use adjacency::duty::Csnps;
-use adjacency::marks::Acknowledgement;
 use adjacency::record::{Mark, State};
 use basics::levels::Levels;
 use basics::refusal::Refusal;
-use model::answers::{Looked, Metric, Orders, Received};
+use model::answers::{Found, Orders};
 use model::numbers::{number_of, position_of};
 use restart_tlv::writer::Ack;
 use std::io;
@@ -74,14 +72,11 @@ fn mark(rt: &impl Print, m: Mark) -> io::Result<()> {
 }
 
 // State, expiry and mark of a record.
-pub fn looked(rt: &impl Print, l: Looked) -> io::Result<()> {
+pub fn looked(rt: &impl Print, l: Result<Option<Found>, Refusal>) -> io::Result<()> {
     match l {
-        Looked::Refused(why) => refusal(rt, why),
-        Looked::Nothing => cell(rt, "none", 23),
-        Looked::Found {
-            state,
-            advertised: _,
-        } => match state {
+        Err(why) => refusal(rt, why),
+        Ok(None) => cell(rt, "none", 23),
+        Ok(Some(found)) => match found.state {
             State::Init(kept) => {
                 cell(rt, "INIT", 6)?;
                 number_cell(rt, kept.expiry, 8)?;
@@ -119,10 +114,10 @@ fn level_names(rt: &impl Print, l: Levels) -> io::Result<()> {
     cell(rt, "2", 6)
 }
 
-fn csnps(rt: &impl Print, c: Csnps) -> io::Result<()> {
+fn csnps(rt: &impl Print, c: Option<Levels>) -> io::Result<()> {
     match c {
-        Csnps::Nothing => cell(rt, "-", 6),
-        Csnps::Ordered(l) => level_names(rt, l),
+        None => cell(rt, "-", 6),
+        Some(l) => level_names(rt, l),
     }
 }
 
@@ -137,7 +132,7 @@ fn orders(rt: &impl Print, o: Orders, reply: &[u8]) -> io::Result<()> {
     let c = o.csnps;
     csnps(rt, c)?;
     let kind = o.reply;
-    let Acknowledgement::Send(a, time) = kind else {
+    let Some((a, time)) = kind else {
         return text(rt, "none");
     };
     ack_name(rt, a)?;
@@ -147,25 +142,25 @@ fn orders(rt: &impl Print, o: Orders, reply: &[u8]) -> io::Result<()> {
 }
 
 // Line 1's levels, the reply's kind and Remaining Time, and its octets.
-pub fn received(rt: &impl Print, r: Received, reply: &[u8]) -> io::Result<()> {
+pub fn received(rt: &impl Print, r: Result<Orders, Refusal>, reply: &[u8]) -> io::Result<()> {
     match r {
-        Received::Refused(why) => refusal(rt, why),
-        Received::Done(o) => orders(rt, o, reply),
+        Err(why) => refusal(rt, why),
+        Ok(o) => orders(rt, o, reply),
     }
 }
 
 // Only whether it was accepted.
-pub fn verdict(rt: &impl Print, r: Received) -> io::Result<()> {
+pub fn verdict(rt: &impl Print, r: Result<Orders, Refusal>) -> io::Result<()> {
     match r {
-        Received::Refused(why) => refusal(rt, why),
-        Received::Done(_) => text(rt, "accepted"),
+        Err(why) => refusal(rt, why),
+        Ok(_) => text(rt, "accepted"),
     }
 }
 
 // A link metric.
-pub fn metric(rt: &impl Print, m: Metric) -> io::Result<()> {
+pub fn metric(rt: &impl Print, m: Result<u32, Refusal>) -> io::Result<()> {
     match m {
-        Metric::Refused(why) => refusal(rt, why),
-        Metric::Link(n) => number(rt, n as u64),
+        Err(why) => refusal(rt, why),
+        Ok(n) => number(rt, n as u64),
     }
 }

@@ -3,6 +3,7 @@
 use crate::frames::{SOURCE, restart, start};
 use crate::show::{cell, number, text};
 use basics::kind::CircuitKind;
+use basics::refusal::Refusal;
 use gateway::calls::{receive, tick};
 use gateway::whole::GATEWAY_WORDS;
 use model::answers::Ticked;
@@ -27,14 +28,10 @@ fn orders_overload(outcome: TimerOutcome) -> bool {
     }
 }
 
-fn is_overload(t: Ticked) -> bool {
+fn is_overload(t: Result<Ticked, Refusal>) -> bool {
     match t {
-        Ticked::Refused(_) => false,
-        Ticked::Done {
-            lost: _,
-            hellos: _,
-            outcome,
-        } => orders_overload(outcome),
+        Err(_) => false,
+        Ok(done) => orders_overload(done.outcome),
     }
 }
 
@@ -55,8 +52,8 @@ fn deadline(gateway: &mut [u64; GATEWAY_WORDS], from: u32) -> u32 {
 fn acknowledge(gateway: &mut [u64; GATEWAY_WORDS], clock: u32, state: u8, time: u16) {
     let mut reply = [0u8; 11];
     let frame = restart(state, 9, 2, time);
-    tick(gateway, clock);
-    receive(gateway, 1, &SOURCE, &frame, &mut reply);
+    let _ = tick(gateway, clock);
+    let _ = receive(gateway, 1, &SOURCE, &frame, &mut reply);
 }
 
 // The first acknowledgements of the three.

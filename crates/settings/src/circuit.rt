@@ -23,13 +23,6 @@ pub struct Circuit {
     pub id: u32,
 }
 
-// The circuit of a number.
-#[derive(Clone, Copy)]
-pub enum Chosen {
-    Known(Circuit),
-    Unknown,
-}
-
 // Whether a number is in a range.
 pub fn is_between(low: u32, n: u32, high: u32) -> bool
     ensures { result ≡ between low n high }

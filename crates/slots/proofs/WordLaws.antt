@@ -5,16 +5,16 @@ use mathlib.Core.Path.{◌≡◌}
 use mathlib.Core.Bool.{Bool}
 use borrow.Author.Tests.{eq-eqb, ne_eqb}
 use Rattle.basics.proofs.BitLaws.{bit_le, bit-back}
-use Rattle.hello.specs.declared.reverse.ReverseMetric.{ReverseMetric}
-use Rattle.hello.specs.declared.reverse.ReverseMetric.TheVariants.{Absent, Present}
 use Rattle.adjacency.specs.declared.record.Mark.{Mark}
 use Rattle.adjacency.specs.declared.record.Mark.TheVariants.{Clear, Restart, Planned}
 use Rattle.adjacency.specs.declared.record.Data.{Data}
 use Rattle.basics.specs.Bits.{bit_of}
 use Rattle.slots.specs.Word.{reverse_at, data_at, mark_at, reverse_word, data_word, mark_word, FitReverse, FitData}
+use Rattle.std.specs.Prelude.{Option, Some, None}
+use Rattle.hello.specs.declared.reverse.ReverseMetric.{ReverseMetric}
 
 -- the digits of a word: x the tag and the mark, then the bits, the level, the priority and the reverse metric
-pub record Digits (x s t l p : ℕ) (v : ReverseMetric) (w : ℕ) : Type 0 where
+pub record Digits (x s t l p : ℕ) (v : Option ReverseMetric) (w : ℕ) : Type 0 where
   pub low : w % 16 ≡ x
   pub suppressed : w / 16 % 2 ≡ s
   pub tlv : w / 32 % 2 ≡ t
@@ -23,14 +23,14 @@ pub record Digits (x s t l p : ℕ) (v : ReverseMetric) (w : ℕ) : Type 0 where
   pub reverse : reverse_at w ≡ v
 
 present : (w o : ℕ) (a b : Bool) → w / 64 % 2 ≡ 1 → w / 4294967296 % 4294967296 ≡ o → w / 16777216 % 2 ≡ bit_of a
-    → w / 33554432 % 2 ≡ bit_of b → reverse_at w ≡ Present o a b
+    → w / 33554432 % 2 ≡ bit_of b → reverse_at w ≡ Some (record { offset = o; whole = a; unreachable = b })
 present w o a b h n x y = simp (eq-eqb _ _ h, n, bit-back (w / 16777216 % 2) a x, bit-back (w / 33554432 % 2) b y)
 
-absent : (w : ℕ) → w / 64 % 2 ≡ 0 → reverse_at w ≡ Absent
+absent : (w : ℕ) → w / 64 % 2 ≡ 0 → reverse_at w ≡ None
 absent w h = simp (ne_eqb (w / 64 % 2) 1 (λ (e : w / 64 % 2 ≡ 1). omega arith))
 
 -- the reverse metric's digits, a and b, stand apart from the others
-apart : (x s t l p a b w : ℕ) (v : ReverseMetric) → x < 16 → s ≤ 1 → t ≤ 1 → l < 256 → p < 256 → a ≤ 1
+apart : (x s t l p a b w : ℕ) (v : Option ReverseMetric) → x < 16 → s ≤ 1 → t ≤ 1 → l < 256 → p < 256 → a ≤ 1
     → w ≡ x + (64 * a + 16777216 * b + 32 * t + 65536 * p + 16 * s) + 256 * l → reverse_at w ≡ v → Digits x s t l p v w
 apart x s t l p a b w v hx hs ht hl hp ha e h =
     record {
@@ -42,15 +42,18 @@ apart x s t l p a b w v hx hs ht hl hp ha e h =
       reverse = h;
     }
 
-digits : (x s t l p : ℕ) (v : ReverseMetric) → x < 16 → s ≤ 1 → t ≤ 1 → l < 256 → p < 256 → FitReverse v
+digits : (x s t l p : ℕ) (v : Option ReverseMetric) → x < 16 → s ≤ 1 → t ≤ 1 → l < 256 → p < 256 → FitReverse v
     → Digits x s t l p v (x + (reverse_word v + 32 * t + 65536 * p + 16 * s) + 256 * l)
-digits x s t l p Absent hx hs ht hl hp f =
-    apart x s t l p 0 0 _ Absent hx hs ht hl hp (omega arith) (omega arith)
+digits x s t l p None hx hs ht hl hp f =
+    apart x s t l p 0 0 _ None hx hs ht hl hp (omega arith) (omega arith)
     (absent (x + (0 + 32 * t + 65536 * p + 16 * s) + 256 * l) (omega arith))
-digits x s t l p (Present o a b) hx hs ht hl hp f =
+digits x s t l p (Some r) hx hs ht hl hp f =
+    let a = r.whole in
+    let b = r.unreachable in
+    let o = r.offset in
     let ha : bit_of a ≤ 1 = bit_le a in
     let hb : bit_of b ≤ 1 = bit_le b in
-    apart x s t l p 1 (bit_of a + 2 * bit_of b + 256 * o) _ (Present o a b) hx hs ht hl hp (omega arith) (omega arith)
+    apart x s t l p 1 (bit_of a + 2 * bit_of b + 256 * o) _ (Some r) hx hs ht hl hp (omega arith) (omega arith)
     (present (x + (64 + 16777216 * bit_of a + 33554432 * bit_of b + 4294967296 * o + 32 * t + 65536 * p + 16 * s) + 256 * l) o a b
     (omega arith) (omega arith) (omega arith) (omega arith))
 

@@ -1,21 +1,21 @@
 -- The word of a record's small fields (house): what any word means, and the word that a state is stored as.
-use Rattle.std.specs.Prelude.{ℕ, ◌+◌, ◌*◌, ◌/◌, ◌%◌, ◌<◌, cond, eqb}
+use Rattle.std.specs.Prelude.{ℕ, ◌+◌, ◌*◌, ◌/◌, ◌%◌, ◌<◌, cond, eqb, Option, Some, None}
 use Rattle.basics.specs.Bits.{bit_of}
-use Rattle.hello.specs.declared.reverse.ReverseMetric.{ReverseMetric}
-use Rattle.hello.specs.declared.reverse.ReverseMetric.TheVariants.{Absent, Present}
 use Rattle.adjacency.specs.declared.record.Mark.{Mark}
 use Rattle.adjacency.specs.declared.record.Mark.TheVariants.{Clear, Restart, Planned}
 use Rattle.adjacency.specs.declared.record.Last.{Last}
 use Rattle.adjacency.specs.declared.record.Data.{Data}
 use Rattle.adjacency.specs.declared.record.State.{State}
 use Rattle.adjacency.specs.declared.record.State.TheVariants.{Init, Up}
+use Rattle.hello.specs.declared.reverse.ReverseMetric.{ReverseMetric}
 
 -- what a word means: any word does
 
-abbrev pub reverse_at : ℕ → ReverseMetric
+abbrev pub reverse_at : ℕ → Option ReverseMetric
 reverse_at w =
     cond (eqb (w / 64 % 2) 1)
-    (Present (w / 4294967296 % 4294967296) (eqb (w / 16777216 % 2) 1) (eqb (w / 33554432 % 2) 1)) Absent
+    (Some (record { offset = w / 4294967296 % 4294967296; whole = eqb (w / 16777216 % 2) 1; unreachable = eqb (w / 33554432 % 2) 1 }))
+    None
 
 abbrev pub last_at : ℕ → Last
 last_at w = record { priority = w / 65536 % 256; tlv = eqb (w / 32 % 2) 1; reverse = reverse_at w }
@@ -31,10 +31,9 @@ state_at expiry w = cond (eqb (w % 4) 1) (Init (data_at expiry w)) (Up (data_at 
 
 -- the word of a state
 
-abbrev pub reverse_word : ReverseMetric → ℕ
-reverse_word Absent = 0
-reverse_word (Present offset whole unreachable) =
-    64 + 16777216 * bit_of whole + 33554432 * bit_of unreachable + 4294967296 * offset
+abbrev pub reverse_word : Option ReverseMetric → ℕ
+reverse_word None = 0
+reverse_word (Some r) = 64 + 16777216 * bit_of r.whole + 33554432 * bit_of r.unreachable + 4294967296 * r.offset
 
 abbrev pub last_word : Last → ℕ
 last_word l = reverse_word l.reverse + 32 * bit_of l.tlv + 65536 * l.priority
@@ -53,9 +52,9 @@ state_word (Up d m) = 2 + mark_word m + data_word d
 
 -- the fields are as small as their types
 
-abbrev pub FitReverse : ReverseMetric → Type 0
-FitReverse Absent = Unit {0}
-FitReverse (Present offset whole unreachable) = offset < 4294967296
+abbrev pub FitReverse : Option ReverseMetric → Type 0
+FitReverse None = Unit {0}
+FitReverse (Some r) = r.offset < 4294967296
 
 abbrev pub FitLast : Last → Type 0
 FitLast l = (l.priority < 256) × FitReverse l.reverse

@@ -11,17 +11,17 @@ use adjacency::record::{Data, Last, Mark, State};
 use basics::bits::digit;
 use hello::reverse::ReverseMetric;
 
-fn reverse_at(w: u64) -> ReverseMetric
+fn reverse_at(w: u64) -> Option<ReverseMetric>
     ensures { result ≡ reverse_at w }
 {
     if w / 64 % 2 == 1 {
-        return ReverseMetric::Present {
+        return Some(ReverseMetric {
             offset: (w / 4294967296 % 4294967296) as u32,
             whole: w / 16777216 % 2 == 1,
             unreachable: w / 33554432 % 2 == 1,
-        };
+        });
     }
-    ReverseMetric::Absent
+    None
 }
 
 fn last_at(w: u64) -> Last
@@ -62,21 +62,17 @@ pub fn mark_at(w: u64) -> Mark
 }
 
 // Each packing function also says that its argument fits the bits it is given, and bounds the word.
-fn reverse_word(reverse: ReverseMetric) -> u64
+fn reverse_word(reverse: Option<ReverseMetric>) -> u64
     ensures value { result ≡ reverse_word reverse }
     ensures fit_reverse { FitReverse reverse }
     ensures upper_bound { result ≤ 64 + 16777216 + 33554432 + 4294967296 * 4294967295 }
 {
     match reverse {
-        ReverseMetric::Absent => 0,
-        ReverseMetric::Present {
-            offset,
-            whole,
-            unreachable,
-        } => 64
-            + 16777216 * digit(whole)
-            + 33554432 * digit(unreachable)
-            + 4294967296 * (offset as u64),
+        None => 0,
+        Some(asked) => 64
+            + 16777216 * digit(asked.whole)
+            + 33554432 * digit(asked.unreachable)
+            + 4294967296 * (asked.offset as u64),
     }
 }
 

@@ -8,7 +8,6 @@ use Rattle.restart_tlv.specs.declared.reader.RestartTlv.{RestartTlv}
 use Rattle.restart_tlv.specs.declared.reader.RestartTlv.TheVariants.{Absent, Ignored}
 use Rattle.hello.specs.declared.read.Link.{Link}
 use Rattle.hello.specs.declared.read.Link.TheVariants.{Lan, P2p}
-use Rattle.hello.specs.declared.reverse.ReverseMetric.TheVariants.{Absent as NoMetric}
 use Rattle.hello.specs.declared.three_way.ThreeWayState.TheVariants.{Up}
 use Rattle.hello.specs.declared.three_way.Identifiers.TheVariants.{Whole}
 use Rattle.settings.specs.declared.mode.Mode.TheVariants.{Starting}
@@ -21,6 +20,7 @@ use Rattle.timer_parts.specs.declared.t1.Freed.TheVariants.{Kept, Stopped, Reini
 use Rattle.timer_parts.specs.declared.t1.T1.{T1}
 use Rattle.timer_parts.specs.declared.t3.T3.{T3}
 use Rattle.timer_parts.specs.declared.t3.T3.TheVariants.{Runs}
+use Rattle.std.specs.Prelude.{None}
 
 abbrev at5 : T3
 at5 = heard_t3 5 (Acknowledged true 40) (Runs 65535)
@@ -79,7 +79,7 @@ abbrev lan : Link
 lan = Lan 1 64 true
 
 abbrev heard : RestartTlv → Link → Heard
-heard r l = heard_of 0x192168001001 1 (record { system = 0x192168001002; hold = 27; restart = r; reverse = NoMetric; link = l })
+heard r l = heard_of 0x192168001001 1 (record { system = 0x192168001002; hold = 27; restart = r; reverse = None; link = l })
 
 -- On P2P no TLV stops T1 at once, and says whether to reinitialise; it is no acknowledgement and leaves T3. On a LAN it stops nothing, and an ignored TLV
 -- on neither.

@@ -1,10 +1,8 @@
 -- What an accepted hello says to the timers of a router that restarts or starts (document 01, "Timers while Restarting"; RFC 8706, 3.3.1 and 3.3.2).
-use Rattle.std.specs.Prelude.{ℕ, Bool, true, false, cond, ◌&&◌, eqb}
+use Rattle.std.specs.Prelude.{ℕ, Bool, true, false, cond, ◌&&◌, eqb, Option, Some, None}
 use Rattle.basics.specs.Octets.{has_bits}
 use Rattle.restart_tlv.specs.Flags.{RA}
 use Rattle.restart_tlv.specs.declared.flags.Flags.{Flags}
-use Rattle.restart_tlv.specs.declared.reader.Neighbor.{Neighbor}
-use Rattle.restart_tlv.specs.declared.reader.Neighbor.TheVariants.{Unnamed, Named}
 use Rattle.restart_tlv.specs.declared.reader.RestartTlv.{RestartTlv}
 use Rattle.restart_tlv.specs.declared.reader.RestartTlv.TheVariants.{Absent, Ignored, Present}
 use Rattle.hello.specs.declared.three_way.ThreeWayState.{ThreeWayState}
@@ -28,20 +26,20 @@ shows_up (Lan level priority listed) = listed
 shows_up (P2p said) = says_up said.state
 
 -- the Restarting Neighbor System ID is ours
-abbrev pub names_system : ℕ → Neighbor → Bool
-names_system system Unnamed = false
-names_system system (Named named) = eqb named system
+abbrev pub names_system : ℕ → Option ℕ → Bool
+names_system system None = false
+names_system system (Some named) = eqb named system
 
 -- ".. on a LAN only if it names us": on P2P whoever it names
-abbrev pub addressed : ℕ → Link → Neighbor → Bool
+abbrev pub addressed : ℕ → Link → Option ℕ → Bool
 addressed system (Lan level priority listed) neighbor = names_system system neighbor
 addressed system (P2p said) neighbor = true
 
 -- "An acknowledgement is RA ..": of the flags that count
-unfoldable pub acknowledges : ℕ → Link → Flags → Neighbor → Bool
+unfoldable pub acknowledges : ℕ → Link → Flags → Option ℕ → Bool
 acknowledges system link flags neighbor = has_bits flags.bits RA && addressed system link neighbor
 
-unfoldable pub heard_tlv : ℕ → Link → Flags → ℕ → Neighbor → Heard
+unfoldable pub heard_tlv : ℕ → Link → Flags → ℕ → Option ℕ → Heard
 heard_tlv system link flags time neighbor = cond (acknowledges system link flags neighbor) (Acknowledged (shows_up link) time) Plain
 
 -- the Neighbor Extended Circuit ID is present and our own

@@ -1,9 +1,7 @@
 -- The T2 of each level (document 01, "Timers while Restarting"; RFC 8706, 3.1).
-use Rattle.std.specs.Prelude.{ℕ, Bool, true, false, cond, not, ◌&&◌, ◌||◌, leb, ltb}
+use Rattle.std.specs.Prelude.{ℕ, Bool, true, false, cond, not, ◌&&◌, ◌||◌, leb, ltb, Option, Some, None}
 use Rattle.basics.specs.declared.levels.Levels.{Levels}
 use Rattle.basics.specs.Levels.{Level, First, Second, is_on, levels_with, some_level}
-use Rattle.timer_parts.specs.declared.t2.Timer.{Timer}
-use Rattle.timer_parts.specs.declared.t2.Timer.TheVariants.{Stopped, Until}
 use Rattle.timer_parts.specs.declared.t2.T2.{T2}
 use Rattle.timer_parts.specs.declared.t2.T2s.{T2s}
 
@@ -16,20 +14,20 @@ abbrev pub t2s_of : (Level → T2) → T2s
 t2s_of f = record { one = f First; two = f Second }
 
 -- an enabled level's T2 runs from setup on
-unfoldable pub start_timer : Bool → ℕ → Timer
-start_timer on at = cond on (Until at) Stopped
+unfoldable pub start_timer : Bool → ℕ → Option ℕ
+start_timer on at = cond on (Some at) None
 
 unfoldable pub start_t2s : Levels → ℕ → T2s
 start_t2s l at = t2s_of (λ k. record { timer = start_timer (is_on k l) at; noticed = false })
 
 -- it runs; it runs with a deadline after `at`
-abbrev pub timer_runs : Timer → Bool
-timer_runs Stopped = false
-timer_runs (Until deadline) = true
+abbrev pub timer_runs : Option ℕ → Bool
+timer_runs None = false
+timer_runs (Some deadline) = true
 
-abbrev pub timer_after : ℕ → Timer → Bool
-timer_after at Stopped = false
-timer_after at (Until deadline) = ltb at deadline
+abbrev pub timer_after : ℕ → Option ℕ → Bool
+timer_after at None = false
+timer_after at (Some deadline) = ltb at deadline
 
 abbrev pub t2_runs : T2 → Bool
 t2_runs t = timer_runs t.timer
@@ -46,16 +44,16 @@ any_after at t = some_level (λ k. t2_after at (t2_at k t))
 
 -- "T2 of a level is cancelled when its database notice came and no T1 runs ..": wait says that one does for which it waits
 unfoldable pub cancel_t2 : Bool → T2 → T2
-cancel_t2 wait t = cond wait t (cond t.noticed (record { timer = Stopped; noticed = t.noticed }) t)
+cancel_t2 wait t = cond wait t (cond t.noticed (record { timer = None; noticed = t.noticed }) t)
 
 -- where the levels of waits wait for a T1
 unfoldable pub cancel_both : Levels → T2s → T2s
 cancel_both waits t = t2s_of (λ k. cancel_t2 (is_on k waits) (t2_at k t))
 
 -- ".. and expires at its deadline .."
-abbrev pub expire_timer : ℕ → Timer → Timer
-expire_timer clock Stopped = Stopped
-expire_timer clock (Until deadline) = cond (leb deadline clock) Stopped (Until deadline)
+abbrev pub expire_timer : ℕ → Option ℕ → Option ℕ
+expire_timer clock None = None
+expire_timer clock (Some deadline) = cond (leb deadline clock) None (Some deadline)
 
 unfoldable pub expire_t2 : ℕ → T2 → T2
 expire_t2 clock t = record { timer = expire_timer clock t.timer; noticed = t.noticed }

@@ -5,7 +5,7 @@ ghost use Rattle.timer_parts.specs.Heard.{says_up, names_circuit, names_system, 
 use hello::read::{Hello, Link};
 use hello::three_way::{Identifiers, ThreeWayState};
 use restart_tlv::flags::Flags;
-use restart_tlv::reader::{Neighbor, RestartTlv};
+use restart_tlv::reader::RestartTlv;
 
 // WithoutTlv: a P2P hello with no Restart TLV; true where it shows us Up with our own extended circuit ID. Acknowledged: whether it
 // shows us Up, and its Remaining Time. Plain: any other.
@@ -37,12 +37,12 @@ fn names_circuit(ids: Identifiers, circuit: u32) -> bool
     }
 }
 
-fn names_system(neighbor: Neighbor, system: u64) -> bool
+fn names_system(neighbor: Option<u64>, system: u64) -> bool
     ensures { result ≡ names_system system neighbor }
 {
     match neighbor {
-        Neighbor::Unnamed => false,
-        Neighbor::Named(named) => named == system,
+        None => false,
+        Some(named) => named == system,
     }
 }
 
@@ -62,7 +62,7 @@ fn shows_up(link: Link) -> bool
     }
 }
 
-fn is_addressed(link: Link, neighbor: Neighbor, system: u64) -> bool
+fn is_addressed(link: Link, neighbor: Option<u64>, system: u64) -> bool
     ensures { result ≡ addressed system link neighbor }
 {
     match link {
@@ -75,7 +75,7 @@ fn is_addressed(link: Link, neighbor: Neighbor, system: u64) -> bool
     }
 }
 
-fn is_acknowledgement(link: Link, flags: Flags, neighbor: Neighbor, system: u64) -> bool
+fn is_acknowledgement(link: Link, flags: Flags, neighbor: Option<u64>, system: u64) -> bool
     ensures { result ≡ acknowledges system link flags neighbor }
 {
     if flags.has(Flags::RA) {
@@ -98,7 +98,7 @@ fn hear_without_tlv(link: Link, circuit: u32) -> Heard
     Heard::WithoutTlv(false)
 }
 
-fn hear_tlv(link: Link, flags: Flags, time: u16, neighbor: Neighbor, system: u64) -> Heard
+fn hear_tlv(link: Link, flags: Flags, time: u16, neighbor: Option<u64>, system: u64) -> Heard
     ensures { result ≡ heard_tlv system link flags time neighbor }
 {
     if is_acknowledgement(link, flags, neighbor, system) {

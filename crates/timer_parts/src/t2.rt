@@ -4,16 +4,10 @@ ghost use Rattle.timer_parts.specs.T2.{start_timer, start_t2s, t2_runs, expire_t
 
 use basics::levels::Levels;
 
-#[derive(Clone, Copy)]
-pub enum Timer {
-    Stopped,
-    Until(u64),
-}
-
 // The timer, and whether its level's database notice came.
 #[derive(Clone, Copy)]
 pub struct T2 {
-    pub timer: Timer,
+    pub timer: Option<u64>,
     pub noticed: bool,
 }
 
@@ -24,10 +18,10 @@ pub struct T2s {
     pub two: T2,
 }
 
-fn start_timer(on: bool, at: u64) -> Timer
+fn start_timer(on: bool, at: u64) -> Option<u64>
     ensures { result ≡ start_timer on at }
 {
-    if on { Timer::Until(at) } else { Timer::Stopped }
+    if on { Some(at) } else { None }
 }
 
 // The T2 of each of the levels `l` runs, with the deadline `at`.
@@ -53,8 +47,8 @@ fn t2_runs(t: T2) -> bool
 {
     let k = t.timer;
     match k {
-        Timer::Stopped => false,
-        Timer::Until(_) => true,
+        None => false,
+        Some(_) => true,
     }
 }
 
@@ -63,22 +57,18 @@ fn t2_after(at: u64, t: T2) -> bool
 {
     let k = t.timer;
     match k {
-        Timer::Stopped => false,
-        Timer::Until(deadline) => at < deadline,
+        None => false,
+        Some(deadline) => at < deadline,
     }
 }
 
-fn expire_timer(clock: u32, k: Timer) -> Timer
+fn expire_timer(clock: u32, k: Option<u64>) -> Option<u64>
     ensures { result ≡ expire_timer clock k }
 {
-    let Timer::Until(deadline) = k else {
+    let Some(deadline) = k else {
         return k;
     };
-    if deadline <= clock as u64 {
-        Timer::Stopped
-    } else {
-        k
-    }
+    if deadline <= clock as u64 { None } else { k }
 }
 
 fn expire_t2(clock: u32, t: T2) -> T2
@@ -99,7 +89,7 @@ fn cancel_t2(wait: bool, t: T2) -> T2
     }
     if noticed {
         return T2 {
-            timer: Timer::Stopped,
+            timer: None,
             noticed,
         };
     }

@@ -5,7 +5,6 @@ use mathlib.Core.Bool.{Bool, true, false}
 use Prim.Native.Nat.{ℕ}
 use Rattle.basics.specs.declared.levels.Levels.{Levels}
 use Rattle.basics.specs.Mask.{bits_of, any_true, any_shared, count_true, first_pair}
-use Rattle.basics.specs.declared.places.Lowest.TheVariants.{Circuit}
 use Rattle.timer_parts.specs.T1.{start_entry, begins, begin, begun_by, freed_by, stop_t1, due, hello_due, again, tick_t1, done, satisfied, acknowledged, noted, heard_t1}
 use Rattle.timer_parts.specs.T2.{t2_runs, spf_due, start_timer, start_t2s, any_t2, any_after, cancel_t2, cancel_both, expire_t2, expire_both, notice_t2, notice_both}
 use Rattle.timer_parts.specs.T3.{lower_t3, heard_t3, expires_t3, expired_t3}
@@ -25,6 +24,7 @@ use Rattle.timers.specs.Timers.{Timers, with_t1s, with_t2s, with_t3, count_runs,
 use Rattle.timers.specs.Hellos.{no_hellos, ordering, begin_hello}
 use Rattle.timers.specs.Outcome.{overload_of, overload_due, outcome_with, outcome_of, ordered, tick_hellos, overloaded, freed_with, heard_orders}
 use Rattle.timers.specs.Events.{head_by, start_t1, start_hellos, started}
+use Rattle.std.specs.Prelude.{Some}
 
 abbrev lengths : Lengths
 lengths = record { t1 = 60; t2 = 60; tries = 3 }
@@ -95,7 +95,7 @@ of_level1 =
     (started (record { mode = Restarting; lengths = lengths; clock = 0; serving = record { one = 1; two = 2 }; levels = record { one = true; two = true } })))
 
 -- level 2's T2 waits for its own T1; level 1's is cancelled though that T1 runs
-pub levels : (count_runs of_level1.t1s ≡ 1) × (lowest_runs of_level1.t1s ≡ Circuit 1) × (t2_runs (database_noticed second of_level1).t2s.two ≡ true)
+pub levels : (count_runs of_level1.t1s ≡ 1) × (lowest_runs of_level1.t1s ≡ Some 1) × (t2_runs (database_noticed second of_level1).t2s.two ≡ true)
     × (t2_runs (database_noticed first of_level1).t2s.one ≡ false)
 unfolding any_shared count_true first_pair bits_of served_at start_entry begins begin begun_by stop_t1 due hello_due again tick_t1 done satisfied acknowledged noted heard_t1 start_timer start_t2s any_t2 any_after cancel_t2 cancel_both notice_t2 notice_both lower_t3 heard_t3 with_t1s with_t2s with_t3 count_runs lowest_runs no_t1 at_t1 waits cancel_t2s over finish closed settled heard_in csnp_in notice_t2s head_by start_t1 start_hellos started
 levels = (refl, refl, refl, refl)

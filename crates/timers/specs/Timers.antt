@@ -1,7 +1,7 @@
 -- All timers of a gateway that restarts or starts, and what each call does to them (document 01, "Timers while Restarting"; document 02,
 -- W-201 and W-202; RFC 8706, 3.1 and 3.3). A step is a function from Timers to Timers; what a call orders is read off the timers before and after
 -- (Outcome). i is the place of a T1.
-use Rattle.std.specs.Prelude.{ℕ, ◌+◌, Bool, false, cond, ◌&&◌, List, map, get_or, set}
+use Rattle.std.specs.Prelude.{ℕ, ◌+◌, Bool, false, cond, ◌&&◌, List, map, get_or, set, Option}
 use Rattle.settings.specs.Mode.{is_running, is_starting}
 use Rattle.basics.specs.declared.levels.Levels.{Levels}
 use Rattle.basics.specs.Levels.{Level, levels_with}
@@ -9,7 +9,6 @@ use Rattle.timer_parts.specs.T1.{start_entry, begun_by, stop_t1, tick_t1, satisf
 use Rattle.timer_parts.specs.T2.{any_t2, expire_both, cancel_both, notice_both}
 use Rattle.timer_parts.specs.T3.{expires_t3, heard_t3}
 use Rattle.basics.specs.Mask.{place_bits, any_true, any_shared, count_true, first_pair}
-use Rattle.basics.specs.declared.places.Lowest.{Lowest}
 use Rattle.settings.specs.Serving.{serves_of, served_at}
 use Rattle.settings.specs.declared.serving.Serving.{Serving}
 use Rattle.timer_parts.specs.declared.heard.Heard.{Heard}
@@ -52,7 +51,7 @@ any_runs ts = any_true (runs_of ts)
 unfoldable pub count_runs : List T1 → ℕ
 count_runs ts = count_true (runs_of ts)
 
-unfoldable pub lowest_runs : List T1 → Lowest
+unfoldable pub lowest_runs : List T1 → Option ℕ
 lowest_runs ts = first_pair (runs_of ts) 1
 
 -- what stands past the list's end

@@ -8,7 +8,7 @@ ghost use Rattle.timers.specs.Timers.{with_t1s, with_t2s, with_t3, waits, expire
 ghost use Rattle.timers.specs.Memory.{joined, timers_of, t1_bits};
 
 use basics::levels::Levels;
-use basics::places::{Lowest, count_places, lowest_circuit, share_place};
+use basics::places::{count_places, lowest_circuit, share_place};
 use settings::mode::Mode;
 use settings::serving::Serving;
 use timer_parts::t2::{T2s, any_t2, cancel_both, expire_both, notice_both};
@@ -146,7 +146,7 @@ pub fn count_waiting(h: Head) -> u32
 }
 
 // The lowest circuit with one, by its number from 1.
-pub fn lowest_waiting(h: Head) -> Lowest
+pub fn lowest_waiting(h: Head) -> Option<u8>
     ensures { (v : Serving) (e : ℕ → Entry) → result ≡ lowest_runs (timers_of v h e).t1s }
 {
     lowest_circuit(h.mask)

@@ -10,11 +10,9 @@ use lib.Dec.{leb, ltb, eqb}
 use borrow.Author.Tests.{le-leb, lt-leb, lt-ltb, le-ltb, ltb-true, eq-eqb, ne_eqb}
 use Rattle.basics.specs.Octets.{octet}
 use Rattle.basics.proofs.BoolLaws.{by-test}
-use Rattle.tlv.specs.Tlv.{Tlvs, done, cut, one, tlvs_up, tlvs, next_at, value_at, cut_at, counts_of, walk_as, walk_of, of_type, Tlv, first_at, first_value, several, FoundAt, Finds, lone_fault, is_found, unless}
+use Rattle.tlv.specs.Tlv.{Tlvs, done, cut, one, tlvs_up, tlvs, next_at, value_at, cut_at, counts_of, walk_as, walk_of, of_type, Tlv, first_at, first_value, several, FoundAt, Finds, lone_fault, is_found, unless, broken_rule}
 use Rattle.tlv.specs.declared.tlvs.Counts.{Counts}
-use Rattle.tlv.specs.declared.tlvs.Walk.TheVariants.{Whole, Cut}
-use Rattle.tlv.specs.declared.tlvs.Found.{Found}
-use Rattle.tlv.specs.declared.tlvs.Found.TheVariants.{At, Nothing}
+use Rattle.std.specs.Prelude.{Option, Some, None, Ok, Err}
 
 -- two choices are equal where they are so when the test passes
 same_then : (b : Bool) (x y z : Tlvs) → (b ≡ true → x ≡ y) → cond b x z ≡ cond b y z
@@ -36,7 +34,7 @@ at-end : (s : List ℕ) (at : ℕ) → length s ≤ at → tlvs s at ≡ done
 unfolding tlvs tlvs_up
 at-end s at q = enough (length s - at) zero s at (omega arith) (omega arith)
 
-pub cut-end : (s : List ℕ) (at : ℕ) → length s ≤ at → cut_at (tlvs s at) ≡ Nothing
+pub cut-end : (s : List ℕ) (at : ℕ) → length s ≤ at → cut_at (tlvs s at) ≡ None
 unfolding cut_at
 cut-end s at q = ap cut_at (at-end s at q)
 
@@ -63,7 +61,7 @@ module _ (s : List ℕ) (at : ℕ) (l : at < length s) where
     unfolding tlvs_up
     at_cut = step ∙ simp (lt-ltb at (length s) l, lt-leb (next_at s at) (length s) q)
 
-    pub cut-here : cut_at (tlvs s at) ≡ At at
+    pub cut-here : cut_at (tlvs s at) ≡ Some at
     unfolding cut_at
     cut-here = ap cut_at at_cut
 
@@ -138,9 +136,9 @@ module _ {s : List ℕ} {from k p : ℕ} {v : List ℕ} (f : FoundAt s from k p)
   turn-list = rw (f.same, f.here, value-ends, e)
 
 -- what a search found is the first
-pub is-first : (s : List ℕ) (from k : ℕ) (r : Found) → Finds s from k r → r ≡ first_at (of_type k (tlvs s from))
-is-first s from k Nothing f = rw f
-is-first s from k (At p) f = rw (f.same, f.here)
+pub is-first : (s : List ℕ) (from k : ℕ) (r : Option ℕ) → Finds s from k r → r ≡ first_at (of_type k (tlvs s from))
+is-first s from k None f = rw f
+is-first s from k (Some p) f = rw (f.same, f.here)
 
 -- what one search, and the next one after it, tell
 several-by : (t : Tlv) (ts : List Tlv) → several (t ∷ ts) ≡ is_found (first_at ts)
@@ -158,11 +156,11 @@ module _ (s : List ℕ) (from k p : ℕ) (f : FoundAt s from k p) where
   pub found-list : of_type k (tlvs s from) ≡ record { at = p; value = value_at s p } ∷ of_type k (tlvs s (next_at s p))
   found-list = f.same ∙ f.here
 
-  pub repeats : (r : Found) → r ≡ first_at (of_type k (tlvs s (next_at s p))) → several (of_type k (tlvs s from)) ≡ is_found r
+  pub repeats : (r : Option ℕ) → r ≡ first_at (of_type k (tlvs s (next_at s p))) → several (of_type k (tlvs s from)) ≡ is_found r
   repeats r e = ap several found-list ∙ several-by (record { at = p; value = value_at s p }) (of_type k (tlvs s (next_at s p))) ∙ ap is_found (sym e)
 
   module _ (rule : List ℕ → Bool) where
-    pub lone-first : rule (value_at s p) ≡ true → lone_fault rule (of_type k (tlvs s from)) ≡ At p
+    pub lone-first : rule (value_at s p) ≡ true → lone_fault rule (of_type k (tlvs s from)) ≡ Some p
     unfolding lone_fault
     lone-first e = rw (found-list, e)
 
@@ -170,16 +168,16 @@ module _ (s : List ℕ) (from k p : ℕ) (f : FoundAt s from k p) where
     unfolding lone_fault
     lone-second e = ap (lone_fault rule) found-list ∙ lone-next rule (record { at = p; value = value_at s p }) (of_type k (tlvs s (next_at s p))) e
 
-pub lone-none : (rule : List ℕ → Bool) (ts : List Tlv) → ts ≡ [] → lone_fault rule ts ≡ Nothing
+pub lone-none : (rule : List ℕ → Bool) (ts : List Tlv) → ts ≡ [] → lone_fault rule ts ≡ None
 unfolding lone_fault
 lone-none rule ts e = rw e
 
 -- ---- places
 
 -- a place that was found is no further than n
-pub data Within (n : ℕ) : Found → Type 0 where
-  nowhere : Within n Nothing
-  place : {p : ℕ} → p ≤ n → Within n (At p)
+pub data Within (n : ℕ) : Option ℕ → Type 0 where
+  nowhere : Within n None
+  place : {p : ℕ} → p ≤ n → Within n (Some p)
 
 -- each of some TLVs stands before n
 pub data Standing (n : ℕ) : List Tlv → Type 0 where
@@ -228,9 +226,9 @@ lone-within n rule [] no_more = nowhere
 lone-within n rule (t ∷ ts) (stands l h) =
     by-test (rule t.value) (λ e. rw e (place {p = t.at} (omega arith))) (λ e. rw e (first-within n ts h))
 
-pub is_within : (n : ℕ) (f : Found) (q : ℕ) → Within n f → f ≡ At q → q ≤ n
-is_within n Nothing q nowhere e = absurd (let z : ◌≡◌ {A = ℕ} 0 1 = cc in omega arith)
-is_within n (At p) q (place l) e = let z : p ≡ q = cc in rw (← z) l
+pub is_within : (n : ℕ) (f : Option ℕ) (q : ℕ) → Within n f → f ≡ Some q → q ≤ n
+is_within n None q nowhere e = absurd (let z : ◌≡◌ {A = ℕ} 0 1 = cc in omega arith)
+is_within n (Some p) q (place l) e = let z : p ≡ q = cc in rw (← z) l
 
 -- what is read of a type goes by how many there are: none, one or more
 abbrev pub by_count : {A : Type 0} → ℕ → A → A → A → A
@@ -245,12 +243,12 @@ by_count-more (suc (suc n)) x y z p q = refl
 
 module _ {A : Type 0} (good bad : A) where
   -- the rule of a TLV that came alone
-  pub unless-bad : (b : Bool) (p : ℕ) → unless (cond b (At p) Nothing) good bad ≡ cond b bad good
+  pub unless-bad : (b : Bool) (p : ℕ) → unless (cond b (Some p) None) good bad ≡ cond b bad good
   unfolding unless
   unless-bad true p = refl
   unless-bad false p = refl
 
-  unless-either : (b : Bool) (p q : ℕ) → unless (cond b (At p) (At q)) good bad ≡ bad
+  unless-either : (b : Bool) (p q : ℕ) → unless (cond b (Some p) (Some q)) good bad ≡ bad
   unfolding unless
   unless-either true p q = refl
   unless-either false p q = refl
@@ -264,51 +262,51 @@ module _ {A : Type 0} (good bad : A) where
   lone-read rule (t ∷ u ∷ ts) = unless-either (rule t.value) t.at u.at
 
 -- where it is known whether a rule is broken
-pub unless-found : {A : Type 0} (f : Found) (x y : A) → is_found f ≡ true → unless f x y ≡ y
+pub unless-found : {A : Type 0} (f : Option ℕ) (x y : A) → is_found f ≡ true → unless f x y ≡ y
 unfolding unless is_found
-unless-found Nothing x y e = absurd (true≢false (sym e))
-unless-found (At p) x y e = refl
+unless-found None x y e = absurd (true≢false (sym e))
+unless-found (Some p) x y e = refl
 
-pub unless-none : {A : Type 0} (f : Found) (x y : A) → is_found f ≡ false → unless f x y ≡ x
+pub unless-none : {A : Type 0} (f : Option ℕ) (x y : A) → is_found f ≡ false → unless f x y ≡ x
 unfolding unless is_found
-unless-none Nothing x y e = refl
-unless-none (At p) x y e = absurd (true≢false e)
+unless-none None x y e = refl
+unless-none (Some p) x y e = absurd (true≢false e)
 
--- a reading taken apart, whatever its type: it is bad where a rule is broken, and otherwise it holds what was read
-module _ {A B : Type 0} (good : B → A) (bad : A) (differ : (b : B) → good b ≡ bad → ⊥) (same : (a b : B) → good a ≡ good b → a ≡ b) where
-  pub unless-is-bad : (f : Found) (a : B) → unless f (good a) bad ≡ bad → is_found f ≡ true
+-- a reading taken apart, whatever its type: it is an error where a rule is broken, and otherwise it holds what was read
+module _ {A : Type 0} where
+  pub unless-is-bad : (f : Option ℕ) (a : A) → unless f (Ok a) (Err broken_rule) ≡ Err broken_rule → is_found f ≡ true
   unfolding unless is_found
-  unless-is-bad Nothing a e = absurd (differ a e)
-  unless-is-bad (At p) a e = refl
+  unless-is-bad None a e = let z : ◌≡◌ {A = ℕ} 0 1 = cc in absurd (omega arith)
+  unless-is-bad (Some p) a e = refl
 
-  pub unless-is-good : (f : Found) (a b : B) → unless f (good a) bad ≡ good b → (is_found f ≡ false) × (b ≡ a)
+  pub unless-is-good : (f : Option ℕ) (a b : A) → unless f (Ok a) (Err broken_rule) ≡ Ok b → (is_found f ≡ false) × (b ≡ a)
   unfolding unless is_found
-  unless-is-good Nothing a b e = (refl, sym (same a b e))
-  unless-is-good (At p) a b e = absurd (differ b (sym e))
+  unless-is-good None a b e = (refl, cc)
+  unless-is-good (Some p) a b e = let z : ◌≡◌ {A = ℕ} 0 1 = cc in absurd (omega arith)
 
 -- what the walk answers
-pub walk-cut : (t : Tlvs) (p : ℕ) → cut_at t ≡ At p → Cut p ≡ walk_of t
+pub walk-cut : (t : Tlvs) (p : ℕ) → cut_at t ≡ Some p → Err p ≡ walk_of t
 unfolding walk_of
 walk-cut t p e = rw e
 
-pub walk-whole : (t : Tlvs) (n : Counts) → cut_at t ≡ Nothing → n ≡ counts_of t → Whole n ≡ walk_of t
+pub walk-whole : (t : Tlvs) (n : Counts) → cut_at t ≡ None → n ≡ counts_of t → Ok n ≡ walk_of t
 unfolding walk_of
 walk-whole t n e q = rw (e, q)
 
-walk-as-cut : (f : Found) (n : Counts) (q : ℕ) → walk_as f n ≡ Cut q → f ≡ At q
-walk-as-cut Nothing n q e = let z : ◌≡◌ {A = ℕ} 0 1 = cc in absurd (omega arith)
-walk-as-cut (At p) n q e = cc
+walk-as-cut : (f : Option ℕ) (n : Counts) (q : ℕ) → walk_as f n ≡ Err q → f ≡ Some q
+walk-as-cut None n q e = let z : ◌≡◌ {A = ℕ} 0 1 = cc in absurd (omega arith)
+walk-as-cut (Some p) n q e = cc
 
-pub walk-is-cut : (t : Tlvs) (q : ℕ) → walk_of t ≡ Cut q → cut_at t ≡ At q
+pub walk-is-cut : (t : Tlvs) (q : ℕ) → walk_of t ≡ Err q → cut_at t ≡ Some q
 unfolding walk_of
 walk-is-cut t q e = walk-as-cut (cut_at t) (counts_of t) q e
 
-walk-as-whole : (f : Found) (m n : Counts) → walk_as f m ≡ Whole n → (is_found f ≡ false) × (n ≡ m)
+walk-as-whole : (f : Option ℕ) (m n : Counts) → walk_as f m ≡ Ok n → (is_found f ≡ false) × (n ≡ m)
 unfolding is_found
-walk-as-whole Nothing m n e = (refl, cc)
-walk-as-whole (At p) m n e = let z : ◌≡◌ {A = ℕ} 0 1 = cc in absurd (omega arith)
+walk-as-whole None m n e = (refl, cc)
+walk-as-whole (Some p) m n e = let z : ◌≡◌ {A = ℕ} 0 1 = cc in absurd (omega arith)
 
-pub walk-is-whole : (t : Tlvs) (n : Counts) → walk_of t ≡ Whole n → (is_found (cut_at t) ≡ false) × (n ≡ counts_of t)
+pub walk-is-whole : (t : Tlvs) (n : Counts) → walk_of t ≡ Ok n → (is_found (cut_at t) ≡ false) × (n ≡ counts_of t)
 unfolding walk_of
 walk-is-whole t n e = walk-as-whole (cut_at t) (counts_of t) n e
 

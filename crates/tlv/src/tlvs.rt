@@ -5,13 +5,6 @@ ghost use Rattle.tlv.specs.Tlv.{tlvs, walk_of, of_type, first_at, first_value, v
 
 use basics::octets::wide;
 
-// Where a TLV's type octet stands.
-#[derive(Clone, Copy)]
-pub enum Found {
-    At(usize),
-    Nothing,
-}
-
 // The types that a hello's reader looks for.
 pub const IS_NEIGHBOURS: u8 = 6;
 
@@ -30,15 +23,12 @@ pub struct Counts {
     pub threeway: usize,
 }
 
-// Whether each TLV ends by the end of the PDU; if not, the first that passes it.
+// A TLV breaks the rule of its type.
 #[derive(Clone, Copy)]
-pub enum Walk {
-    Whole(Counts),
-    Cut(usize),
-}
+pub struct BrokenRule;
 
 // The walk that decides refusal 5. It keeps no place of a TLV: each is looked for afresh.
-pub fn walked(pdu: &[u8], from: usize) -> Walk
+pub fn walked(pdu: &[u8], from: usize) -> Result<Counts, usize>
     ensures { result ≡ walk_of (tlvs pdu.now from) }
 {
     let mut neighbours = 0;
@@ -49,11 +39,11 @@ pub fn walked(pdu: &[u8], from: usize) -> Walk
     while at < pdu.len() {
         let left = pdu.len() - at;
         if left < 2 {
-            return Walk::Cut(at);
+            return Err(at);
         }
         let value = wide(pdu[at + 1]);
         if left - 2 < value {
-            return Walk::Cut(at);
+            return Err(at);
         }
         let kind = pdu[at];
         at = at + 2 + value;
@@ -73,7 +63,7 @@ pub fn walked(pdu: &[u8], from: usize) -> Walk
             threeway += 1;
         }
     }
-    Walk::Whole(Counts {
+    Ok(Counts {
         neighbours,
         reverse,
         restart,
@@ -82,29 +72,29 @@ pub fn walked(pdu: &[u8], from: usize) -> Walk
 }
 
 // The first TLV of a type from a position on. The search ends at a TLV that passes the end.
-pub fn find(pdu: &[u8], from: usize, kind: u8) -> Found
+pub fn find(pdu: &[u8], from: usize, kind: u8) -> Option<usize>
     ensures { Finds pdu.now from kind result }
 {
     let mut at = from;
     while at < pdu.len() {
         let left = pdu.len() - at;
         if left < 2 {
-            return Found::Nothing;
+            return None;
         }
         let len = wide(pdu[at + 1]);
         if left - 2 < len {
-            return Found::Nothing;
+            return None;
         }
         if pdu[at] == kind {
-            return Found::At(at);
+            return Some(at);
         }
         at = at + 2 + len;
     }
-    Found::Nothing
+    None
 }
 
 // The first TLV of a type after the one at a position.
-pub fn find_after(pdu: &[u8], at: usize, kind: u8) -> Found
+pub fn find_after(pdu: &[u8], at: usize, kind: u8) -> Option<usize>
     requires { next_at pdu.now at ≤ length pdu.now }
     ensures { result ≡ first_at (of_type kind (tlvs pdu.now (next_at pdu.now at))) }
 {
@@ -127,7 +117,7 @@ pub fn value_of(pdu: &[u8], from: usize, kind: u8) -> &[u8]
     ensures { result.now ≡ first_value (of_type kind (tlvs pdu.now from)) }
 {
     let found = find(pdu, from, kind);
-    let Found::At(at) = found else {
+    let Some(at) = found else {
         return &pdu[..0];
     };
     value_at(pdu, at)
@@ -138,10 +128,10 @@ pub fn is_repeated(pdu: &[u8], from: usize, kind: u8) -> bool
     ensures { result ≡ several (of_type kind (tlvs pdu.now from)) }
 {
     let first = find(pdu, from, kind);
-    let Found::At(at) = first else {
+    let Some(at) = first else {
         return false;
     };
-    let Found::At(_) = find_after(pdu, at, kind) else {
+    let Some(_) = find_after(pdu, at, kind) else {
         return false;
     };
     true

@@ -1,11 +1,11 @@
 // What is printed of a frame: `NAME refused N`, for 5 and 6 with ` at` and the position, or `NAME LAYOUT SYSTEM hold TIME ..; restart ..; metric ..`.
 use basics::kind::CircuitKind;
-use hello::read::{Hello, Link, Read, read_hello};
+use hello::read::{Hello, Link, read_hello};
 use hello::reverse::ReverseMetric;
 use hello::three_way::{Identifiers, ThreeWay, ThreeWayState};
 use model::numbers::{number_of, position_of};
 use restart_tlv::flags::Flags;
-use restart_tlv::reader::{Neighbor, RestartTlv};
+use restart_tlv::reader::RestartTlv;
 use std::io;
 use std::io::Write;
 
@@ -91,8 +91,8 @@ fn flag_names(rt: &impl Print, flags: Flags) -> io::Result<()> {
     Ok(())
 }
 
-fn named(rt: &impl Print, neighbor: Neighbor) -> io::Result<()> {
-    let Neighbor::Named(system) = neighbor else {
+fn named(rt: &impl Print, neighbor: Option<u64>) -> io::Result<()> {
+    let Some(system) = neighbor else {
         return Ok(());
     };
     text(rt, " ")?;
@@ -119,21 +119,16 @@ fn restart(rt: &impl Print, tlv: RestartTlv) -> io::Result<()> {
     }
 }
 
-fn metric(rt: &impl Print, reverse: ReverseMetric) -> io::Result<()> {
+fn metric(rt: &impl Print, reverse: Option<ReverseMetric>) -> io::Result<()> {
     text(rt, "; metric ")?;
-    let ReverseMetric::Present {
-        offset,
-        whole,
-        unreachable,
-    } = reverse
-    else {
+    let Some(asked) = reverse else {
         return text(rt, "none");
     };
-    number(rt, offset as u64)?;
-    if whole {
+    number(rt, asked.offset as u64)?;
+    if asked.whole {
         text(rt, " W")?;
     }
-    if unreachable {
+    if asked.unreachable {
         text(rt, " U")?;
     }
     Ok(())
@@ -208,12 +203,12 @@ pub fn show_frame(rt: &impl Print, name: &[u8], kind: CircuitKind, frame: &[u8])
     io::writer(rt).write_all(name)?;
     let r = read_hello(frame, kind, OWN_MAC);
     match r {
-        Read::Refused(why) => {
+        Err(why) => {
             text(rt, " refused ")?;
             number(rt, number_of(why) as u64)?;
             place(rt, position_of(why))?;
         }
-        Read::Accepted(hello) => accepted(rt, hello)?,
+        Ok(hello) => accepted(rt, hello)?,
     }
     text(rt, "\n")
 }

@@ -16,9 +16,9 @@ returns-in_default c = let a = c.args in λ fs. no-circuit a.gateway.now fs a.n 
 
 pub returns : goal.returns
 returns c = let a = c.args in
-    let r = subst (InRange _) c.in-Known.is c.circuit_of.ensures.range in
+    let r = subst (InRange _) c.in-Some.is c.circuit_of.ensures.range in
     let x = c.begin in
     let at = slot_place (a.n - 1) in
     λ fs.
-    begins a.gateway.now fs a.n r.0 r.1 _ (chosen a.gateway.now fs a.n _ _ c.circuit_of.ensures c.in-Known.is) c.requires.0 _ x.new.slot
+    begins a.gateway.now fs a.n r.0 r.1 _ (chosen a.gateway.now fs a.n _ _ c.circuit_of.ensures c.in-Some.is) c.requires.0 _ x.new.slot
     (x.auto.slot ∙ mid_len at (at + slot_words) a.gateway.now (omega (arith, c.requires.0))) x.ensures

@@ -17,10 +17,10 @@ returns-in_default c = let a = c.args in no-circuit a.gateway.now a.frames.now a
 
 pub returns : goal.returns
 returns c = let a = c.args in
-    let r = subst (InRange _) c.in-Known.is c.circuit_of.ensures.range in
+    let r = subst (InRange _) c.in-Some.is c.circuit_of.ensures.range in
     let x = c.add in
     let at = slot_place (a.n - 1) in
     let f = octets_place (a.n - 1) in
-    chunks a.gateway.now a.frames.now a.n r.0 r.1 _ (chosen a.gateway.now a.frames.now a.n _ _ c.circuit_of.ensures c.in-Known.is) a.octets.now
+    chunks a.gateway.now a.frames.now a.n r.0 r.1 _ (chosen a.gateway.now a.frames.now a.n _ _ c.circuit_of.ensures c.in-Some.is) a.octets.now
     x.new.slot x.new.frame c.requires.0 c.requires.1 (x.auto.slot ∙ mid_len at (at + slot_words) a.gateway.now (omega (arith, c.requires.0)))
     (x.auto.frame ∙ mid_len f (f + most_octets) a.frames.now (omega (arith, c.requires.1))) _ x.ensures

@@ -15,15 +15,15 @@ returns-in_default c = let a = c.args in takes-nothing a.gateway.now a.n (λ fs.
 
 pub returns-in_default-load : goal.returns-in_default-load
 returns-in_default-load c = let a = c.args in
-    let r = subst (InRange _) c.in-Known.is c.circuit_of.ensures.range in
-    takes_none a.gateway.now a.n r.0 r.1 _ (λ fs. chosen a.gateway.now fs a.n _ _ c.circuit_of.ensures c.in-Known.is) (pending-is c.load.ensures c.in_default-load.is)
+    let r = subst (InRange _) c.in-Some.is c.circuit_of.ensures.range in
+    takes_none a.gateway.now a.n r.0 r.1 _ (λ fs. chosen a.gateway.now fs a.n _ _ c.circuit_of.ensures c.in-Some.is) (pending-is c.load.ensures c.in_default-load.is)
 
 pub returns : goal.returns
 returns c = let a = c.args in
-    let r = subst (InRange _) c.in-Known.is c.circuit_of.ensures.range in
+    let r = subst (InRange _) c.in-Some.is c.circuit_of.ensures.range in
     let x = c.clear in
     let y = c.load.ensures in
-    let e = c.in-Begun.is in
+    let e = c.in-Some-load.is in
     let at = slot_place (a.n - 1) in
-    takes-frame a.gateway.now a.n r.0 r.1 _ (λ fs. chosen a.gateway.now fs a.n _ _ c.circuit_of.ensures c.in-Known.is) c.requires _ _ x.new.slot
+    takes-frame a.gateway.now a.n r.0 r.1 _ (λ fs. chosen a.gateway.now fs a.n _ _ c.circuit_of.ensures c.in-Some.is) c.requires _ _ x.new.slot
     (range-is y e) (mac-range y e) (pending-is y e) (x.auto.slot ∙ mid_len at (at + slot_words) a.gateway.now (omega (arith, c.requires))) x.ensures

@@ -14,10 +14,10 @@ returns-in_default c = absurd (true≢false (sym c.requires.1 ∙ ap is_found (u
 
 pub returns-in_default-fault : goal.returns-in_default-fault
 unfolding is_found
-returns-in_default-fault c = absurd (true≢false (sym c.requires.1 ∙ ap is_found (fit-in _ _ _ c.select_layout.ensures c.in-Fit.is ∙ sym c.tlv_fault-fault.ensures ∙ c.in_default-fault.is)))
+returns-in_default-fault c = absurd (true≢false (sym c.requires.1 ∙ ap is_found (fit-in _ _ _ c.select_layout.ensures c.in-Some.is ∙ sym c.tlv_fault-fault.ensures ∙ c.in_default-fault.is)))
 
 pub position_of-requires : goal.position_of-requires
-position_of-requires c = omega (arith, c.requires.0.1, is_within _ _ _ (tlv-within _ _) (sym c.tlv_fault-fault.ensures ∙ c.in-At.is))
+position_of-requires c = omega (arith, c.requires.0.1, is_within _ _ _ (tlv-within _ _) (sym c.tlv_fault-fault.ensures ∙ c.in-Some-fault.is))
 
 pub returns : goal.returns
-returns c = refuses-at BadTlv _ _ _ (fit-in _ _ _ c.select_layout.ensures c.in-Fit.is ∙ sym c.tlv_fault-fault.ensures ∙ c.in-At.is) (ap BadTlv c.position_of.ensures)
+returns c = refuses-at BadTlv _ _ _ (fit-in _ _ _ c.select_layout.ensures c.in-Some.is ∙ sym c.tlv_fault-fault.ensures ∙ c.in-Some-fault.is) (ap BadTlv c.position_of.ensures)

@@ -19,13 +19,13 @@ returns-in_default c = rw (sym c.is_not_hello.ensures ∙ c.if-is_not_hello.fals
 pub read_as-requires : goal.read_as-requires
 read_as-requires c =
     let e = c.select_layout.ensures in
-    let f = c.in-Fit.is in
+    let f = c.in-Some.is in
     (header-least _ _ _ e f, sym e ∙ f)
 
 pub returns-then-is_same_kind : goal.returns-then-is_same_kind
 unfolding hello_read
-returns-then-is_same_kind c = rw (sym c.is_not_hello.ensures ∙ c.if-is_not_hello.false, sym c.select_layout.ensures ∙ c.in-Fit.is, sym c.is_same_kind.ensures ∙ c.if-is_same_kind.true) c.read_as.ensures
+returns-then-is_same_kind c = rw (sym c.is_not_hello.ensures ∙ c.if-is_not_hello.false, sym c.select_layout.ensures ∙ c.in-Some.is, sym c.is_same_kind.ensures ∙ c.if-is_same_kind.true) c.read_as.ensures
 
 pub returns : goal.returns
 unfolding hello_read layout_read
-returns c = rw (sym c.is_not_hello.ensures ∙ c.if-is_not_hello.false, sym c.select_layout.ensures ∙ c.in-Fit.is, sym c.is_same_kind.ensures ∙ c.if-is_same_kind.false)
+returns c = rw (sym c.is_not_hello.ensures ∙ c.if-is_not_hello.false, sym c.select_layout.ensures ∙ c.in-Some.is, sym c.is_same_kind.ensures ∙ c.if-is_same_kind.false)

@@ -7,4 +7,4 @@ pub returns-in_default : goal.returns-in_default
 returns-in_default c = sym (lan-bad _ _ _ (sym c.read_lists.ensures ∙ c.in_default.is))
 
 pub returns : goal.returns
-returns c = sym (lan-good _ _ _ _ (sym c.read_lists.ensures ∙ c.in-Good.is))
+returns c = sym (lan-good _ _ _ _ (sym c.read_lists.ensures ∙ c.in-Ok.is))

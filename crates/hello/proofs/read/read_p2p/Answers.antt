@@ -7,4 +7,4 @@ pub returns-in_default : goal.returns-in_default
 returns-in_default c = sym (p2p-bad _ _ _ (sym c.read_three_way.ensures ∙ c.in_default.is))
 
 pub returns : goal.returns
-returns c = sym (p2p-good _ _ _ _ (sym c.read_three_way.ensures ∙ c.in-Good.is))
+returns c = sym (p2p-good _ _ _ _ (sym c.read_three_way.ensures ∙ c.in-Ok.is))

@@ -2,15 +2,15 @@
 use Rattle.hello.proofs.FaultLaws.{is-found-in, refused-in}
 use Rattle.hello.proofs.HelloLaws.{by-circuit, past-circuit, by-restart, by-reverse, by-link, accepted, link-is-bad, link-is-good, reverse-is-bad, reverse-is-good}
 use Rattle.restart_tlv.proofs.RestartLaws.{restart-is-bad, restart-is-good}
-use Rattle.hello.specs.declared.read.Read.TheVariants.{Refused}
 use Rattle.basics.specs.declared.refusal.Refusal.TheVariants.{BadTlv}
 use Prim.Native.Nat.{ℕ}
 use borrow.Author.Tests.{eq-eqb, ne_eqb}
 use mathlib.Core.Path.{sym, ap, ◌∙◌}
 use Rattle.hello.proofs.read.read_tlvs.Goals as goal
+use Rattle.std.specs.Prelude.{Err}
 
 pub returns-then-pdu-eq0 : goal.returns-then-pdu-eq0
-returns-then-pdu-eq0 c = ap (λ (n : ℕ). Refused (BadTlv n)) c.position_of.ensures ∙ sym (by-circuit _ _ _ (eq-eqb _ _ c.if-pdu-eq0.true))
+returns-then-pdu-eq0 c = ap (λ (n : ℕ). Err (BadTlv n)) c.position_of.ensures ∙ sym (by-circuit _ _ _ (eq-eqb _ _ c.if-pdu-eq0.true))
 
 pub bad_tlv-requires : goal.bad_tlv-requires
 bad_tlv-requires c = (c.requires.0, is-found-in _ _ c.requires.2 (by-link _ _ (link-is-bad _ _ _ (sym c.read_link.ensures ∙ c.in_default.is))))
@@ -32,7 +32,7 @@ returns-in_default-read_reverse c = refused-in _ _ c.requires.2 _ c.bad_tlv-in_d
 
 pub returns : goal.returns
 returns c =
-    let k = link-is-good _ _ _ _ (sym c.read_link.ensures ∙ c.in-Good.is) in
-    let r = restart-is-good _ _ (sym c.read_restart.ensures ∙ c.in-Good-read_restart.is) in
-    let m = reverse-is-good _ _ (sym c.read_reverse.ensures ∙ c.in-Good-read_reverse.is) in
+    let k = link-is-good _ _ _ _ (sym c.read_link.ensures ∙ c.in-Ok.is) in
+    let r = restart-is-good _ _ (sym c.read_restart.ensures ∙ c.in-Ok-read_restart.is) in
+    let m = reverse-is-good _ _ (sym c.read_reverse.ensures ∙ c.in-Ok-read_reverse.is) in
     rw (c.six.ensures, c.two.ensures, r.1, m.1, k.1) (sym (accepted _ _ _ (ne_eqb _ _ c.if-pdu-eq0.false) r.0 m.0 k.0))

@@ -1,7 +1,6 @@
 -- The invariant: the numbers are all known where those from circuit i on are.
 use native.Mathlib.Omega.{arith}
 use mathlib.Core.Path.{sym, ◌∙◌}
-use Prim.Native.Nat.{◌-◌}
 use Rattle.isis_gr.proofs.SettingsLaws.{known-here, known-skip, known-end}
 use Rattle.isis_gr.proofs.config.are_circuits_known.Goals as goal
 

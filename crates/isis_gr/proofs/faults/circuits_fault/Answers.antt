@@ -1,7 +1,7 @@
 -- The invariant: the fault is that of the circuits from i on.
 use native.Mathlib.Omega.{arith}
 use mathlib.Core.Path.{ap, sym, ◌∙◌}
-use Prim.Native.Nat.{ℕ, ◌+◌, ◌*◌, ◌-◌}
+use Prim.Native.Nat.{ℕ, ◌+◌, ◌*◌}
 use Rattle.isis_gr.proofs.FaultLaws.{faults-end, faults-skip, faults-here}
 use Rattle.isis_gr.proofs.faults.circuits_fault.Goals as goal
 

@@ -1,7 +1,6 @@
 -- The invariant: the circuits are all in range where those from i on are.
 use native.Mathlib.Omega.{arith}
 use mathlib.Core.Path.{sym, ap, ◌∙◌}
-use Prim.Native.Nat.{◌-◌}
 use Rattle.basics.proofs.ListLaws.{every_here, every-skip, every-end}
 use Rattle.settings.specs.Settings.{circuit_ok}
 use Rattle.isis_gr.specs.Settings.{circuit_from, settings_from}

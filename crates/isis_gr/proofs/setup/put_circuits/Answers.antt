@@ -1,9 +1,7 @@
 -- The invariant: the circuits before i are put.
-use Rattle.basics.specs.Mask.{circuits}
 use Rattle.own_words.proofs.SetupLaws.{put_next, put_all}
 use Rattle.isis_gr.specs.Settings.{circuit_from, settings_from}
 use Rattle.isis_gr.proofs.SettingsLaws.{length-circuits, circuit-nth, put_as}
-use Prim.Native.Nat.{◌-◌}
 use mathlib.Core.Path.{◌∙◌}
 use native.Mathlib.Omega.{arith}
 use Rattle.isis_gr.proofs.setup.put_circuits.Goals as goal

@@ -2,7 +2,6 @@
 use Rattle.isis_gr_why.proofs.DutyLaws.{duty-step, duty-end}
 use Rattle.slots.specs.Slots.{table_of}
 use Rattle.slots.proofs.SlotLaws.{length-table}
-use Prim.Native.Nat.{◌-◌}
 use mathlib.Core.Path.{◌∙◌}
 use native.Mathlib.Omega.{arith}
 use Rattle.isis_gr_why.proofs.duty.duty_in.Goals as goal

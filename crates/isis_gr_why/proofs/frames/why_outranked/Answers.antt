@@ -13,15 +13,15 @@ returns-in_default c = let a = c.args in λ s h k q. absurd (not-unknown (gatewa
 pub returns-in_default-duty_in : goal.returns-in_default-duty_in
 returns-in_default-duty_in c =
     let a = c.args in
-    let r = subst (InRange _) c.in-Known.is c.circuit_of.ensures.range in
+    let r = subst (InRange _) c.in-Some.is c.circuit_of.ensures.range in
     λ s h k q.
-    outranked-by a.before.now a.after.now a.n _ (choice a.before.now a.n _ _ c.circuit_of.ensures c.in-Known.is) r.0 r.1 a.level Ours
+    outranked-by a.before.now a.after.now a.n _ (choice a.before.now a.n _ _ c.circuit_of.ensures c.in-Some.is) r.0 r.1 a.level Ours
     (sym c.in_default-duty_in.is ∙ c.duty_in.ensures) s h k q
 
 pub returns : goal.returns
 returns c =
     let a = c.args in
-    let r = subst (InRange _) c.in-Known.is c.circuit_of.ensures.range in
+    let r = subst (InRange _) c.in-Some.is c.circuit_of.ensures.range in
     λ s h k q.
-    outranked-by a.before.now a.after.now a.n _ (choice a.before.now a.n _ _ c.circuit_of.ensures c.in-Known.is) r.0 r.1 a.level _
+    outranked-by a.before.now a.after.now a.n _ (choice a.before.now a.n _ _ c.circuit_of.ensures c.in-Some.is) r.0 r.1 a.level _
     (sym c.in-Theirs.is ∙ c.duty_in.ensures) s h k q

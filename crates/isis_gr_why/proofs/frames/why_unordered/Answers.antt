@@ -12,5 +12,5 @@ pub returns : goal.returns
 returns c =
     let a = c.args in
     λ frame b x p q n.
-    silent-fits (gateway_of a.before.now) a.n a.mac frame b a.orders (ap is_ordered c.in-Nothing.is) _ c.standing_in-stood.ensures _
+    silent-fits (gateway_of a.before.now) a.n a.mac frame b a.orders (ap is_ordered c.in-None.is) _ c.standing_in-stood.ensures _
     c.line_told-line.ensures _ _ c.why_by.ensures x p n q

@@ -9,4 +9,4 @@ pub returns-in_default : goal.returns-in_default
 returns-in_default c = let a = c.args in standing-none (gateway_of a.words.now) a.n a.key (choice a.words.now a.n _ _ c.circuit_of.ensures c.in_default.is)
 
 pub returns : goal.returns
-returns c = let a = c.args in c.standing_on.ensures ∙ standing_by (gateway_of a.words.now) a.n a.key _ (choice a.words.now a.n _ _ c.circuit_of.ensures c.in-Known.is)
+returns c = let a = c.args in c.standing_on.ensures ∙ standing_by (gateway_of a.words.now) a.n a.key _ (choice a.words.now a.n _ _ c.circuit_of.ensures c.in-Some.is)

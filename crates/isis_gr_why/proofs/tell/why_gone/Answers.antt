@@ -9,8 +9,8 @@ returns-in_default c = λ mac frame b x y t. rw c.in_default.is refl
 
 pub returns-in_default-left : goal.returns-in_default-left
 unfolding vanished
-returns-in_default-left c = λ mac frame b x y t. rw (c.in-Present.is, c.in_default-left.is) refl
+returns-in_default-left c = λ mac frame b x y t. rw (c.in-Some.is, c.in_default-left.is) refl
 
 pub returns : goal.returns
 unfolding vanished
-returns c = λ mac frame b x y t. rw (c.in-Present.is, c.in-Absent.is) (c.why_went.ensures mac frame b x y t)
+returns c = λ mac frame b x y t. rw (c.in-Some.is, c.in-None.is) (c.why_went.ensures mac frame b x y t)

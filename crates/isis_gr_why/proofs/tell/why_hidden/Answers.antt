@@ -9,12 +9,12 @@ returns-in_default c = λ mac frame b x y t. rw c.in_default.is (c.why_unknown.e
 
 pub returns-in_default-state : goal.returns-in_default-state
 unfolding not_advertised
-returns-in_default-state c = λ mac frame b x y t. rw (c.in-Present.is, c.in_default-state.is) refl
+returns-in_default-state c = λ mac frame b x y t. rw (c.in-Some.is, c.in_default-state.is) refl
 
 pub returns-then-data : goal.returns-then-data
 unfolding not_advertised
-returns-then-data c = λ mac frame b x y t. rw (c.in-Present.is, c.in-Up.is, c.if-data.true) refl
+returns-then-data c = λ mac frame b x y t. rw (c.in-Some.is, c.in-Up.is, c.if-data.true) refl
 
 pub returns : goal.returns
 unfolding not_advertised
-returns c = λ mac frame b x y t. rw (c.in-Present.is, c.in-Up.is, c.if-data.false) refl
+returns c = λ mac frame b x y t. rw (c.in-Some.is, c.in-Up.is, c.if-data.false) refl

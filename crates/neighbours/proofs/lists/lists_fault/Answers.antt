@@ -9,10 +9,10 @@ pub returns-in_default : goal.returns-in_default
 returns-in_default c = sym (c.loop-at.invariant ∙ fault-none _ c.in_default.ensures)
 
 pub returns-then-v-ne0 : goal.returns-then-v-ne0
-returns-then-v-ne0 c = sym (c.loop-at.invariant ∙ ap neighbours_fault (turn-list c.in-At.ensures c.value_at-v.ensures) ∙ fault-here _ _ c.if-v-ne0.true)
+returns-then-v-ne0 c = sym (c.loop-at.invariant ∙ ap neighbours_fault (turn-list c.in-Some.ensures c.value_at-v.ensures) ∙ fault-here _ _ c.if-v-ne0.true)
 
 pub loop-at-preserved : goal.loop-at-preserved
-loop-at-preserved c = c.loop-at.invariant ∙ ap neighbours_fault (turn-list c.in-At.ensures c.value_at-v.ensures) ∙ fault-next _ _ c.if-v-ne0.false
+loop-at-preserved c = c.loop-at.invariant ∙ ap neighbours_fault (turn-list c.in-Some.ensures c.value_at-v.ensures) ∙ fault-next _ _ c.if-v-ne0.false
 
 pub returns : goal.returns
 returns c = sym (c.loop-at.invariant ∙ fault-none _ (none _ _ 6 c.loop-at-test.false))

@@ -8,11 +8,11 @@ pub loop-left-init : goal.loop-left-init
 loop-left-init c = (c.requires, list-start _ false _)
 
 pub returns-then-v-ne0 : goal.returns-then-v-ne0
-returns-then-v-ne0 c = sym (c.loop-left.invariant.1 ∙ ap (list_on _ _) (turn-list c.in-At.ensures c.value_at-v.ensures) ∙ list-bad _ _ _ _ c.if-v-ne0.true)
+returns-then-v-ne0 c = sym (c.loop-left.invariant.1 ∙ ap (list_on _ _) (turn-list c.in-Some.ensures c.value_at-v.ensures) ∙ list-bad _ _ _ _ c.if-v-ne0.true)
 
 pub loop-left-preserved : goal.loop-left-preserved
 loop-left-preserved c =
-    let e = turn-list c.in-At.ensures c.value_at-v.ensures in
+    let e = turn-list c.in-Some.ensures c.value_at-v.ensures in
     (omega (arith, ap length e), rw (c.is_listed_here-listed.ensures, ← c.value_at-v.ensures) (c.loop-left.invariant.1 ∙ ap (list_on _ _) e ∙ list-next _ _ _ _ c.if-v-ne0.false))
 
 pub returns : goal.returns

@@ -17,5 +17,5 @@ pub returns : goal.returns
 returns c =
     let a = c.args in
     let g = gateway_of a.gateway.now in
-    along (flags-is g a.n _ a.level ∙ a-circuit g a.n (NextHello a.level) _ (choice a.gateway.now a.n _ _ c.circuit_of.ensures c.in-Known.is))
+    along (flags-is g a.n _ a.level ∙ a-circuit g a.n (NextHello a.level) _ (choice a.gateway.now a.n _ _ c.circuit_of.ensures c.in-Some.is))
     c.flags_on.ensures

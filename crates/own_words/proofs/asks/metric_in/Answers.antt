@@ -12,4 +12,4 @@ pub returns-in_default : goal.returns-in_default
 returns-in_default c = let a = c.args in along (no-circuit (gateway_of a.gateway.now) a.n LinkMetric (choice a.gateway.now a.n _ _ c.circuit_of.ensures c.in_default.is)) (refuses-all a.gateway.now _ NoCircuit)
 
 pub returns : goal.returns
-returns c = let a = c.args in let r = subst (InRange _) c.in-Known.is c.circuit_of.ensures.range in along (a-circuit (gateway_of a.gateway.now) a.n LinkMetric _ (choice a.gateway.now a.n _ _ c.circuit_of.ensures c.in-Known.is)) (measures a.gateway.now a.n c.requires r.0 r.1 _ _ _ c.first_state-stood.ensures c.link_metric.ensures)
+returns c = let a = c.args in let r = subst (InRange _) c.in-Some.is c.circuit_of.ensures.range in along (a-circuit (gateway_of a.gateway.now) a.n LinkMetric _ (choice a.gateway.now a.n _ _ c.circuit_of.ensures c.in-Some.is)) (measures a.gateway.now a.n c.requires r.0 r.1 _ _ _ c.first_state-stood.ensures c.link_metric.ensures)

@@ -30,18 +30,18 @@ order_in-requires c =
       },
     )
 
-pub returns-in-Refused : goal.returns-in-Refused
-returns-in-Refused c =
+pub returns-in-Err : goal.returns-in-Err
+returns-in-Err c =
     let a = c.args in
     left a.gateway.now a.n a.s a.mac a.frame a.reply.now c.requires.0 c.requires.1 c.requires.2 _ _ c.here_of-here.ensures
-    c.key_in-key.ensures _ c.accept_in-decided.new.words _ _ c.in-Refused.is c.accept_in-decided.ensures
+    c.key_in-key.ensures _ c.accept_in-decided.new.words _ _ c.in-Err.is c.accept_in-decided.ensures
 
-pub returns-in-Accepted : goal.returns-in-Accepted
-returns-in-Accepted c =
+pub returns-in-Ok : goal.returns-in-Ok
+returns-in-Ok c =
     let a = c.args in
     let l = c.accept_in-decided.auto.words ∙ mid_len (room_place (a.n - 1)) (room_place (a.n - 1) + room_words) a.gateway.now (omega (arith, c.requires)) in
     let held = held_back a.gateway.now a.n a.s a.frame c.accept_in-decided.new.words c.requires.0 c.requires.1 c.requires.2 l c.requires.4 in
     let y = c.order_in in
     taken a.gateway.now a.n a.s a.mac a.frame a.reply.now c.requires.0 c.requires.1 c.requires.2 _ _ c.here_of-here.ensures
-    c.key_in-key.ensures c.accept_in-decided.new.words _ _ _ _ l y.new.gateway _ _ c.in-Accepted.is c.accept_in-decided.ensures _
+    c.key_in-key.ensures c.accept_in-decided.new.words _ _ _ _ l y.new.gateway _ _ c.in-Ok.is c.accept_in-decided.ensures _
     c.change_of.ensures (of-circuit (sym held) y.ensures)

@@ -14,13 +14,13 @@ returns-then-reply-lt11 c = let a = c.args in
 
 pub check_in-requires : goal.check_in-requires
 check_in-requires c =
-    let kind = read-kind c.args.s.kind c.args.s.mac c.args.frame.now _ (sym c.read_hello.ensures ∙ c.in-Accepted.is) in
+    let kind = read-kind c.args.s.kind c.args.s.mac c.args.frame.now _ (sym c.read_hello.ensures ∙ c.in-Ok.is) in
     (c.requires.0, c.requires.1, c.requires.2, c.if-reply-lt11.false, c.requires.3, c.requires.4, kind)
 
-pub returns-in-Refused : goal.returns-in-Refused
-returns-in-Refused c = let a = c.args in
-    along (reads-bad (gateway_of a.gateway.now) a.n a.s (big 6 a.source.now 0) a.frame.now a.reply.now c.if-reply-lt11.false _ (sym c.read_hello.ensures ∙ c.in-Refused.is)) (refuses a.gateway.now a.n a.reply.now _)
+pub returns-in-Err : goal.returns-in-Err
+returns-in-Err c = let a = c.args in
+    along (reads-bad (gateway_of a.gateway.now) a.n a.s (big 6 a.source.now 0) a.frame.now a.reply.now c.if-reply-lt11.false _ (sym c.read_hello.ensures ∙ c.in-Err.is)) (refuses a.gateway.now a.n a.reply.now _)
 
-pub returns-in-Accepted : goal.returns-in-Accepted
-returns-in-Accepted c = let a = c.args in
-    along (reads-good (gateway_of a.gateway.now) a.n a.s (big 6 a.source.now 0) a.frame.now a.reply.now c.if-reply-lt11.false _ (sym c.read_hello.ensures ∙ c.in-Accepted.is)) c.check_in.ensures
+pub returns-in-Ok : goal.returns-in-Ok
+returns-in-Ok c = let a = c.args in
+    along (reads-good (gateway_of a.gateway.now) a.n a.s (big 6 a.source.now 0) a.frame.now a.reply.now c.if-reply-lt11.false _ (sym c.read_hello.ensures ∙ c.in-Ok.is)) c.check_in.ensures

@@ -19,10 +19,10 @@ returns-in_default c = let a = c.args in
 pub read_in-requires : goal.read_in-requires
 read_in-requires c =
     let chosen = c.circuit_of.ensures in
-    let known = c.in-Known.is in
+    let known = c.in-Some.is in
     let r = subst (InRange _) known chosen.range in
     (c.requires.0, r.0, r.1, c.requires.1, known_at (part 0 control_words c.args.gateway.now) c.args.n _ (sym chosen.is ∙ known))
 
 pub returns : goal.returns
 returns c = let a = c.args in
-    along (received_is (gateway_of a.gateway.now) a.n _ (big 6 a.source.now 0) a.frame.now a.reply.now ∙ a-circuit (gateway_of a.gateway.now) a.n (Receive (big 6 a.source.now 0) a.frame.now a.reply.now) _ (choice a.gateway.now a.n _ _ c.circuit_of.ensures c.in-Known.is)) c.read_in.ensures
+    along (received_is (gateway_of a.gateway.now) a.n _ (big 6 a.source.now 0) a.frame.now a.reply.now ∙ a-circuit (gateway_of a.gateway.now) a.n (Receive (big 6 a.source.now 0) a.frame.now a.reply.now) _ (choice a.gateway.now a.n _ _ c.circuit_of.ensures c.in-Some.is)) c.read_in.ensures

@@ -11,4 +11,4 @@ pub returns-in_default : goal.returns-in_default
 returns-in_default c = let a = c.args in along (no-circuit (gateway_of a.gateway.now) a.n (CsnpComplete a.level) (choice a.gateway.now a.n _ _ c.circuit_of.ensures c.in_default.is)) (refuses-all a.gateway.now _ NoCircuit)
 
 pub returns : goal.returns
-returns c = let a = c.args in along (csnp-is (gateway_of a.gateway.now) a.n _ a.level ∙ a-circuit (gateway_of a.gateway.now) a.n (CsnpComplete a.level) _ (choice a.gateway.now a.n _ _ c.circuit_of.ensures c.in-Known.is)) c.csnp_on.ensures
+returns c = let a = c.args in along (csnp-is (gateway_of a.gateway.now) a.n _ a.level ∙ a-circuit (gateway_of a.gateway.now) a.n (CsnpComplete a.level) _ (choice a.gateway.now a.n _ _ c.circuit_of.ensures c.in-Some.is)) c.csnp_on.ensures

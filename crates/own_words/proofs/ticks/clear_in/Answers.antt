@@ -22,8 +22,8 @@ returns-in_default c =
 pub returns : goal.returns
 returns c =
     let a = c.args in
-    let r = subst (InRange _) c.in-Known.is c.circuit_of.ensures.range in
+    let r = subst (InRange _) c.in-Some.is c.circuit_of.ensures.range in
     let x = c.open_room in
     let at = control_words + room_words * (a.n - 1) in
-    along (a-circuit (gateway_of a.gateway.now) a.n Clear _ (choice a.gateway.now a.n _ _ c.circuit_of.ensures c.in-Known.is))
+    along (a-circuit (gateway_of a.gateway.now) a.n Clear _ (choice a.gateway.now a.n _ _ c.circuit_of.ensures c.in-Some.is))
     (clears a.gateway.now a.n c.requires r.0 r.1 _ x.new.words (x.auto.words ∙ mid_len at (at + room_words) a.gateway.now (omega (arith, c.requires))) x.ensures)

@@ -12,9 +12,9 @@ returns-in_default c =
 
 pub returns-then-at-ge-PLACES : goal.returns-then-at-ge-PLACES
 returns-then-at-ge-PLACES c =
-    record { is = room-full _ _ _ _ _ c.in-Accepted.is (c.requires.1.none (omega (arith, c.if-at-ge-PLACES.true))); did = (refl, refl) }
+    record { is = room-full _ _ _ _ _ c.in-Ok.is (c.requires.1.none (omega (arith, c.if-at-ge-PLACES.true))); did = (refl, refl) }
 
 pub returns : goal.returns
 returns c =
     let t = c.requires.1.takes (omega (arith, c.if-at-ge-PLACES.false)) in
-    record { is = room-free _ _ _ _ _ c.in-Accepted.is t.room; did = (c.keep.ensures, c.answer.ensures) }
+    record { is = room-free _ _ _ _ _ c.in-Ok.is t.room; did = (c.keep.ensures, c.answer.ensures) }

@@ -10,4 +10,4 @@ unfolding written
 returns-in_default c = search rules
 
 pub returns : goal.returns
-returns c = c.write_restart.ensures ∙ written-send _ _ _ _ _ c.in-Send.is
+returns c = c.write_restart.ensures ∙ written-send _ _ _ _ _ c.in-Some.is

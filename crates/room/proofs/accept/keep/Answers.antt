@@ -7,4 +7,4 @@ pub returns-in_default : goal.returns-in_default
 returns-in_default c = kept-absent _ _ _ c.in_default.is
 
 pub returns : goal.returns
-returns c = c.store_state.ensures ∙ sym (c.requires.1.puts _) ∙ kept-present _ _ _ _ c.in-Present.is
+returns c = c.store_state.ensures ∙ sym (c.requires.1.puts _) ∙ kept-present _ _ _ _ c.in-Some.is

@@ -1,10 +1,10 @@
 -- On P2P the definition does not ask the room; on a LAN the laws `csnps-outranked` and `csnps-ours`.
 use Rattle.adjacency.specs.Duty.{csnps_of}
-use Rattle.adjacency.specs.declared.duty.Csnps.TheVariants.{Ordered}
 use Rattle.room.specs.Accept.{csnps_in}
 use Rattle.room.proofs.AcceptLaws.{csnps-outranked, csnps-ours}
 use mathlib.Core.Path.{sym, ap, ◌∙◌}
 use Rattle.room.proofs.duty.line_one_csnps.Goals as goal
+use Rattle.std.specs.Prelude.{Some}
 
 pub returns-in_default : goal.returns-in_default
 unfolding csnps_in csnps_of
@@ -16,5 +16,5 @@ returns-then-is_outranked c =
 
 pub returns : goal.returns
 returns c =
-    ap Ordered c.only_level.ensures
+    ap Some c.only_level.ensures
     ∙ csnps-ours _ _ _ _ _ _ _ c.in-Lan.is (sym c.is_outranked.ensures ∙ c.if-is_outranked.false) c.requires.1
