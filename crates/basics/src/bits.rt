@@ -6,5 +6,5 @@ ghost use Rattle.basics.specs.Bits.{bit_of};
 pub fn digit(b: bool) -> u64
     ensures { (result ≡ bit_of b) × (result < 2) }
 {
-    if b { 1 } else { 0 }
+    u64::from(b)
 }

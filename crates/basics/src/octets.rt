@@ -9,7 +9,7 @@ ghost use Rattle.basics.specs.Octets.{big, little, octets_of, has_bits, Octet};
 pub fn wide(x: u8) -> usize
     ensures { Octet x result }
 {
-    x as usize
+    usize::from(x)
 }
 
 // Whether each bit of a mask is set.

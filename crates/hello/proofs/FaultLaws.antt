@@ -1,8 +1,9 @@
 -- Where a rule is broken: what the searches for it find, and that the place lies in the PDU or right behind it.
-use Prim.Native.Nat.{ℕ, min, ◌+◌, ◌<◌, ◌≤◌}
+use Prim.Native.Nat.{ℕ, min, ◌+◌}
 use mathlib.Core.Path.{◌≡◌, refl, ap, sym, ◌∙◌}
 use mathlib.Core.List.{List, [], ◌∷◌}
 use mathlib.Core.Bool.{true, false, cond}
+use Rattle.std.specs.Option.{IsSome}
 use native.Mathlib.Omega.{arith}
 use lib.ListN.{length}
 use Rattle.basics.proofs.BoolLaws.{by-test}
@@ -60,24 +61,16 @@ three-way-some end s from p f =
     let e = found-list s from 240 p f in
     ap (three_way_fault end) e ∙ sym (ap (lone_fault three_way_bad) e)
 
--- the one that stands first
-module _ (a b : Option ℕ) where
-  pub earlier-none : a ≡ None → b ≡ earlier a b
-  unfolding earlier
-  earlier-none e = rw e
+-- where a TLV breaks a rule, there is a place, and a layout
+pub found-some : (f : Option ℕ) → is_found f ≡ true → IsSome f
+unfolding is_found
+found-some None e = e
+found-some (Some p) e = refl
 
-  module _ (p : ℕ) (e : a ≡ Some p) where
-    pub earlier-alone : b ≡ None → Some p ≡ earlier a b
-    unfolding earlier
-    earlier-alone f = rw (e, f)
-
-    pub earlier-first : (q : ℕ) → b ≡ Some q → p < q → Some p ≡ earlier a b
-    unfolding earlier
-    earlier-first q f l = let m : p ≡ min p q = omega arith in rw (e, f, ← m)
-
-    pub earlier-second : (q : ℕ) → b ≡ Some q → q ≤ p → Some q ≡ earlier a b
-    unfolding earlier
-    earlier-second q f l = let m : q ≡ min p q = omega arith in rw (e, f, ← m)
+pub layout-some : (x : Option Layout) (p : List ℕ) → is_found (fault_by x p) ≡ true → IsSome x
+unfolding is_found
+layout-some None p e = e
+layout-some (Some l) p e = refl
 
 -- ---- the place
 

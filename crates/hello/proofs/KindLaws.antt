@@ -1,4 +1,6 @@
 -- What is true of every hello that is read, by the stages of its reading; so that its link is of the circuit's kind.
+use denote.Enum.Bare.{sameb}
+use Rattle.basics.specs.contracts.kind.CircuitKind.{the_type}
 use Prim.Native.Nat.{ℕ}
 use native.Mathlib.Omega.{arith}
 use mathlib.Core.Path.{◌≡◌, refl, ◌∙◌}
@@ -17,6 +19,13 @@ use Rattle.hello.specs.Hello.{kind_of, link_on, rule_fault, hello_of, refused_at
 use Rattle.hello.specs.declared.header.Layout.{Layout}
 use Rattle.hello.specs.declared.read.Hello.{Hello}
 use Rattle.std.specs.Prelude.{Option, Some, None, Result, Ok, Err}
+
+-- the derived comparison
+pub same-kinds : (a b : CircuitKind) → sameb the_type a b ≡ same_kind a b
+same-kinds Lan Lan = refl
+same-kinds Lan P2p = refl
+same-kinds P2p Lan = refl
+same-kinds P2p P2p = refl
 
 same-kind : (a b : CircuitKind) → same_kind a b ≡ true → a ≡ b
 same-kind Lan Lan e = refl

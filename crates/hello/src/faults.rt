@@ -22,26 +22,21 @@ pub fn position_of(at: usize) -> u16
 }
 
 // The one that stands first.
+#[tactic(auto, unfolding(crate::specs::Hello::earlier))]
 fn earlier_of(a: Option<usize>, b: Option<usize>) -> Option<usize>
     ensures { result ≡ earlier a b }
 {
-    let Some(p) = a else {
-        return b;
-    };
-    let Some(q) = b else {
-        return a;
-    };
-    if p < q {
-        return a;
+    match (a, b) {
+        (Some(p), Some(q)) => Some(p.min(q)),
+        (Some(_), None) => a,
+        (None, _) => b,
     }
-    b
 }
 
 fn link_fault(pdu: &[u8], layout: Layout) -> Option<usize>
     ensures { result ≡ link_fault layout pdu.now }
 {
-    let kind = layout.kind;
-    match kind {
+    match layout.kind {
         CircuitKind::Lan => lists_fault(pdu, layout.header),
         CircuitKind::P2p => three_way_fault(pdu, layout.header),
     }
@@ -58,18 +53,13 @@ fn tlv_fault(pdu: &[u8], layout: Layout) -> Option<usize>
 }
 
 // Refusal 6 of a PDU in which a TLV breaks a rule. It takes the PDU alone and chooses its layout anew, so that an accepted frame keeps nothing for it. There is
-// a layout and a place, since a rule is broken: both other returns are never taken.
+// a layout and a place, since a rule is broken.
 pub fn bad_tlv(pdu: &[u8]) -> Refusal
     requires { Sized pdu.now × (is_found (fault_in pdu.now) ≡ true) }
     ensures { RefusesAt BadTlv (fault_in pdu.now) result }
 {
-    let Some(layout) = select_layout(pdu[PDU_TYPE]) else {
-        return Refusal::NotHello;
-    };
-    let fault = tlv_fault(pdu, layout);
-    let Some(at) = fault else {
-        return Refusal::NotHello;
-    };
+    let layout = select_layout(pdu[PDU_TYPE]).unwrap();
+    let at = tlv_fault(pdu, layout).unwrap();
     Refusal::BadTlv {
         position: position_of(at),
     }

@@ -36,8 +36,7 @@ pub struct Layout {
 pub fn select_layout(octet: u8) -> Option<Layout>
     ensures { result ≡ layout_of octet }
 {
-    let t = octet % 32;
-    match t {
+    match octet % 32 {
         15 => Some(Layout {
             header: 27,
             level: 1,
@@ -57,29 +56,10 @@ pub fn select_layout(octet: u8) -> Option<Layout>
     }
 }
 
-// Whether two kinds are one.
-pub fn is_same_kind(a: CircuitKind, b: CircuitKind) -> bool
-    ensures { result ≡ same_kind a b }
-{
-    match a {
-        CircuitKind::Lan => match b {
-            CircuitKind::Lan => true,
-            CircuitKind::P2p => false,
-        },
-        CircuitKind::P2p => match b {
-            CircuitKind::Lan => false,
-            CircuitKind::P2p => true,
-        },
-    }
-}
-
 fn is_id_length(n: u8) -> bool
     ensures { result ≡ id_length_ok n }
 {
-    if n == 0 {
-        return true;
-    }
-    n == 6
+    (n == 0) | (n == 6)
 }
 
 // Refusal 3, but for the PDU type.

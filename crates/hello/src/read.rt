@@ -8,7 +8,7 @@ ghost use Rattle.hello.specs.Hello.{of_kind, link_read, tlvs_read, pdu_read, lay
 use crate::faults::{bad_tlv, position_of};
 use crate::header::{
     CIRCUIT_TYPE, HOLDING_TIME, Layout, PDU_LENGTH, PDU_TYPE, PRIORITY, SOURCE_ID, is_bad_length,
-    is_not_hello, is_same_kind, select_layout,
+    is_not_hello, select_layout,
 };
 use crate::reverse::{ReverseMetric, read_reverse};
 use crate::three_way::{ThreeWay, read_three_way};
@@ -44,12 +44,9 @@ fn read_lan(pdu: &[u8], layout: Layout, count: usize, mac: u64) -> Result<Link, 
     requires { (20 ≤ length pdu.now) × (count ≡ length (of_kind 6 layout pdu.now)) }
     ensures { result ≡ link_read CircuitKind.Lan layout mac pdu.now }
 {
-    let level = layout.level;
-    let Ok(listed) = read_lists(pdu, layout.header, count, mac) else {
-        return Err(BrokenRule);
-    };
+    let listed = read_lists(pdu, layout.header, count, mac)?;
     Ok(Link::Lan {
-        level,
+        level: layout.level,
         priority: pdu[PRIORITY] % 128,
         listed,
     })
@@ -59,18 +56,14 @@ fn read_p2p(pdu: &[u8], layout: Layout, count: usize, mac: u64) -> Result<Link, 
     requires { count ≡ length (of_kind 240 layout pdu.now) }
     ensures { result ≡ link_read CircuitKind.P2p layout mac pdu.now }
 {
-    let Ok(three_way) = read_three_way(pdu, layout.header, count) else {
-        return Err(BrokenRule);
-    };
-    Ok(Link::P2p(three_way))
+    Ok(Link::P2p(read_three_way(pdu, layout.header, count)?))
 }
 
 fn read_link(pdu: &[u8], layout: Layout, counts: Counts, mac: u64) -> Result<Link, BrokenRule>
     requires { (20 ≤ length pdu.now) × (counts ≡ counts_of (tlvs pdu.now layout.header)) }
     ensures { result ≡ link_read layout.kind layout mac pdu.now }
 {
-    let kind = layout.kind;
-    match kind {
+    match layout.kind {
         CircuitKind::Lan => read_lan(pdu, layout, counts.neighbours, mac),
         CircuitKind::P2p => read_p2p(pdu, layout, counts.threeway, mac),
     }
@@ -142,8 +135,7 @@ pub fn read_hello(frame: &[u8], kind: CircuitKind, mac: u64) -> Result<Hello, Re
     let Some(layout) = select_layout(frame[PDU_TYPE]) else {
         return Err(Refusal::NotHello);
     };
-    let own = layout.kind;
-    if is_same_kind(own, kind) {
+    if layout.kind == kind {
         return read_as(frame, layout, mac);
     }
     Err(Refusal::NotHello)

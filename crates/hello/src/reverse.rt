@@ -75,15 +75,10 @@ pub fn read_reverse(
 pub fn reverse_fault(pdu: &[u8], from: usize) -> Option<usize>
     ensures { result ≡ reverse_fault (of_type 16 (tlvs pdu.now from)) }
 {
-    let found = find(pdu, from, REVERSE_METRIC);
-    let Some(at) = found else {
-        return None;
-    };
-    let None = find_after(pdu, at, REVERSE_METRIC) else {
-        return None;
-    };
-    if is_bad_reverse(value_at(pdu, at)) {
-        return Some(at);
+    let at = find(pdu, from, REVERSE_METRIC)?;
+    if find_after(pdu, at, REVERSE_METRIC).is_none() && is_bad_reverse(value_at(pdu, at)) {
+        Some(at)
+    } else {
+        None
     }
-    None
 }

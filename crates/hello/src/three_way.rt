@@ -113,8 +113,7 @@ pub fn read_three_way(pdu: &[u8], from: usize, count: usize) -> Result<ThreeWay,
 pub fn three_way_fault(pdu: &[u8], from: usize) -> Option<usize>
     ensures { result ≡ three_way_fault (length pdu.now) (of_type 240 (tlvs pdu.now from)) }
 {
-    let found = find(pdu, from, THREE_WAY);
-    let Some(at) = found else {
+    let Some(at) = find(pdu, from, THREE_WAY) else {
         return Some(pdu.len());
     };
     if is_bad_three_way(value_at(pdu, at)) {

@@ -12,10 +12,7 @@ fn is_listed_here(listed: bool, pdu: &[u8], at: usize, next: usize, mac: u64) ->
     requires { (next ≡ next_at pdu.now at) × (next ≤ length pdu.now) }
     ensures { result ≡ (listed || listed_in mac (value_at pdu.now at)) }
 {
-    if listed {
-        return true;
-    }
-    is_listed_in(pdu, at, next, mac)
+    listed || is_listed_in(pdu, at, next, mac)
 }
 
 // The list of a PDU that has one, as most have. Apart from the others it costs no loop over TLVs, and its search has more registers.

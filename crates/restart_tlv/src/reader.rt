@@ -111,10 +111,7 @@ pub fn read_restart(pdu: &[u8], from: usize, count: usize) -> Result<RestartTlv,
 pub fn restart_fault(pdu: &[u8], from: usize) -> Option<usize>
     ensures { result ≡ restart_fault (of_type 211 (tlvs pdu.now from)) }
 {
-    let found = find(pdu, from, RESTART);
-    let Some(at) = found else {
-        return None;
-    };
+    let at = find(pdu, from, RESTART)?;
     if is_bad_restart(value_at(pdu, at)) {
         return Some(at);
     }

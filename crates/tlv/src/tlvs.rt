@@ -107,8 +107,7 @@ pub fn value_at(pdu: &[u8], at: usize) -> &[u8]
     ensures { result.now ≡ value_at pdu.now at }
 {
     let from = at + 2;
-    let to = from + wide(pdu[at + 1]);
-    &pdu[from..to]
+    &pdu[from..from + wide(pdu[at + 1])]
 }
 
 // The finder: the value of the first TLV of a type from a position on, as a part of the PDU; an empty part where there is
@@ -116,23 +115,18 @@ pub fn value_at(pdu: &[u8], at: usize) -> &[u8]
 pub fn value_of(pdu: &[u8], from: usize, kind: u8) -> &[u8]
     ensures { result.now ≡ first_value (of_type kind (tlvs pdu.now from)) }
 {
-    let found = find(pdu, from, kind);
-    let Some(at) = found else {
-        return &pdu[..0];
-    };
-    value_at(pdu, at)
+    match find(pdu, from, kind) {
+        Some(at) => value_at(pdu, at),
+        None => &pdu[..0],
+    }
 }
 
 // Whether there are two at least of a type, from a position on.
 pub fn is_repeated(pdu: &[u8], from: usize, kind: u8) -> bool
     ensures { result ≡ several (of_type kind (tlvs pdu.now from)) }
 {
-    let first = find(pdu, from, kind);
-    let Some(at) = first else {
-        return false;
-    };
-    let Some(_) = find_after(pdu, at, kind) else {
-        return false;
-    };
-    true
+    match find(pdu, from, kind) {
+        Some(at) => find_after(pdu, at, kind).is_some(),
+        None => false,
+    }
 }

@@ -1,5 +1,6 @@
 -- Each return is one test of `hello_read`.
 use Rattle.hello.proofs.HelloLaws.{eight, header-least}
+use Rattle.hello.proofs.KindLaws.{same-kinds}
 use Rattle.hello.specs.Hello.{hello_read, layout_read}
 use native.Mathlib.Omega.{arith}
 use mathlib.Core.Path.{sym, ◌∙◌}
@@ -22,10 +23,14 @@ read_as-requires c =
     let f = c.in-Some.is in
     (header-least _ _ _ e f, sym e ∙ f)
 
-pub returns-then-is_same_kind : goal.returns-then-is_same_kind
+pub returns-then-eq : goal.returns-then-eq
 unfolding hello_read
-returns-then-is_same_kind c = rw (sym c.is_not_hello.ensures ∙ c.if-is_not_hello.false, sym c.select_layout.ensures ∙ c.in-Some.is, sym c.is_same_kind.ensures ∙ c.if-is_same_kind.true) c.read_as.ensures
+returns-then-eq c =
+    let k = sym (same-kinds _ _) ∙ sym c.eq.ensures ∙ c.if-eq.true in
+    rw (sym c.is_not_hello.ensures ∙ c.if-is_not_hello.false, sym c.select_layout.ensures ∙ c.in-Some.is, k) c.read_as.ensures
 
 pub returns : goal.returns
 unfolding hello_read layout_read
-returns c = rw (sym c.is_not_hello.ensures ∙ c.if-is_not_hello.false, sym c.select_layout.ensures ∙ c.in-Some.is, sym c.is_same_kind.ensures ∙ c.if-is_same_kind.false)
+returns c =
+    let k = sym (same-kinds _ _) ∙ sym c.eq.ensures ∙ c.if-eq.false in
+    rw (sym c.is_not_hello.ensures ∙ c.if-is_not_hello.false, sym c.select_layout.ensures ∙ c.in-Some.is, k)
