@@ -28,11 +28,7 @@ fn is_greater(own: Rank, priority: u8, mac: u64) -> bool
 fn marks_restart(mark: Mark) -> bool
     ensures { result ≡ marks_restart mark }
 {
-    match mark {
-        Mark::Clear => false,
-        Mark::Restart => true,
-        Mark::Planned => false,
-    }
+    mark == Mark::Restart
 }
 
 fn is_rival(own: Rank, mac: u64, state: State) -> bool
@@ -42,8 +38,7 @@ fn is_rival(own: Rank, mac: u64, state: State) -> bool
         return false;
     };
     let last = data.last;
-    let tlv = last.tlv;
-    if tlv {
+    if last.tlv {
         if marks_restart(mark) {
             return false;
         }
@@ -57,9 +52,8 @@ pub fn is_outranked_by(own: Rank, entry: Record) -> bool
     ensures { result ≡ outranks own entry }
 {
     let key = entry.key;
-    let state = entry.state;
     if key.level == own.level {
-        return is_rival(own, key.mac, state);
+        return is_rival(own, key.mac, entry.state);
     }
     false
 }

@@ -25,11 +25,7 @@ fn level_in(link: Link) -> u8
     ensures { result ≡ level_in link }
 {
     match link {
-        Link::Lan {
-            level,
-            priority: _,
-            listed: _,
-        } => level,
+        Link::Lan { level, .. } => level,
         Link::P2p(_) => 0,
     }
 }
@@ -38,12 +34,10 @@ fn level_in(link: Link) -> u8
 pub fn key_in(kind: CircuitKind, mac: u64, frame: Hello) -> Key
     ensures { result ≡ key_in kind mac frame }
 {
-    let link = frame.link;
-    let level = level_in(link);
     key_on(
         kind,
         Key {
-            level,
+            level: level_in(frame.link),
             system: frame.system,
             mac,
         },

@@ -43,8 +43,7 @@ fn last_line(mark: Mark) -> Line
     ensures { result ≡ last_line mark }
 {
     match mark {
-        Mark::Clear => Line::Five,
-        Mark::Restart => Line::Five,
+        Mark::Clear | Mark::Restart => Line::Five,
         Mark::Planned => Line::Four,
     }
 }
@@ -85,11 +84,7 @@ fn is_suppressed_by(tlv: RestartTlv, was: bool) -> bool
     match tlv {
         RestartTlv::Absent => false,
         RestartTlv::Ignored => was,
-        RestartTlv::Present {
-            flags,
-            time: _,
-            neighbor: _,
-        } => flags.has(Flags::SA),
+        RestartTlv::Present { flags, .. } => flags.has(Flags::SA),
     }
 }
 
@@ -97,12 +92,7 @@ fn is_suppressed_by(tlv: RestartTlv, was: bool) -> bool
 pub fn road_of(tlv: RestartTlv, mark: Mark, was: bool, phase: Phase, after: Phase) -> Road
     ensures { result ≡ road_of tlv mark was phase after }
 {
-    let RestartTlv::Present {
-        flags,
-        time,
-        neighbor: _,
-    } = tlv
-    else {
+    let RestartTlv::Present { flags, time, .. } = tlv else {
         return Road {
             line: last_line(mark),
             time: 0,
@@ -119,7 +109,7 @@ pub fn road_of(tlv: RestartTlv, mark: Mark, was: bool, phase: Phase, after: Phas
 fn from_clock(clock: u32, time: u16) -> u64
     ensures { result ≡ clock + time }
 {
-    clock as u64 + time as u64
+    u64::from(clock) + u64::from(time)
 }
 
 fn first_expiry(times: Times, mark: Mark) -> u64
@@ -136,8 +126,7 @@ fn third_expiry(times: Times, mark: Mark) -> u64
     ensures { result ≡ third_expiry times mark }
 {
     match mark {
-        Mark::Clear => from_clock(times.clock, times.remaining),
-        Mark::Restart => from_clock(times.clock, times.remaining),
+        Mark::Clear | Mark::Restart => from_clock(times.clock, times.remaining),
         Mark::Planned => times.expiry,
     }
 }
@@ -148,10 +137,9 @@ pub fn expiry_by(line: Line, times: Times, mark: Mark) -> u64
 {
     match line {
         Line::One => first_expiry(times, mark),
-        Line::Two => from_clock(times.clock, times.hold),
+        Line::Two | Line::Five => from_clock(times.clock, times.hold),
         Line::Three => third_expiry(times, mark),
         Line::Four => from_clock(times.clock, times.configured),
-        Line::Five => from_clock(times.clock, times.hold),
     }
 }
 
@@ -163,8 +151,7 @@ pub fn mark_by(line: Line, mark: Mark) -> Mark
         Line::One => Mark::Restart,
         Line::Two => mark,
         Line::Three => Mark::Planned,
-        Line::Four => Mark::Clear,
-        Line::Five => Mark::Clear,
+        Line::Four | Line::Five => Mark::Clear,
     }
 }
 
@@ -187,10 +174,8 @@ pub fn reply_by(line: Line, time: u16) -> Option<Reply>
     ensures { result ≡ reply_by line time }
 {
     match line {
-        Line::One => Some((Ack::Restart, time)),
-        Line::Two => Some((Ack::Restart, time)),
+        Line::One | Line::Two => Some((Ack::Restart, time)),
         Line::Three => Some((Ack::Planned, time)),
-        Line::Four => None,
-        Line::Five => None,
+        Line::Four | Line::Five => None,
     }
 }

@@ -20,11 +20,7 @@ fn priority_of(link: Link) -> u8
     ensures { result ≡ priority_of link }
 {
     match link {
-        Link::Lan {
-            level: _,
-            priority,
-            listed: _,
-        } => priority,
+        Link::Lan { priority, .. } => priority,
         Link::P2p(_) => 0,
     }
 }
@@ -34,25 +30,17 @@ fn has_tlv(tlv: RestartTlv) -> bool
 {
     match tlv {
         RestartTlv::Absent => false,
-        RestartTlv::Ignored => true,
-        RestartTlv::Present {
-            flags: _,
-            time: _,
-            neighbor: _,
-        } => true,
+        RestartTlv::Ignored | RestartTlv::Present { .. } => true,
     }
 }
 
 fn last_of(frame: Hello) -> Last
     ensures { result ≡ last_of frame }
 {
-    let link = frame.link;
-    let tlv = frame.restart;
-    let reverse = frame.reverse;
     Last {
-        priority: priority_of(link),
-        tlv: has_tlv(tlv),
-        reverse,
+        priority: priority_of(frame.link),
+        tlv: has_tlv(frame.restart),
+        reverse: frame.reverse,
     }
 }
 
@@ -110,8 +98,7 @@ fn remaining_in(after: Phase, expiry: u64, clock: u32) -> u16
 {
     match after {
         Phase::Gone => 0,
-        Phase::Init => remaining_of(expiry, clock),
-        Phase::Up => remaining_of(expiry, clock),
+        Phase::Init | Phase::Up => remaining_of(expiry, clock),
     }
 }
 

@@ -5,7 +5,7 @@ ghost use Rattle.adjacency.specs.Record.{advertised, phase_of, expiry_of, mark_o
 use hello::reverse::ReverseMetric;
 
 // Restart and Planned are never both marked, and only an UP record has either.
-#[derive(Clone, Copy)]
+#[derive(Clone, Copy, PartialEq, Eq)]
 pub enum Mark {
     Clear,
     Restart,
@@ -49,7 +49,7 @@ pub struct Record {
 }
 
 // No record, INIT or UP.
-#[derive(Clone, Copy)]
+#[derive(Clone, Copy, PartialEq, Eq)]
 pub enum Phase {
     Gone,
     Init,
@@ -70,12 +70,10 @@ pub fn is_advertised(state: State) -> bool
 pub fn phase_of(adjacency: Option<State>) -> Phase
     ensures { result ≡ phase_of adjacency }
 {
-    let Some(state) = adjacency else {
-        return Phase::Gone;
-    };
-    match state {
-        State::Init(_) => Phase::Init,
-        State::Up(_, _) => Phase::Up,
+    match adjacency {
+        None => Phase::Gone,
+        Some(State::Init(_)) => Phase::Init,
+        Some(State::Up(_, _)) => Phase::Up,
     }
 }
 
@@ -84,8 +82,7 @@ pub fn state_expiry(state: State) -> u64
     ensures { result ≡ expiry_of state }
 {
     match state {
-        State::Init(data) => data.expiry,
-        State::Up(data, _) => data.expiry,
+        State::Init(data) | State::Up(data, _) => data.expiry,
     }
 }
 
@@ -93,12 +90,9 @@ pub fn state_expiry(state: State) -> u64
 pub fn mark_of(adjacency: Option<State>) -> Mark
     ensures { result ≡ mark_of adjacency }
 {
-    let Some(state) = adjacency else {
-        return Mark::Clear;
-    };
-    match state {
-        State::Init(_) => Mark::Clear,
-        State::Up(_, mark) => mark,
+    match adjacency {
+        Some(State::Up(_, mark)) => mark,
+        Some(State::Init(_)) | None => Mark::Clear,
     }
 }
 
@@ -106,11 +100,8 @@ pub fn mark_of(adjacency: Option<State>) -> Mark
 pub fn is_suppressed(adjacency: Option<State>) -> bool
     ensures { result ≡ suppressed_of adjacency }
 {
-    let Some(state) = adjacency else {
-        return false;
-    };
-    match state {
-        State::Init(data) => data.suppressed,
-        State::Up(data, _) => data.suppressed,
+    match adjacency {
+        Some(State::Init(data) | State::Up(data, _)) => data.suppressed,
+        None => false,
     }
 }

@@ -25,11 +25,7 @@ fn is_level_off(levels: Levels, link: Link) -> bool
     ensures { result ≡ level_off levels link }
 {
     match link {
-        Link::Lan {
-            level,
-            priority: _,
-            listed: _,
-        } => !has_level(levels, level),
+        Link::Lan { level, .. } => !has_level(levels, level),
         Link::P2p(_) => false,
     }
 }
@@ -38,23 +34,17 @@ fn is_level_off(levels: Levels, link: Link) -> bool
 pub fn is_wrong_source(levels: Levels, own: u64, frame: Hello) -> bool
     ensures { result ≡ wrong_source levels own frame }
 {
-    let link = frame.link;
-    let system = frame.system;
-    if is_level_off(levels, link) {
+    if is_level_off(levels, frame.link) {
         return true;
     }
-    system == own
+    frame.system == own
 }
 
 // No record counts as not UP.
 pub fn is_up(phase: Phase) -> bool
     ensures { result ≡ is_up phase }
 {
-    match phase {
-        Phase::Gone => false,
-        Phase::Init => false,
-        Phase::Up => true,
-    }
+    phase == Phase::Up
 }
 
 // Whether a record becomes UP with a frame.
@@ -70,25 +60,18 @@ pub fn rises(before: Phase, after: Phase) -> bool
 fn is_request(tlv: RestartTlv) -> bool
     ensures { result ≡ requests tlv }
 {
-    let RestartTlv::Present {
-        flags,
-        time: _,
-        neighbor: _,
-    } = tlv
-    else {
-        return false;
-    };
-    flags.has(Flags::RR)
+    match tlv {
+        RestartTlv::Present { flags, .. } => flags.has(Flags::RR),
+        RestartTlv::Absent | RestartTlv::Ignored => false,
+    }
 }
 
 fn is_wrong_system(own: u64, ids: Identifiers) -> bool
     ensures { result ≡ wrong_system own ids }
 {
     match ids {
-        Identifiers::Absent => false,
-        Identifiers::Own(_) => false,
-        Identifiers::Neighbor(_, system) => system != own,
-        Identifiers::Whole(_, system, _) => system != own,
+        Identifiers::Absent | Identifiers::Own(_) => false,
+        Identifiers::Neighbor(_, system) | Identifiers::Whole(_, system, _) => system != own,
     }
 }
 
@@ -96,9 +79,7 @@ fn is_wrong_circuit(own: u32, ids: Identifiers) -> bool
     ensures { result ≡ wrong_circuit own ids }
 {
     match ids {
-        Identifiers::Absent => false,
-        Identifiers::Own(_) => false,
-        Identifiers::Neighbor(_, _) => false,
+        Identifiers::Absent | Identifiers::Own(_) | Identifiers::Neighbor(_, _) => false,
         Identifiers::Whole(_, _, circuit) => circuit != own,
     }
 }
@@ -149,10 +130,13 @@ pub fn is_wrong_neighbor(here: Here, wrong: Wrong, phase: Phase, frame: Hello) -
     requires { wrong ≡ wrong_of here frame.link }
     ensures { result ≡ wrong_neighbor here phase frame frame.link }
 {
-    let tlv = frame.restart;
-    let system = wrong.system;
     if wrong.id {
-        return !is_excused(is_request(tlv), is_up(phase), system, here.restarting);
+        return !is_excused(
+            is_request(frame.restart),
+            is_up(phase),
+            wrong.system,
+            here.restarting,
+        );
     }
     false
 }
@@ -174,8 +158,7 @@ fn step_p2p(phase: Phase, state: ThreeWayState) -> Phase
         ThreeWayState::Initializing => Phase::Up,
         ThreeWayState::Up => match phase {
             Phase::Gone => Phase::Gone,
-            Phase::Init => Phase::Up,
-            Phase::Up => Phase::Up,
+            Phase::Init | Phase::Up => Phase::Up,
         },
     }
 }
@@ -184,8 +167,7 @@ fn as_init(phase: Phase) -> Phase
     ensures { result ≡ as_init phase }
 {
     match phase {
-        Phase::Gone => Phase::Init,
-        Phase::Init => Phase::Init,
+        Phase::Gone | Phase::Init => Phase::Init,
         Phase::Up => Phase::Up,
     }
 }
@@ -208,14 +190,9 @@ fn step_link(here: Here, wrong: Wrong, phase: Phase, link: Link) -> Phase
     ensures { result ≡ link_step here phase link }
 {
     match link {
-        Link::Lan {
-            level: _,
-            priority: _,
-            listed,
-        } => step_lan(listed),
+        Link::Lan { listed, .. } => step_lan(listed),
         Link::P2p(three_way) => {
-            let state = three_way.state;
-            step_three_way(here.restarting, wrong.circuit, phase, state)
+            step_three_way(here.restarting, wrong.circuit, phase, three_way.state)
         }
     }
 }
@@ -234,10 +211,8 @@ pub fn step_of(here: Here, wrong: Wrong, phase: Phase, frame: Hello) -> Phase
     requires { wrong ≡ wrong_of here frame.link }
     ensures { result ≡ step_of here phase frame }
 {
-    let tlv = frame.restart;
-    let link = frame.link;
-    if is_kept_up(tlv, phase) {
+    if is_kept_up(frame.restart, phase) {
         return Phase::Up;
     }
-    step_link(here, wrong, phase, link)
+    step_link(here, wrong, phase, frame.link)
 }
