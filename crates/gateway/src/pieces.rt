@@ -80,12 +80,7 @@ pub(crate) fn end_at(
     requires { (length gateway.old ≡ gateway_words) × (length frames.now ≡ frame_octets) }
     ensures { DoesWith (Hand n (End reply.old)) (received_of result) gateway.old frames.now gateway.new frames.now reply.new }
 {
-    let taken = take_at(gateway, n);
-    match taken {
-        Err(x) => Err(x),
-        Ok((mac, start, end)) => {
-            let source = six_octets(mac);
-            receive_at(gateway, n, &source, &frames[start..end], reply)
-        }
-    }
+    let (mac, start, end) = take_at(gateway, n)?;
+    let source = six_octets(mac);
+    receive_at(gateway, n, &source, &frames[start..end], reply)
 }

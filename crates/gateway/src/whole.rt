@@ -120,12 +120,7 @@ pub(crate) fn set_up_at(gateway: &mut [u64], s: Settings) -> Result<HelloOrders,
     requires { length gateway.old ≡ gateway_words }
     ensures { SetsUpWhole (setup s) gateway.old gateway.new result }
 {
-    let r = set_up_in(&mut gateway[0..OWN_WORDS], s);
-    match r {
-        Err(x) => Err(x),
-        Ok(hellos) => {
-            drop_frames(gateway);
-            Ok(hellos)
-        }
-    }
+    let hellos = set_up_in(&mut gateway[0..OWN_WORDS], s)?;
+    drop_frames(gateway);
+    Ok(hellos)
 }

@@ -35,13 +35,10 @@ fn here_of(words: &[u64], s: Circuit) -> Here
     requires { length words.now ≡ control_words }
     ensures { result ≡ here_of (common_of words.now) s }
 {
-    let clock = clock_of(words);
-    let restarting = is_restarting(mode_of(words));
-    let own = system_of(words);
     Here {
-        clock,
-        restarting,
-        own,
+        clock: clock_of(words),
+        restarting: is_restarting(mode_of(words)),
+        own: system_of(words),
         circuit: s.id,
         hold: s.hold,
     }
@@ -63,36 +60,33 @@ fn order_in(
 {
     let i = n as usize - 1;
     let s = load_circuit(&gateway[0..CONTROL_WORDS], i);
-    let kind = s.kind;
-    let levels = s.levels;
-    let link = frame.link;
     let rank = Rank {
         level: change.level,
         priority: s.priority,
         mac: s.mac,
     };
     let a = CONTROL_WORDS + ROOM_WORDS * i;
-    let csnps = csnps_in(&gateway[a..a + ROOM_WORDS], rank, line, levels, link);
-    let before = change.before;
-    let after = change.after;
-    let rose = rises(before, after);
+    let csnps = csnps_in(
+        &gateway[a..a + ROOM_WORDS],
+        rank,
+        line,
+        s.levels,
+        frame.link,
+    );
     let x = hear(
         &mut gateway[0..CONTROL_WORDS],
-        kind,
+        s.kind,
         i,
         change.level,
-        rose,
+        rises(change.before, change.after),
         said,
     );
-    let outcome = x.outcome;
-    let freed = x.freed;
-    let hello = x.hello;
     Orders {
         reply,
         csnps,
-        outcome,
-        freed,
-        hello,
+        outcome: x.outcome,
+        freed: x.freed,
+        hello: x.hello,
         change,
     }
 }
@@ -110,14 +104,12 @@ fn is_shown(left: Option<State>) -> bool
 fn change_of(key: Key, before: Phase, left: Option<State>) -> Change
     ensures { result ≡ change_of key before left }
 {
-    let after = phase_of(left);
-    let advertised = is_shown(left);
     Change {
         level: key.level,
         system: key.system,
         before,
-        after,
-        advertised,
+        after: phase_of(left),
+        advertised: is_shown(left),
     }
 }
 
@@ -133,26 +125,21 @@ fn decide_in(
     requires { (length gateway.old ≡ own_words) × (0 < n) × (n ≤ circuits) × (11 ≤ length reply.old) × (s ≡ circuit_held gateway.old n) × (kind_of frame.link ≡ s.kind) }
     ensures { Meets (received_of result) (lift (gateway_of gateway.old) n (decided_in n s mac reply.old frame)) gateway.old gateway.new reply.new }
 {
-    let kind = s.kind;
     let here = here_of(&gateway[0..CONTROL_WORDS], s);
-    let key = key_in(kind, mac, frame);
+    let key = key_in(s.kind, mac, frame);
     let said = heard_of(frame, here.own, here.circuit);
     let a = CONTROL_WORDS + ROOM_WORDS * (n as usize - 1);
     let decided = accept_in(&mut gateway[a..a + ROOM_WORDS], here, key, frame, reply);
-    let before = decided.before;
-    let reaction = decided.reaction;
-    match reaction {
-        Err(x) => Err(x),
-        Ok((after, acknowledgement, line)) => Ok(order_in(
-            gateway,
-            n,
-            frame,
-            said,
-            acknowledgement,
-            line,
-            change_of(key, before, after),
-        )),
-    }
+    let (after, acknowledgement, line) = decided.reaction?;
+    Ok(order_in(
+        gateway,
+        n,
+        frame,
+        said,
+        acknowledgement,
+        line,
+        change_of(key, decided.before, after),
+    ))
 }
 
 // Refusal 7. The source MAC is read once it counts.
@@ -167,13 +154,11 @@ fn check_in(
     requires { (length gateway.old ≡ own_words) × (0 < n) × (n ≤ circuits) × (11 ≤ length reply.old) × (length source.now ≡ 6) × (s ≡ circuit_held gateway.old n) × (kind_of frame.link ≡ s.kind) }
     ensures { Meets (received_of result) (lift (gateway_of gateway.old) n (checked n s (big 6 source.now 0) reply.old frame)) gateway.old gateway.new reply.new }
 {
-    let levels = s.levels;
     let own = system_of(&gateway[0..CONTROL_WORDS]);
-    if is_wrong_source(levels, own, frame) {
+    if is_wrong_source(s.levels, own, frame) {
         return Err(Refusal::WrongSource);
     }
-    let mac = six(source, 0);
-    decide_in(gateway, n, s, mac, frame, reply)
+    decide_in(gateway, n, s, six(source, 0), frame, reply)
 }
 
 // Refusals 2 and 3 to 6.
@@ -188,14 +173,11 @@ fn read_in(
     requires { (length gateway.old ≡ own_words) × (0 < n) × (n ≤ circuits) × (length source.now ≡ 6) × (s ≡ circuit_held gateway.old n) }
     ensures { Meets (received_of result) (lift (gateway_of gateway.old) n (Rattle.model.specs.Receive.receive n s (big 6 source.now 0) frame.now reply.old)) gateway.old gateway.new reply.new }
 {
-    let kind = s.kind;
     if reply.len() < 11 {
         return Err(Refusal::ReplyRoom);
     }
-    match read_hello(frame, kind, s.mac) {
-        Err(x) => Err(x),
-        Ok(hello) => check_in(gateway, n, s, source, hello, reply),
-    }
+    let hello = read_hello(frame, s.kind, s.mac)?;
+    check_in(gateway, n, s, source, hello, reply)
 }
 
 // Refusal 1.

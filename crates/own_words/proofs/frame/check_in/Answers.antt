@@ -12,4 +12,4 @@ returns-then-is_wrong_source c = let a = c.args in
 
 pub returns : goal.returns
 returns c = let a = c.args in
-    along (source-right a.gateway.now a.n a.s (big 6 a.source.now 0) a.frame a.reply.now _ c.system_of-own.ensures _ c.six-mac.ensures (sym c.is_wrong_source.ensures ∙ c.if-is_wrong_source.false)) c.decide_in.ensures
+    along (source-right a.gateway.now a.n a.s (big 6 a.source.now 0) a.frame a.reply.now _ c.system_of-own.ensures _ c.six.ensures (sym c.is_wrong_source.ensures ∙ c.if-is_wrong_source.false)) c.decide_in.ensures

@@ -9,6 +9,7 @@ use Rattle.timer_parts.specs.Heard.{heard_of}
 use Rattle.model.specs.declared.answers.Change.{Change}
 use borrow.Rule.Slice.PartMut.{mid_len}
 use native.Mathlib.Omega.{arith}
+use Rattle.std.proofs.lemmas.Result.{err_from_is_err_and}
 use mathlib.Core.Path.{sym, ap, ◌∙◌}
 use Prim.Native.Nat.{◌+◌, ◌-◌}
 use Rattle.own_words.proofs.frame.decide_in.Goals as goal
@@ -30,18 +31,19 @@ order_in-requires c =
       },
     )
 
-pub returns-in-Err : goal.returns-in-Err
-returns-in-Err c =
+pub returns-in_err-after : goal.returns-in_err-after
+returns-in_err-after c =
     let a = c.args in
-    left a.gateway.now a.n a.s a.mac a.frame a.reply.now c.requires.0 c.requires.1 c.requires.2 _ _ c.here_of-here.ensures
-    c.key_in-key.ensures _ c.accept_in-decided.new.words _ _ c.in-Err.is c.accept_in-decided.ensures
+    let p = err_from_is_err_and c.from_residual.result c.from_residual.ensures.1 in
+    rw (p.1, p.2) (left a.gateway.now a.n a.s a.mac a.frame a.reply.now c.requires.0 c.requires.1 c.requires.2 _ _ c.here_of-here.ensures
+    c.key_in-key.ensures _ c.accept_in-decided.new.words _ _ c.in_err-after.was c.accept_in-decided.ensures)
 
-pub returns-in-Ok : goal.returns-in-Ok
-returns-in-Ok c =
+pub returns : goal.returns
+returns c =
     let a = c.args in
     let l = c.accept_in-decided.auto.words ∙ mid_len (room_place (a.n - 1)) (room_place (a.n - 1) + room_words) a.gateway.now (omega (arith, c.requires)) in
     let held = held_back a.gateway.now a.n a.s a.frame c.accept_in-decided.new.words c.requires.0 c.requires.1 c.requires.2 l c.requires.4 in
     let y = c.order_in in
     taken a.gateway.now a.n a.s a.mac a.frame a.reply.now c.requires.0 c.requires.1 c.requires.2 _ _ c.here_of-here.ensures
-    c.key_in-key.ensures c.accept_in-decided.new.words _ _ _ _ l y.new.gateway _ _ c.in-Ok.is c.accept_in-decided.ensures _
+    c.key_in-key.ensures c.accept_in-decided.new.words _ _ _ _ l y.new.gateway _ _ c.in_ok-after.was c.accept_in-decided.ensures _
     c.change_of.ensures (of-circuit (sym held) y.ensures)

@@ -19,4 +19,4 @@ returns c =
     λ i. record { level = c.requires.3.level i; priority = l.result.priority; mac = l.result.mac } in
     of-circuit l.ensures
     (gives a.gateway.now a.n l.result a.frame a.reply a.line a.change c.requires.0 c.requires.1 c.requires.2 _ _ _ y.new.words (omega (arith, y.auto.words)) rank
-    c.csnps_in-csnps.ensures (hears-said place c.rises-rose.ensures says y.ensures))
+    c.csnps_in-csnps.ensures (hears-said place c.rises.ensures says y.ensures))

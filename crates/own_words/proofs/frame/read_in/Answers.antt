@@ -5,6 +5,7 @@ use Rattle.own_words.specs.Words.{gateway_of}
 use Rattle.hello.proofs.KindLaws.{read-kind}
 use Rattle.basics.specs.Octets.{big}
 use Rattle.basics.specs.declared.refusal.Refusal.TheVariants.{ReplyRoom}
+use Rattle.std.proofs.lemmas.Result.{err_from_is_err_and}
 use mathlib.Core.Path.{sym, ◌∙◌}
 use Rattle.own_words.proofs.frame.read_in.Goals as goal
 
@@ -14,13 +15,14 @@ returns-then-reply-lt11 c = let a = c.args in
 
 pub check_in-requires : goal.check_in-requires
 check_in-requires c =
-    let kind = read-kind c.args.s.kind c.args.s.mac c.args.frame.now _ (sym c.read_hello.ensures ∙ c.in-Ok.is) in
+    let kind = read-kind c.args.s.kind c.args.s.mac c.args.frame.now _ (sym c.read_hello.ensures ∙ c.in_ok-hello.was) in
     (c.requires.0, c.requires.1, c.requires.2, c.if-reply-lt11.false, c.requires.3, c.requires.4, kind)
 
-pub returns-in-Err : goal.returns-in-Err
-returns-in-Err c = let a = c.args in
-    along (reads-bad (gateway_of a.gateway.now) a.n a.s (big 6 a.source.now 0) a.frame.now a.reply.now c.if-reply-lt11.false _ (sym c.read_hello.ensures ∙ c.in-Err.is)) (refuses a.gateway.now a.n a.reply.now _)
+pub returns-in_err-hello : goal.returns-in_err-hello
+returns-in_err-hello c = let a = c.args in
+    let p = err_from_is_err_and c.from_residual.result c.from_residual.ensures.1 in
+    rw (p.1, p.2) (along (reads-bad (gateway_of a.gateway.now) a.n a.s (big 6 a.source.now 0) a.frame.now a.reply.now c.if-reply-lt11.false _ (sym c.read_hello.ensures ∙ c.in_err-hello.was)) (refuses a.gateway.now a.n a.reply.now _))
 
-pub returns-in-Ok : goal.returns-in-Ok
-returns-in-Ok c = let a = c.args in
-    along (reads-good (gateway_of a.gateway.now) a.n a.s (big 6 a.source.now 0) a.frame.now a.reply.now c.if-reply-lt11.false _ (sym c.read_hello.ensures ∙ c.in-Ok.is)) c.check_in.ensures
+pub returns : goal.returns
+returns c = let a = c.args in
+    along (reads-good (gateway_of a.gateway.now) a.n a.s (big 6 a.source.now 0) a.frame.now a.reply.now c.if-reply-lt11.false _ (sym c.read_hello.ensures ∙ c.in_ok-hello.was)) c.check_in.ensures
