@@ -12,9 +12,10 @@ use Rattle.adjacency.specs.declared.place.Slot.{Slot}
 use Rattle.adjacency.specs.declared.place.Slot.TheVariants.{Free, Held, Closed}
 use Rattle.adjacency.specs.declared.record.Record.{Record}
 use Rattle.reasons.specs.Duty.{duty_with, duty_at, duty_from}
-use Rattle.reasons.specs.declared.why.Duty.{Duty}
+use Rattle.reasons.specs.declared.why.Router.{Router}
+use Rattle.std.specs.Prelude.{Option}
 
-module _ (own : Rank) (d : Duty) where
+module _ (own : Rank) (d : Option Router) where
   pub duty-held : (s : Slot) (r : Record) → s ≡ Held r → duty_with own d r ≡ duty_at own d s
   unfolding duty_at
   duty-held s r e = rw e refl

@@ -2,11 +2,7 @@
 use Prim.Native.Nat.{ℕ, ◌+◌, ◌-◌, ◌<◌, ◌≤◌}
 use mathlib.Core.Path.{◌≡◌, refl, sym, ap, ◌∙◌}
 use mathlib.Core.Bool.{Bool, true, false, not, true≢false}
-use mathlib.Core.List.{List, [], ◌∷◌}
-use mathlib.Core.Logic.{⊎_elim}
-use types.Run.{OneOf}
-use denote.Enum.Declared.{tag_of}
-use Rattle.adjacency.specs.contracts.marks.Line.{the_type}
+use mathlib.Core.List.{List}
 use native.Mathlib.Omega.{arith}
 use Rattle.basics.proofs.BoolLaws.{neither}
 use Rattle.basics.specs.Lists.{part}
@@ -25,7 +21,6 @@ use Rattle.adjacency.specs.Keys.{key_on, level_in, key_in}
 use Rattle.adjacency.specs.React.{line_in, react_of}
 use Rattle.adjacency.specs.Step.{wrong_source, level_off}
 use Rattle.adjacency.specs.declared.marks.Line.{Line}
-use Rattle.adjacency.specs.declared.marks.Line.TheVariants.{One, Two, Three, Four, Five}
 use Rattle.adjacency.specs.declared.record.Key.{Key}
 use Rattle.adjacency.specs.declared.step.Here.{Here}
 use Rattle.slots.specs.Slots.{table_of, room_words}
@@ -42,8 +37,8 @@ use Rattle.own_words.specs.Words.{gateway_of, room_place}
 use Rattle.reasons.proofs.FrameLaws.{Took, took}
 use Rattle.reasons.proofs.LineLaws.{line-restart, line-planned, line-silent}
 use Rattle.reasons.specs.Duty.{duty_in}
-use Rattle.reasons.specs.Why.{Why, NotSo, Fits, line_no, by_duty, by_line, stands_on, standing, fits_read, fits_on, unordered, no_csnps}
-use Rattle.reasons.specs.declared.why.Duty.{Duty}
+use Rattle.reasons.specs.Why.{Why, NotSo, by_duty, by_line, stands_on, standing, fits_read, fits_on, unordered, no_csnps}
+use Rattle.reasons.specs.declared.why.Router.{Router}
 use Rattle.isis_gr_why.proofs.StandingLaws.{standing_by}
 use Rattle.isis_gr_why.specs.Told.{line_told}
 use Rattle.std.specs.Prelude.{Option, Some, None, Ok}
@@ -56,7 +51,7 @@ module _ (ws ws' : List ℕ) (n : ℕ) (s : Circuit) (known : circuit_of (gatewa
   abbrev a : ℕ
   a = room_place (n - 1)
 
-  pub outranked-by : 0 < n → n ≤ circuits → (level : ℕ) (d : Duty)
+  pub outranked-by : 0 < n → n ≤ circuits → (level : ℕ) (d : Option Router)
       → d ≡ duty_in (record { level = level; priority = s.priority; mac = s.mac }) (table_of (part a (a + room_words - a) ws'))
       → (t : Circuit) (h : Hello) → circuit_of (gateway_of ws).common n ≡ Some t → level ≡ level_in h.link
       → by_duty d ≡ by_duty (duty_in (rank_of t h) (room_of (gateway_of ws') n).slots)
@@ -66,14 +61,6 @@ module _ (ws ws' : List ℕ) (n : ℕ) (s : Circuit) (known : circuit_of (gatewa
 
 pub not-unknown : (g : Gateway) (n : ℕ) (s : Circuit) → circuit_of g.common n ≡ None → circuit_of g.common n ≡ Some s → ⊥
 not-unknown g n s e k = let z : ◌≡◌ {A = ℕ} 0 1 = cc in omega arith
-
--- every line but line 1 is named
-pub by-line-fits : (line : Line) → OneOf (1 ∷ 2 ∷ 3 ∷ 4 ∷ []) (tag_of the_type line) → (d : Duty) → Fits (line_no line) ≡ by_line line d
-by-line-fits One h d = absurd (⊎_elim (λ e. omega arith) (⊎_elim (λ e. omega arith) (⊎_elim (λ e. omega arith) (λ e. omega arith))) h)
-by-line-fits Two h d = refl
-by-line-fits Three h d = refl
-by-line-fits Four h d = refl
-by-line-fits Five h d = refl
 
 -- ---- what the answer tells of the frame
 

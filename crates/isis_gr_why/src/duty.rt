@@ -8,7 +8,7 @@ ghost use Rattle.reasons.specs.Duty.{priority_in, theirs, is_tie, ahead_of, duty
 use adjacency::duty::{Rank, is_outranked_by};
 use adjacency::place::Slot;
 use adjacency::record::{Record, State};
-use reasons::why::Duty;
+use reasons::why::Router;
 use slots::slot::{PLACES, load};
 
 fn priority_in(entry: Record) -> u8
@@ -27,72 +27,68 @@ fn priority_in(entry: Record) -> u8
     }
 }
 
-fn duty_of(entry: Record) -> Duty
+fn router_of(entry: Record) -> Router
     ensures { result ≡ theirs entry }
 {
-    let key = entry.key;
-    let priority = priority_in(entry);
-    Duty::Theirs {
-        system: key.system,
-        priority,
-        mac: key.mac,
+    Router {
+        system: entry.key.system,
+        priority: priority_in(entry),
+        mac: entry.key.mac,
     }
 }
 
 // One pair, and the lower System ID.
-fn is_tie(system: u64, priority: u8, mac: u64, entry: Record) -> bool
-    ensures { result ≡ is_tie system priority mac entry }
+fn is_tie(best: Router, entry: Record) -> bool
+    ensures { result ≡ is_tie best.system best.priority best.mac entry }
 {
     let key = entry.key;
-    if priority_in(entry) != priority {
+    if priority_in(entry) != best.priority {
         return false;
     }
-    if key.mac != mac {
+    if key.mac != best.mac {
         return false;
     }
-    key.system < system
+    key.system < best.system
 }
 
 // Whether a record goes before the router that had the duty.
-fn is_ahead(own: Rank, system: u64, priority: u8, mac: u64, entry: Record) -> bool
-    ensures { result ≡ ahead_of own system priority mac entry }
+fn is_ahead(own: Rank, best: Router, entry: Record) -> bool
+    ensures { result ≡ ahead_of own best.system best.priority best.mac entry }
 {
-    let best = Rank {
+    let rank = Rank {
         level: own.level,
-        priority,
-        mac,
+        priority: best.priority,
+        mac: best.mac,
     };
-    if is_outranked_by(best, entry) {
+    if is_outranked_by(rank, entry) {
         return true;
     }
     if is_outranked_by(own, entry) {
-        return is_tie(system, priority, mac, entry);
+        return is_tie(best, entry);
     }
     false
 }
 
-// Who has it once a record is looked at too.
-fn duty_with(own: Rank, duty: Duty, entry: Record) -> Duty
+// Who has it, if not we, once a record is looked at too.
+#[tactic(auto, unfolding(reasons::specs::Duty::duty_with))]
+fn duty_with(own: Rank, duty: Option<Router>, entry: Record) -> Option<Router>
     ensures { result ≡ duty_with own duty entry }
 {
-    let Duty::Theirs {
-        system,
-        priority,
-        mac,
-    } = duty
-    else {
-        if is_outranked_by(own, entry) {
-            return duty_of(entry);
-        }
-        return Duty::Ours;
-    };
-    if is_ahead(own, system, priority, mac, entry) {
-        return duty_of(entry);
+    match duty {
+        Some(best) => if is_ahead(own, best, entry) {
+            Some(router_of(entry))
+        } else {
+            duty
+        },
+        None => if is_outranked_by(own, entry) {
+            Some(router_of(entry))
+        } else {
+            None
+        },
     }
-    duty
 }
 
-fn duty_at(words: &[u64], i: usize, own: Rank, duty: Duty) -> Duty
+fn duty_at(words: &[u64], i: usize, own: Rank, duty: Option<Router>) -> Option<Router>
     requires { (length words.now ≡ room_words) × (i < places) }
     ensures { result ≡ duty_at own duty (get_or (table_of words.now) i Free) }
 {
@@ -103,11 +99,11 @@ fn duty_at(words: &[u64], i: usize, own: Rank, duty: Duty) -> Duty
 }
 
 // Of a room.
-pub(crate) fn duty_in(words: &[u64], own: Rank) -> Duty
+pub(crate) fn duty_in(words: &[u64], own: Rank) -> Option<Router>
     requires { length words.now ≡ room_words }
     ensures { result ≡ duty_in own (table_of words.now) }
 {
-    let mut duty = Duty::Ours;
+    let mut duty = None;
     let mut i = 0;
     while i < PLACES {
         duty = duty_at(words, i, own, duty);

@@ -25,7 +25,7 @@ use adjacency::record::{Key, Phase, State, mark_of, phase_of};
 use adjacency::step::is_up;
 use control::words::{CONTROL_WORDS, circuit_of};
 use model::answers::Orders;
-use reasons::why::{Duty, Reason};
+use reasons::why::Reason;
 use restart_tlv::reader::RestartTlv;
 use restart_tlv::writer::Ack;
 use slots::slot::ROOM_WORDS;
@@ -63,18 +63,9 @@ fn why_outranked(before: &[u64], after: &[u64], n: u8, level: u8) -> Reason
         mac: s.mac,
     };
     let a = CONTROL_WORDS + ROOM_WORDS * (n as usize - 1);
-    let Duty::Theirs {
-        system,
-        priority,
-        mac,
-    } = duty_in(&after[a..a + ROOM_WORDS], rank)
-    else {
-        return Reason::NotSo;
-    };
-    Reason::Outranked {
-        system,
-        priority,
-        mac,
+    match duty_in(&after[a..a + ROOM_WORDS], rank) {
+        Some(router) => Reason::Outranked(router),
+        None => Reason::NotSo,
     }
 }
 

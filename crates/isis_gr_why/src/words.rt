@@ -96,26 +96,17 @@ fn answer_word(why: Reason) -> u64
         Reason::Released => 6,
         Reason::Cleared => 7,
         Reason::Fits(line) => 8 + SECOND * line_number(line) as u64,
-        Reason::Outranked {
-            system,
-            priority: _,
-            mac: _,
-        } => 9 + THIRD * (system % SEVENTH),
+        Reason::Outranked(router) => 9 + THIRD * (router.system % SEVENTH),
     }
 }
 
 fn pair_word(why: Reason) -> u64
     ensures { result ≡ pair_no (reason_of why) }
 {
-    let Reason::Outranked {
-        system: _,
-        priority,
-        mac,
-    } = why
-    else {
-        return 0;
-    };
-    mac % SEVENTH + SEVENTH * priority as u64
+    match why {
+        Reason::Outranked(router) => router.mac % SEVENTH + SEVENTH * router.priority as u64,
+        _ => 0,
+    }
 }
 
 pub(crate) fn reason_words(why: Reason) -> ReasonWords

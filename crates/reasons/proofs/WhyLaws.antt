@@ -35,8 +35,8 @@ use Rattle.model.specs.Step.{Receive, Release, Clear, CsnpComplete, LookUp, Link
 use Rattle.reasons.specs.Duty.{duty_in}
 use Rattle.reasons.specs.Holds.{orders_csnps, leaves, Went, NotAsAsked, Unshown, Gone, Unordered, FitsLine, Silent, WhyHolds, NotSoExactly}
 use Rattle.reasons.specs.Why.{Why, NotSo, line_no, standing, unknown, turned_away, not_advertised, gone_by, vanished, by_line, fits_read, fits_on, unordered, no_csnps, why_of}
-use Rattle.reasons.specs.declared.why.Duty.{Duty}
-use Rattle.reasons.specs.declared.why.Duty.TheVariants.{Ours, Theirs}
+use Rattle.reasons.specs.declared.why.Router.{Router}
+use Rattle.std.specs.Prelude.{Option, Some, None}
 use Rattle.reasons.specs.declared.why.Question.TheVariants.{NotAdvertised, Vanished, NoCsnps}
 use Rattle.reasons.proofs.DutyLaws.{duty-greatest, duty-ours}
 use Rattle.reasons.proofs.FrameLaws.{Took, took, took-ordered, Said, refusing, receiving, receive-said}
@@ -144,14 +144,14 @@ module _ (g : Gateway) (m mac : ℕ) (frame b : List ℕ) (n : ℕ) (k : Key) wh
     later-fits : (l : Line) → t.line ≡ l → 2 ≤ line_no l → line_no l ≤ 5 → FitsLine g call (line_no l)
     later-fits l p low high = record { frame = taken; fits = ap line_no (sym t.fits ∙ p); least = low; most = high }
 
-    line-holds : (l : Line) → t.line ≡ l → (d : Duty) → duty_in rank places ≡ d → Silent g call n k (by_line l d)
-    line-holds One p Ours u = absurd (true≢false (sym (first_fits p).some ∙ duty-ours rank places u))
-    line-holds One p (Theirs system priority own) u =
+    line-holds : (l : Line) → t.line ≡ l → (d : Option Router) → duty_in rank places ≡ d → Silent g call n k (by_line l d)
+    line-holds One p None u = absurd (true≢false (sym (first_fits p).some ∙ duty-ours rank places u))
+    line-holds One p (Some d) u =
         record {
           frame = taken;
           fits = sym t.fits ∙ p;
           lan = sym (read-kind _ _ frame t.hello t.reads) ∙ (first_fits p).lan;
-          greatest = duty-greatest rank places system priority own u;
+          greatest = duty-greatest rank places d.system d.priority d.mac u;
         }
     line-holds Two p d u = later-fits Two p (omega arith) (omega arith)
     line-holds Three p d u = later-fits Three p (omega arith) (omega arith)

@@ -27,7 +27,6 @@ use Rattle.model.specs.Receive.{here_of, rank_of}
 use Rattle.model.specs.Step.{Receive, Release, Clear, Tick, Call, At, Over, step}
 use Rattle.reasons.specs.Duty.{theirs, pair_at, is_tie}
 use Rattle.reasons.specs.Why.{Why, NotSo, Init, Suppressed, NoRecord, Refused, Expired, Released, Cleared, Fits, Outranked, line_no, standing, of_receive, why_of}
-use Rattle.reasons.specs.declared.why.Duty.TheVariants.{Theirs}
 use Rattle.reasons.specs.declared.why.Question.{Question}
 use Rattle.reasons.specs.declared.why.Question.TheVariants.{NotAdvertised, Vanished, NoCsnps}
 
@@ -143,7 +142,7 @@ pub record Greatest (own : Rank) (t : List Slot) (system priority mac : ℕ) : T
   pub place : ℕ
   pub entry : Record
   pub stands : get_or t place Free ≡ Held entry
-  pub pair : theirs entry ≡ Theirs system priority mac
+  pub pair : theirs entry ≡ record { system = system; priority = priority; mac = mac }
   pub duty : outranks own entry ≡ true
   pub most : (i : ℕ) (r : Record) → get_or t i Free ≡ Held r → outranks (pair_at own priority mac) r ≡ false
   pub lowest : (i : ℕ) (r : Record) → get_or t i Free ≡ Held r → outranks own r ≡ true → is_tie system priority mac r ≡ false

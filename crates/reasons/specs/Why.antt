@@ -17,8 +17,7 @@ use Rattle.model.specs.Step.{Receive, Release, Clear, CsnpComplete, LookUp, Link
 use Rattle.reasons.specs.Duty.{duty_in}
 use Rattle.reasons.specs.declared.why.Call.{Call as CallGiven}
 use Rattle.reasons.specs.declared.why.Call.TheVariants.{Receive as ReceiveOn, Tick as TickTo, Release as ReleaseOn, Clear as ClearOn, CsnpComplete as CsnpOn, DatabaseComplete as DatabaseOf, LookUp as LookUpOn, LinkMetric as MetricOn, NextHello as NextOn, Waiting as WaitingT1s}
-use Rattle.reasons.specs.declared.why.Duty.{Duty}
-use Rattle.reasons.specs.declared.why.Duty.TheVariants.{Ours, Theirs}
+use Rattle.reasons.specs.declared.why.Router.{Router}
 use Rattle.reasons.specs.declared.why.Question.{Question}
 use Rattle.reasons.specs.declared.why.Question.TheVariants.{NotAdvertised, Vanished, NoCsnps}
 use Rattle.reasons.specs.declared.why.Reason.{Reason}
@@ -115,12 +114,12 @@ vanished c (Some s) None = gone_by c
 
 -- ---- "why did we not order CSNPs"
 
-abbrev pub by_duty : Duty → Why
-by_duty Ours = NotSo
-by_duty (Theirs system priority mac) = Outranked system priority mac
+abbrev pub by_duty : Option Router → Why
+by_duty None = NotSo
+by_duty (Some d) = Outranked d.system d.priority d.mac
 
 -- "the fitting line from 2 to 5, or the greatest pair (priority, MAC) that has the duty"
-abbrev pub by_line : Line → Duty → Why
+abbrev pub by_line : Line → Option Router → Why
 by_line One d = by_duty d
 by_line Two d = Fits (line_no Two)
 by_line Three d = Fits (line_no Three)
@@ -181,4 +180,4 @@ reason_of ExpiredCode = Expired
 reason_of ReleasedCode = Released
 reason_of ClearedCode = Cleared
 reason_of (FitsCode line) = Fits (line_no line)
-reason_of (OutrankedCode system priority mac) = Outranked system priority mac
+reason_of (OutrankedCode d) = Outranked d.system d.priority d.mac

@@ -26,11 +26,12 @@ pub enum Call {
     Waiting,
 }
 
-// Who has the CSNP duty on a LAN: we, or the router with the greatest pair (priority, MAC).
+// A router on a LAN that has the CSNP duty before us: of those, the one with the greatest pair (priority, MAC).
 #[derive(Clone, Copy)]
-pub enum Duty {
-    Ours,
-    Theirs { system: u64, priority: u8, mac: u64 },
+pub struct Router {
+    pub system: u64,
+    pub priority: u8,
+    pub mac: u64,
 }
 
 #[derive(Clone, Copy)]
@@ -48,5 +49,5 @@ pub enum Reason {
     Cleared,
     // no CSNPs: line 2 to 5 fitted, or another router has the duty
     Fits(Line),
-    Outranked { system: u64, priority: u8, mac: u64 },
+    Outranked(Router),
 }
