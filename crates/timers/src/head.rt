@@ -118,6 +118,7 @@ pub fn end_restart(h: Head) -> Head
 }
 
 // How many T1s run.
+#[tactic(auto, using(crate::proofs::TimersLaws::count_of))]
 pub fn count_waiting(h: Head) -> u32
     ensures { (v : Serving) (e : ℕ → Entry) → result ≡ count_runs (timers_of v h e).t1s }
 {

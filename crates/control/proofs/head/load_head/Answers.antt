@@ -4,4 +4,4 @@ use mathlib.Core.Path.{◌∙◌}
 use Rattle.control.proofs.head.load_head.Goals as goal
 
 pub returns : goal.returns
-returns c = c.head_in.ensures ∙ head_at _ _ c.sealed_at-w.ensures
+returns c = c.head_in.ensures ∙ head_at _ _ c.sealed_at.ensures
