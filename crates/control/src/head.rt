@@ -71,6 +71,7 @@ fn head_in(w: u64, a: u64, b: u64, e: u64) -> Head
 }
 
 // The mode; Running in memory that was never set up.
+#[tactic(auto, unfolding(crate::specs::Words::common_of, crate::specs::Words::head_of, crate::specs::Words::head_in, timers::specs::Memory::timers_of))]
 pub fn mode_of(words: &[u64]) -> Mode
     requires { length words.now ≡ control_words }
     ensures { result ≡ (common_of words.now).timers.mode }
@@ -79,6 +80,7 @@ pub fn mode_of(words: &[u64]) -> Mode
 }
 
 // The timers' head.
+#[tactic(auto, unfolding(crate::specs::Words::head_of))]
 pub fn load_head(words: &[u64]) -> Head
     requires { length words.now ≡ control_words }
     ensures { result ≡ head_of words.now }

@@ -124,6 +124,7 @@ pub fn circuit_of(words: &[u64], n: u8) -> Chosen
 }
 
 // The held clock.
+#[tactic(auto, unfolding(crate::specs::Words::common_of))]
 pub fn clock_of(words: &[u64]) -> u32
     requires { length words.now ≡ control_words }
     ensures { result ≡ (common_of words.now).clock }
@@ -132,6 +133,7 @@ pub fn clock_of(words: &[u64]) -> u32
 }
 
 // Our own System ID.
+#[tactic(auto, unfolding(crate::specs::Words::common_of))]
 pub fn system_of(words: &[u64]) -> u64
     requires { length words.now ≡ control_words }
     ensures { result ≡ (common_of words.now).system }
@@ -151,6 +153,7 @@ fn lengths_in(w: u64) -> Lengths
 }
 
 // The timers' lengths.
+#[tactic(auto, unfolding(crate::specs::Words::common_of))]
 pub fn lengths_of(words: &[u64]) -> Lengths
     requires { length words.now ≡ control_words }
     ensures { result ≡ (common_of words.now).lengths }
