@@ -15,7 +15,7 @@ use Rattle.settings.specs.Settings.{enabled_levels}
 use Rattle.settings.proofs.SettingsLaws.{enabled-step}
 use Rattle.timers.specs.Memory.{word_count, timers_at}
 use Rattle.settings.specs.declared.circuit.Circuit.{Circuit}
-use Rattle.control.specs.Words.{control_words, seal_place, count_place, clock_place, system_place, lengths_place, head_place, serving_place, entries_place, circuits_place, sealed, count_in, count_of, circuit_at, circuits_from, head_of, serving_in, serving_of, entries_of, lengths_in, common_of}
+use Rattle.control.specs.Words.{control_words, seal_place, count_place, clock_place, system_place, lengths_place, head_place, serving_place, entries_place, circuits_place, sealed, count_in, count_of, circuit_at, circuits_from, head_of, serving_in, serving_of, entries_of, common_of}
 use Rattle.control.specs.Common.{with_clock, with_timers, circuit_of, Chooses, no_circuit}
 use Rattle.basics.specs.Mask.{circuits}
 use Rattle.std.specs.Prelude.{Some, None}
@@ -190,16 +190,3 @@ clock-set ws clock l lt =
     keeps q (inr h) = get_or-set_other ws clock_place q clock 0 (λ (z : q ≡ clock_place). omega arith)
 
 -- ---- what the code reads
-
-module _ (ws : List ℕ) where
-  pub clock-at : get_or ws clock_place 0 % 4294967296 ≡ (common_of ws).clock
-  unfolding common_of
-  clock-at = refl
-
-  pub system-at : get_or ws system_place 0 ≡ (common_of ws).system
-  unfolding common_of
-  system-at = refl
-
-  pub lengths-at : lengths_in (get_or ws lengths_place 0) ≡ (common_of ws).lengths
-  unfolding common_of
-  lengths-at = refl

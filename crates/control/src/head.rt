@@ -20,13 +20,11 @@ use timers::head::Head;
 fn mode_in(d: u64) -> Mode
     ensures { result ≡ mode_in d }
 {
-    if d == 1 {
-        return Mode::Restarting;
+    match d {
+        1 => Mode::Restarting,
+        2 => Mode::Starting,
+        _ => Mode::Running,
     }
-    if d == 2 {
-        return Mode::Starting;
-    }
-    Mode::Running
 }
 
 fn timer_in(d: u64, deadline: u64) -> Option<u64>
@@ -41,9 +39,8 @@ fn timer_in(d: u64, deadline: u64) -> Option<u64>
 fn t2_in(d: u64, n: u64, deadline: u64) -> T2
     ensures { result ≡ t2_in d n deadline }
 {
-    let timer = timer_in(d, deadline);
     T2 {
-        timer,
+        timer: timer_in(d, deadline),
         noticed: n == 1,
     }
 }
@@ -51,32 +48,30 @@ fn t2_in(d: u64, n: u64, deadline: u64) -> T2
 fn t3_in(d: u64, deadline: u64) -> T3
     ensures { result ≡ t3_in d deadline }
 {
-    if d == 0 {
-        return T3::Idle;
+    match d {
+        0 => T3::Idle,
+        1 => T3::Runs(deadline),
+        _ => T3::Expired,
     }
-    if d == 1 {
-        return T3::Runs(deadline);
-    }
-    T3::Expired
 }
 
+#[tactic(auto, unfolding(crate::specs::Words::head_in))]
 fn head_in(w: u64, a: u64, b: u64, e: u64) -> Head
     ensures { result ≡ head_in w a b e }
 {
-    let mode = mode_in(w % 4);
-    let one = t2_in(w / 4 % 2, w / 8 % 2, a);
-    let two = t2_in(w / 16 % 2, w / 32 % 2, b);
-    let t3 = t3_in(w / 64 % 4, e);
-    let t2s = T2s { one, two };
     Head {
-        mode,
+        mode: mode_in(w % 4),
         mask: (w / 256 % 65536) as u16,
-        t2s,
-        t3,
+        t2s: T2s {
+            one: t2_in(w / 4 % 2, w / 8 % 2, a),
+            two: t2_in(w / 16 % 2, w / 32 % 2, b),
+        },
+        t3: t3_in(w / 64 % 4, e),
     }
 }
 
 // The mode; Running in memory that was never set up.
+#[tactic(auto, unfolding(crate::specs::Words::common_of, crate::specs::Words::head_of, crate::specs::Words::head_in, timers::specs::Memory::timers_of))]
 pub fn mode_of(words: &[u64]) -> Mode
     requires { length words.now ≡ control_words }
     ensures { result ≡ (common_of words.now).timers.mode }
@@ -85,13 +80,13 @@ pub fn mode_of(words: &[u64]) -> Mode
 }
 
 // The timers' head.
+#[tactic(auto, unfolding(crate::specs::Words::head_of))]
 pub fn load_head(words: &[u64]) -> Head
     requires { length words.now ≡ control_words }
     ensures { result ≡ head_of words.now }
 {
-    let w = sealed_at(words, HEAD_AT);
     head_in(
-        w,
+        sealed_at(words, HEAD_AT),
         words[HEAD_AT + 1],
         words[HEAD_AT + 2],
         words[HEAD_AT + 3],
@@ -141,30 +136,21 @@ fn t3_deadline(t: T3) -> u64
     ensures { result ≡ t3_deadline t }
 {
     match t {
-        T3::Idle => 0,
         T3::Runs(deadline) => deadline,
-        T3::Expired => 0,
+        T3::Idle | T3::Expired => 0,
     }
 }
 
 fn head_word(h: Head) -> u64
     ensures { head_in result (timer_deadline h.t2s.one.timer) (timer_deadline h.t2s.two.timer) (t3_deadline h.t3) ≡ h }
 {
-    let mode = h.mode;
-    let t2s = h.t2s;
-    let t3 = h.t3;
-    let mask = h.mask;
-    let one = t2s.one;
-    let two = t2s.two;
-    let k = one.timer;
-    let l = two.timer;
-    let m = mode_digit(mode);
-    let x = timer_digit(k);
-    let n = digit(one.noticed);
-    let y = timer_digit(l);
-    let p = digit(two.noticed);
-    let z = t3_digit(t3);
-    m + 4 * x + 8 * n + 16 * y + 32 * p + 64 * z + 256 * (mask as u64)
+    mode_digit(h.mode)
+        + 4 * timer_digit(h.t2s.one.timer)
+        + 8 * digit(h.t2s.one.noticed)
+        + 16 * timer_digit(h.t2s.two.timer)
+        + 32 * digit(h.t2s.two.noticed)
+        + 64 * t3_digit(h.t3)
+        + 256 * (h.mask as u64)
 }
 
 // In memory that was set up.
@@ -172,18 +158,8 @@ pub fn store_head(words: &mut [u64], h: Head)
     requires { (length words.old ≡ control_words) × (get_or words.old seal_place 0 ≡ seal) }
     ensures { common_of words.new ≡ with_timers (timers_at (serving_of words.old) h (entries_of words.old)) (common_of words.old) }
 {
-    let w = head_word(h);
-    let t2s = h.t2s;
-    let t3 = h.t3;
-    let one = t2s.one;
-    let two = t2s.two;
-    let k = one.timer;
-    let l = two.timer;
-    let a = timer_deadline(k);
-    let b = timer_deadline(l);
-    let e = t3_deadline(t3);
-    words[HEAD_AT] = w;
-    words[HEAD_AT + 1] = a;
-    words[HEAD_AT + 2] = b;
-    words[HEAD_AT + 3] = e;
+    words[HEAD_AT] = head_word(h);
+    words[HEAD_AT + 1] = timer_deadline(h.t2s.one.timer);
+    words[HEAD_AT + 2] = timer_deadline(h.t2s.two.timer);
+    words[HEAD_AT + 3] = t3_deadline(h.t3);
 }

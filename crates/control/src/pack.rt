@@ -21,19 +21,12 @@ fn kind_digit(kind: CircuitKind) -> u64
 pub fn circuit_word(s: Circuit) -> u64
     ensures { circuit_in result s.mac s.id ≡ s }
 {
-    let kind = s.kind;
-    let levels = s.levels;
-    let priority = s.priority;
-    let hold = s.hold;
-    let metric = s.metric;
-    let k = kind_digit(kind);
-    let a = digit(levels.one);
-    let b = digit(levels.two);
-    k + 2 * a
-        + 4 * b
-        + 256 * (priority as u64)
-        + 65536 * (hold as u64)
-        + 4294967296 * (metric as u64)
+    kind_digit(s.kind)
+        + 2 * digit(s.levels.one)
+        + 4 * digit(s.levels.two)
+        + 256 * (s.priority as u64)
+        + 65536 * (s.hold as u64)
+        + 4294967296 * (s.metric as u64)
 }
 
 // The word of the T1s that there are.
@@ -47,8 +40,5 @@ pub fn serving_word(v: Serving) -> u64
 pub fn lengths_word(s: Lengths) -> u64
     ensures { lengths_in result ≡ s }
 {
-    let a = s.t1;
-    let b = s.t2;
-    let n = s.tries;
-    a as u64 + 65536 * (b as u64) + 4294967296 * (n as u64)
+    s.t1 as u64 + 65536 * (s.t2 as u64) + 4294967296 * (s.tries as u64)
 }

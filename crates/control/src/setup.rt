@@ -23,12 +23,9 @@ pub fn store_circuit(words: &mut [u64], i: usize, s: Circuit)
     requires { (length words.old ≡ control_words) × (i < circuits) }
     ensures { (circuit_at words.new i ≡ s) × ((j : ℕ) → j ≢ i → circuit_at words.new j ≡ circuit_at words.old j) }
 {
-    let w = circuit_word(s);
-    let mac = s.mac;
-    let id = s.id;
-    words[CIRCUITS_AT + 3 * i] = w;
-    words[CIRCUITS_AT + 3 * i + 1] = mac;
-    words[CIRCUITS_AT + 3 * i + 2] = id as u64;
+    words[CIRCUITS_AT + 3 * i] = circuit_word(s);
+    words[CIRCUITS_AT + 3 * i + 1] = s.mac;
+    words[CIRCUITS_AT + 3 * i + 2] = s.id as u64;
 }
 
 fn store_settings(
@@ -42,14 +39,12 @@ fn store_settings(
     requires { (length words.old ≡ control_words) × (count ≤ circuits) }
     ensures { Stores system lengths clock count v words.old words.new }
 {
-    let w = lengths_word(lengths);
-    let x = serving_word(v);
     words[SEAL_AT] = SEAL;
     words[COUNT_AT] = count as u64;
     words[CLOCK_AT] = clock as u64;
     words[SYSTEM_AT] = system;
-    words[LENGTHS_AT] = w;
-    words[SERVING_AT] = x;
+    words[LENGTHS_AT] = lengths_word(lengths);
+    words[SERVING_AT] = serving_word(v);
 }
 
 // The settings but for the circuits.
@@ -67,24 +62,16 @@ pub fn begin(words: &mut [u64], s: Basis) -> HelloOrders
     requires { (length words.old ≡ control_words) × (s.count ≤ circuits) }
     ensures { SetsControl (settings_on s (circuits_from words.old 0 circuits)) words.new (hellos_of result) }
 {
-    let lengths = s.lengths;
-    let mode = s.mode;
-    let clock = s.clock;
-    let count = s.count;
-    let system = s.system;
-    let serving = serving_for(words, count as usize);
-    let levels = levels_served(serving);
-    store_settings(words, system, lengths, clock, count, serving);
+    let serving = serving_for(words, s.count as usize);
+    store_settings(words, s.system, s.lengths, s.clock, s.count, serving);
     let start = Start {
-        mode,
-        lengths,
-        clock,
+        mode: s.mode,
+        lengths: s.lengths,
+        clock: s.clock,
         serving,
-        levels,
+        levels: levels_served(serving),
     };
     let x = start_timers(&mut words[ENTRIES_AT..ENTRIES_END], start);
-    let head = x.head;
-    let hellos = x.hellos;
-    store_head(words, head);
-    hellos
+    store_head(words, x.head);
+    x.hellos
 }

@@ -46,10 +46,8 @@ fn hear_in(words: &mut [u64], i: usize, rose: bool, d: Heard) -> HeardOrders
         rose,
         d,
     );
-    let head = x.head;
-    let orders = x.orders;
-    store_head(words, head);
-    orders
+    store_head(words, x.head);
+    x.orders
 }
 
 // An accepted hello on circuit i, from 0, of this kind, at a level, at the held clock and in the held mode; `rose`: its record becomes UP. Which T1 it
@@ -72,8 +70,7 @@ pub fn hear(
             hello: HelloOrder::Nothing,
         };
     }
-    let at = t1_place(kind, i, level);
-    hear_in(words, at, rose, d)
+    hear_in(words, t1_place(kind, i, level), rose, d)
 }
 
 // The CSNP sets of the levels `n` are complete, for the T1 in place i.
@@ -85,10 +82,8 @@ pub fn notice_csnp(words: &mut [u64], i: usize, n: Levels) -> TimerOutcome
     let h = load_head(words);
     let v = serving_of(words);
     let x = timers::events::notice_csnp(&mut words[ENTRIES_AT..ENTRIES_END], h, v, i, n);
-    let head = x.head;
-    let outcome = x.outcome;
-    store_head(words, head);
-    outcome
+    store_head(words, x.head);
+    x.outcome
 }
 
 // The databases of the levels `n` are complete.
@@ -99,10 +94,8 @@ pub fn notice_database(words: &mut [u64], n: Levels) -> TimerOutcome
     let h = load_head(words);
     let v = serving_of(words);
     let x = timers::events::notice_database(h, v, n);
-    let head = x.head;
-    let outcome = x.outcome;
-    store_head(words, head);
-    outcome
+    store_head(words, x.head);
+    x.outcome
 }
 
 fn tick_in(words: &mut [u64], clock: u32) -> TickOrders
@@ -113,11 +106,11 @@ fn tick_in(words: &mut [u64], clock: u32) -> TickOrders
     let s = lengths_of(words);
     let v = serving_of(words);
     let x = timers::events::tick_timers(&mut words[ENTRIES_AT..ENTRIES_END], h, v, s, clock);
-    let head = x.head;
-    let outcome = x.outcome;
-    let hellos = x.hellos;
-    store_head(words, head);
-    TickOrders { hellos, outcome }
+    store_head(words, x.head);
+    TickOrders {
+        hellos: x.hellos,
+        outcome: x.outcome,
+    }
 }
 
 fn tick_on(words: &mut [u64], clock: u32) -> TickOrders

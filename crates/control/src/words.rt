@@ -48,43 +48,40 @@ pub const CIRCUITS_AT: usize = 64;
 pub const CONTROL_WORDS: usize = 128;
 
 // A word of memory that was set up.
+#[tactic(auto, unfolding(crate::specs::Words::sealed))]
 pub fn sealed_at(words: &[u64], i: usize) -> u64
     requires { (length words.now ≡ control_words) × (i < control_words) }
     ensures { result ≡ sealed words.now i }
 {
-    if words[SEAL_AT] == SEAL {
-        return words[i];
-    }
-    0
+    if words[SEAL_AT] == SEAL { words[i] } else { 0 }
 }
 
 // How many circuits there are.
+#[tactic(auto, unfolding(crate::specs::Words::count_of))]
 pub fn count_of(words: &[u64]) -> usize
     requires { length words.now ≡ control_words }
     ensures { (result ≡ count_of words.now) × (result ≤ circuits) }
 {
     let n = sealed_at(words, COUNT_AT);
-    if (CIRCUITS as u64) < n {
-        return 0;
-    }
-    n as usize
+    if (CIRCUITS as u64) < n { 0 } else { n as usize }
 }
 
 fn kind_in(d: u64) -> CircuitKind
     ensures { result ≡ kind_in d }
 {
     if d == 0 {
-        return CircuitKind::Lan;
+        CircuitKind::Lan
+    } else {
+        CircuitKind::P2p
     }
-    CircuitKind::P2p
 }
 
+#[tactic(auto, unfolding(crate::specs::Words::circuit_in))]
 fn circuit_in(w: u64, mac: u64, id: u64) -> Circuit
     ensures { result ≡ circuit_in w mac id }
 {
-    let kind = kind_in(w % 2);
     Circuit {
-        kind,
+        kind: kind_in(w % 2),
         levels: Levels {
             one: w / 2 % 2 == 1,
             two: w / 4 % 2 == 1,
@@ -98,6 +95,7 @@ fn circuit_in(w: u64, mac: u64, id: u64) -> Circuit
 }
 
 // Circuit i, from 0.
+#[tactic(auto, unfolding(crate::specs::Words::circuit_at))]
 pub fn load_circuit(words: &[u64], i: usize) -> Circuit
     requires { (length words.now ≡ control_words) × (i < circuits) }
     ensures { result ≡ circuit_at words.now i }
@@ -126,6 +124,7 @@ pub fn circuit_of(words: &[u64], n: u8) -> Option<Circuit>
 }
 
 // The held clock.
+#[tactic(auto, unfolding(crate::specs::Words::common_of))]
 pub fn clock_of(words: &[u64]) -> u32
     requires { length words.now ≡ control_words }
     ensures { result ≡ (common_of words.now).clock }
@@ -134,6 +133,7 @@ pub fn clock_of(words: &[u64]) -> u32
 }
 
 // Our own System ID.
+#[tactic(auto, unfolding(crate::specs::Words::common_of))]
 pub fn system_of(words: &[u64]) -> u64
     requires { length words.now ≡ control_words }
     ensures { result ≡ (common_of words.now).system }
@@ -141,6 +141,7 @@ pub fn system_of(words: &[u64]) -> u64
     words[SYSTEM_AT]
 }
 
+#[tactic(auto, unfolding(crate::specs::Words::lengths_in))]
 fn lengths_in(w: u64) -> Lengths
     ensures { result ≡ lengths_in w }
 {
@@ -152,6 +153,7 @@ fn lengths_in(w: u64) -> Lengths
 }
 
 // The timers' lengths.
+#[tactic(auto, unfolding(crate::specs::Words::common_of))]
 pub fn lengths_of(words: &[u64]) -> Lengths
     requires { length words.now ≡ control_words }
     ensures { result ≡ (common_of words.now).lengths }
@@ -164,21 +166,17 @@ pub fn levels_of(words: &[u64]) -> Levels
     requires { length words.now ≡ control_words }
     ensures { result ≡ enabled_levels (common_of words.now).circuits }
 {
-    let count = count_of(words);
     let mut found = Levels {
         one: false,
         two: false,
     };
-    let mut i = 0;
-    while i < count {
-        let one = load_circuit(words, i);
-        let levels = one.levels;
-        found = join_levels(found, levels);
-        i += 1;
+    for i in 0..count_of(words) {
+        found = join_levels(found, load_circuit(words, i).levels);
     }
     found
 }
 
+#[tactic(auto, unfolding(crate::specs::Words::serving_in))]
 fn serving_in(w: u64) -> Serving
     ensures { result ≡ serving_in w }
 {
@@ -202,13 +200,9 @@ pub fn serving_for(words: &[u64], count: usize) -> Serving
     ensures { result ≡ serving (circuits_from words.now 0 count) }
 {
     let mut found = Serving { one: 0, two: 0 };
-    let mut i = count;
-    while 0 < i {
-        i -= 1;
+    for i in (0..count).rev() {
         let one = load_circuit(words, i);
-        let kind = one.kind;
-        let levels = one.levels;
-        found = serve_circuit(kind, levels, found);
+        found = serve_circuit(one.kind, one.levels, found);
     }
     found
 }

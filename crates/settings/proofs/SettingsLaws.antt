@@ -21,11 +21,7 @@ pub between-true : (low n high : ℕ) → between low n high ≡ true → (low �
 between-true low n high h =
     (leb-true low n (and_left (leb low n) (leb n high) h), leb-true n high (and_right (leb low n) (leb n high) h))
 
--- none is found at first, the levels of a circuit join those found before it, and at the end no more come
-pub enabled-start : (t : List Circuit) → union (record { one = false; two = false }) (enabled_levels t) ≡ enabled_levels t
-unfolding enabled_levels
-enabled-start t = refl
-
+-- the levels of a circuit join those found before it, and at the end no more come
 pub enabled-step : (l : Levels) (t : List Circuit) (i : ℕ) (d : Circuit) → i < length t
     → union l (enabled_levels (drop i t)) ≡ union (union l (get_or t i d).levels) (enabled_levels (drop (i + 1) t))
 unfolding enabled_levels some

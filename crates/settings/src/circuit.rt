@@ -27,16 +27,16 @@ pub struct Circuit {
 pub fn is_between(low: u32, n: u32, high: u32) -> bool
     ensures { result ≡ between low n high }
 {
-    (low <= n) & (n <= high)
+    low <= n && n <= high
 }
 
 // Whether a circuit's settings are in range.
+#[tactic(auto, unfolding(crate::specs::Settings::circuit_ok))]
 pub fn is_circuit_ok(s: Circuit) -> bool
     ensures { result ≡ circuit_ok s }
 {
-    let levels = s.levels;
-    let priority = is_between(0, s.priority as u32, MAX_PRIORITY);
-    let hold = is_between(1, s.hold as u32, MAX_HOLD);
-    let metric = is_between(0, s.metric, MAX_METRIC);
-    some_on(levels) & (priority & (hold & metric))
+    some_on(s.levels)
+        && is_between(0, s.priority as u32, MAX_PRIORITY)
+        && is_between(1, s.hold as u32, MAX_HOLD)
+        && is_between(0, s.metric, MAX_METRIC)
 }

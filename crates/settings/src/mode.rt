@@ -2,7 +2,7 @@
 ghost use Rattle.std.specs.Prelude.{◌≡◌};
 ghost use Rattle.settings.specs.Mode.{is_running, is_restarting, is_starting};
 
-#[derive(Clone, Copy)]
+#[derive(Clone, Copy, PartialEq, Eq)]
 pub enum Mode {
     Running,
     Restarting,
@@ -13,31 +13,19 @@ pub enum Mode {
 pub fn is_running(mode: Mode) -> bool
     ensures { result ≡ is_running mode }
 {
-    match mode {
-        Mode::Running => true,
-        Mode::Restarting => false,
-        Mode::Starting => false,
-    }
+    mode == Mode::Running
 }
 
 // Whether the router restarts with its forwarding tables as they were (RFC 8706, 3.3.1).
 pub fn is_restarting(mode: Mode) -> bool
     ensures { result ≡ is_restarting mode }
 {
-    match mode {
-        Mode::Running => false,
-        Mode::Restarting => true,
-        Mode::Starting => false,
-    }
+    mode == Mode::Restarting
 }
 
 // Whether the router starts without forwarding tables (RFC 8706, 3.3.2).
 pub fn is_starting(mode: Mode) -> bool
     ensures { result ≡ is_starting mode }
 {
-    match mode {
-        Mode::Running => false,
-        Mode::Restarting => false,
-        Mode::Starting => true,
-    }
+    mode == Mode::Starting
 }

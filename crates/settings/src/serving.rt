@@ -28,6 +28,7 @@ pub fn t1_place(kind: CircuitKind, i: usize, level: u8) -> usize
 }
 
 // The masks with one circuit more, in the lowest places.
+#[tactic(auto, unfolding(crate::specs::Serving::serving_with))]
 pub fn serve_circuit(kind: CircuitKind, levels: Levels, v: Serving) -> Serving
     requires { (v.one < 2 ^ 14) × (v.two < 2 ^ 14) }
     ensures { result ≡ serving_with kind levels v }
@@ -65,11 +66,13 @@ pub fn levels_served(v: Serving) -> Levels
 }
 
 // The levels that the T1 in place i serves.
+#[tactic(auto, unfolding(crate::specs::Serving::served_at))]
 pub fn served_at(v: Serving, i: usize) -> Levels
     requires { i < t1_places }
     ensures { result ≡ served_at v i }
 {
-    let one = has_place(v.one, i);
-    let two = has_place(v.two, i);
-    Levels { one, two }
+    Levels {
+        one: has_place(v.one, i),
+        two: has_place(v.two, i),
+    }
 }

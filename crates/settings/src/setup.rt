@@ -1,6 +1,5 @@
 // All settings, as setup takes them (document 01, "What the gateway holds").
-ghost use Rattle.std.specs.Prelude.{◌≡◌, ◌≤◌, take};
-ghost use Rattle.basics.specs.Mask.{circuits};
+ghost use Rattle.std.specs.Prelude.{◌≡◌};
 ghost use Rattle.basics.specs.Lists.{every};
 ghost use Rattle.settings.specs.Settings.{circuit_ok, lengths_ok, settings_ok};
 
@@ -25,40 +24,27 @@ pub struct Settings {
 }
 
 // Whether the lengths are in range.
+#[tactic(auto, unfolding(crate::specs::Settings::lengths_ok))]
 pub fn are_lengths_ok(s: Lengths) -> bool
     ensures { result ≡ lengths_ok s }
 {
-    let one = is_between(1, s.t1 as u32, MAX_LENGTH);
-    let two = is_between(1, s.t2 as u32, MAX_LENGTH);
-    let tries = is_between(1, s.tries as u32, MAX_TRIES);
-    one & (two & tries)
+    is_between(1, s.t1 as u32, MAX_LENGTH)
+        && is_between(1, s.t2 as u32, MAX_LENGTH)
+        && is_between(1, s.tries as u32, MAX_TRIES)
 }
 
-fn are_circuits_ok(all: [Circuit; CIRCUITS], count: usize) -> bool
-    requires { count ≤ circuits }
-    ensures { result ≡ every circuit_ok (take count all) }
+fn are_circuits_ok(all: &[Circuit]) -> bool
+    ensures { result ≡ every circuit_ok all.now }
 {
-    let mut i = 0;
-    while i < count {
-        let one = all[i];
-        if is_circuit_ok(one) {
-            i += 1;
-        } else {
-            return false;
-        }
-    }
-    true
+    all.iter().all(|one| is_circuit_ok(*one))
 }
 
 // Where not, setup is refused (12) and no gateway results.
+#[tactic(auto, unfolding(crate::specs::Settings::settings_ok))]
 pub fn are_settings_ok(s: Settings) -> bool
     ensures { result ≡ settings_ok s }
 {
-    let count = s.count;
-    let lengths = s.lengths;
-    let all = s.circuits;
-    if is_between(1, count as u32, CIRCUITS as u32) {
-        return are_circuits_ok(all, count as usize) & are_lengths_ok(lengths);
-    }
-    false
+    is_between(1, s.count as u32, CIRCUITS as u32)
+        && are_circuits_ok(&s.circuits[..s.count as usize])
+        && are_lengths_ok(s.lengths)
 }

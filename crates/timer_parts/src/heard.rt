@@ -50,15 +50,8 @@ fn shows_up(link: Link) -> bool
     ensures { result ≡ shows_up link }
 {
     match link {
-        Link::Lan {
-            level: _,
-            priority: _,
-            listed,
-        } => listed,
-        Link::P2p(said) => {
-            let state = said.state;
-            says_up(state)
-        }
+        Link::Lan { listed, .. } => listed,
+        Link::P2p(said) => says_up(said.state),
     }
 }
 
@@ -66,63 +59,56 @@ fn is_addressed(link: Link, neighbor: Option<u64>, system: u64) -> bool
     ensures { result ≡ addressed system link neighbor }
 {
     match link {
-        Link::Lan {
-            level: _,
-            priority: _,
-            listed: _,
-        } => names_system(neighbor, system),
+        Link::Lan { .. } => names_system(neighbor, system),
         Link::P2p(_) => true,
     }
 }
 
+#[tactic(auto, unfolding(crate::specs::Heard::acknowledges))]
 fn is_acknowledgement(link: Link, flags: Flags, neighbor: Option<u64>, system: u64) -> bool
     ensures { result ≡ acknowledges system link flags neighbor }
 {
-    if flags.has(Flags::RA) {
-        return is_addressed(link, neighbor, system);
-    }
-    false
+    flags.has(Flags::RA) && is_addressed(link, neighbor, system)
 }
 
+#[tactic(auto, unfolding(crate::specs::Heard::heard_without_tlv))]
 fn hear_without_tlv(link: Link, circuit: u32) -> Heard
     ensures { result ≡ heard_without_tlv circuit link }
 {
-    let Link::P2p(said) = link else {
-        return Heard::Plain;
-    };
-    let state = said.state;
-    let ids = said.ids;
-    if says_up(state) {
-        return Heard::WithoutTlv(names_circuit(ids, circuit));
+    match link {
+        Link::Lan { .. } => Heard::Plain,
+        Link::P2p(said) => Heard::WithoutTlv(
+            says_up(said.state) && names_circuit(said.ids, circuit),
+        ),
     }
-    Heard::WithoutTlv(false)
 }
 
+#[tactic(auto, unfolding(crate::specs::Heard::heard_tlv))]
 fn hear_tlv(link: Link, flags: Flags, time: u16, neighbor: Option<u64>, system: u64) -> Heard
     ensures { result ≡ heard_tlv system link flags time neighbor }
 {
     if is_acknowledgement(link, flags, neighbor, system) {
-        return Heard::Acknowledged {
+        Heard::Acknowledged {
             up: shows_up(link),
             remaining: time,
-        };
+        }
+    } else {
+        Heard::Plain
     }
-    Heard::Plain
 }
 
 // A hello on a circuit, with our own System ID and, on P2P, our own extended circuit ID there.
+#[tactic(auto, unfolding(crate::specs::Heard::heard_of))]
 pub fn heard_of(hello: Hello, system: u64, circuit: u32) -> Heard
     ensures { result ≡ heard_of system circuit hello }
 {
-    let tlv = hello.restart;
-    let link = hello.link;
-    match tlv {
-        RestartTlv::Absent => hear_without_tlv(link, circuit),
+    match hello.restart {
+        RestartTlv::Absent => hear_without_tlv(hello.link, circuit),
         RestartTlv::Ignored => Heard::Plain,
         RestartTlv::Present {
             flags,
             time,
             neighbor,
-        } => hear_tlv(link, flags, time, neighbor, system),
+        } => hear_tlv(hello.link, flags, time, neighbor, system),
     }
 }

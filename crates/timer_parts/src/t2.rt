@@ -25,18 +25,17 @@ fn start_timer(on: bool, at: u64) -> Option<u64>
 }
 
 // The T2 of each of the levels `l` runs, with the deadline `at`.
+#[tactic(auto, unfolding(crate::specs::T2::start_t2s))]
 pub fn start_t2s(l: Levels, at: u64) -> T2s
     ensures { result ≡ start_t2s l at }
 {
-    let one = start_timer(l.one, at);
-    let two = start_timer(l.two, at);
     T2s {
         one: T2 {
-            timer: one,
+            timer: start_timer(l.one, at),
             noticed: false,
         },
         two: T2 {
-            timer: two,
+            timer: start_timer(l.two, at),
             noticed: false,
         },
     }
@@ -71,13 +70,14 @@ fn expire_timer(clock: u32, k: Option<u64>) -> Option<u64>
     if deadline <= clock as u64 { None } else { k }
 }
 
+#[tactic(auto, unfolding(crate::specs::T2::expire_t2))]
 fn expire_t2(clock: u32, t: T2) -> T2
     ensures { result ≡ expire_t2 clock t }
 {
-    let k = t.timer;
-    let noticed = t.noticed;
-    let timer = expire_timer(clock, k);
-    T2 { timer, noticed }
+    T2 {
+        timer: expire_timer(clock, t.timer),
+        ..t
+    }
 }
 
 fn cancel_t2(wait: bool, t: T2) -> T2
@@ -96,95 +96,80 @@ fn cancel_t2(wait: bool, t: T2) -> T2
     t
 }
 
+#[tactic(auto, unfolding(crate::specs::T2::notice_t2))]
 fn notice_t2(on: bool, t: T2) -> T2
     ensures { result ≡ notice_t2 on t }
 {
-    let timer = t.timer;
-    if on {
-        return T2 {
-            timer,
-            noticed: true,
-        };
+    T2 {
+        noticed: on || t.noticed,
+        ..t
     }
-    t
 }
 
-// Each T2 at its deadline expires.
+// Each T2 at its deadline expires. The bodies of the three below name the two levels: one function over both, with a closure, would be longer than what it
+// replaces.
+#[tactic(auto, unfolding(crate::specs::T2::expire_both))]
 pub fn expire_both(clock: u32, t: T2s) -> T2s
     ensures { result ≡ expire_both clock t }
 {
-    let a = t.one;
-    let b = t.two;
-    let one = expire_t2(clock, a);
-    let two = expire_t2(clock, b);
-    T2s { one, two }
+    T2s {
+        one: expire_t2(clock, t.one),
+        two: expire_t2(clock, t.two),
+    }
 }
 
 // T2 cancelling, where the levels of `waits` still wait for a T1.
+#[tactic(auto, unfolding(crate::specs::T2::cancel_both))]
 pub fn cancel_both(waits: Levels, t: T2s) -> T2s
     ensures { result ≡ cancel_both waits t }
 {
-    let a = t.one;
-    let b = t.two;
-    let one = cancel_t2(waits.one, a);
-    let two = cancel_t2(waits.two, b);
-    T2s { one, two }
+    T2s {
+        one: cancel_t2(waits.one, t.one),
+        two: cancel_t2(waits.two, t.two),
+    }
 }
 
 // The databases of the levels `n` are complete.
+#[tactic(auto, unfolding(crate::specs::T2::notice_both))]
 pub fn notice_both(n: Levels, t: T2s) -> T2s
     ensures { result ≡ notice_both n t }
 {
-    let a = t.one;
-    let b = t.two;
-    let one = notice_t2(n.one, a);
-    let two = notice_t2(n.two, b);
-    T2s { one, two }
+    T2s {
+        one: notice_t2(n.one, t.one),
+        two: notice_t2(n.two, t.two),
+    }
 }
 
 // Whether some T2 runs.
+#[tactic(auto, unfolding(crate::specs::T2::any_t2))]
 pub fn any_t2(t: T2s) -> bool
     ensures { result ≡ any_t2 t }
 {
-    let a = t.one;
-    let b = t.two;
-    if t2_runs(a) {
-        return true;
-    }
-    t2_runs(b)
+    t2_runs(t.one) || t2_runs(t.two)
 }
 
 // Whether some T2 runs with a deadline after `at`.
+#[tactic(auto, unfolding(crate::specs::T2::any_after))]
 pub fn any_after(at: u64, t: T2s) -> bool
     ensures { result ≡ any_after at t }
 {
-    let a = t.one;
-    let b = t.two;
-    if t2_after(at, a) {
-        return true;
-    }
-    t2_after(at, b)
+    t2_after(at, t.one) || t2_after(at, t.two)
 }
 
 // Whether a T2 that ran before runs no more.
 fn is_over(before: T2, after: T2) -> bool
     ensures { result ≡ over before after }
 {
-    if t2_runs(before) {
-        return !t2_runs(after);
-    }
-    false
+    t2_runs(before) && !t2_runs(after)
 }
 
 // The levels whose SPF is due, from the T2s before and after.
+#[tactic(auto, unfolding(crate::specs::T2::spf_due))]
 pub fn spf_due(before: T2s, after: T2s) -> Levels
     ensures { result ≡ spf_due before after }
 {
-    let a = before.one;
-    let b = before.two;
-    let x = after.one;
-    let y = after.two;
-    let one = is_over(a, x);
-    let two = is_over(b, y);
-    Levels { one, two }
+    Levels {
+        one: is_over(before.one, after.one),
+        two: is_over(before.two, after.two),
+    }
 }

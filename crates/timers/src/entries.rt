@@ -23,24 +23,22 @@ pub const WORDS: usize = 2 * T1S;
 fn second_word(e: Entry) -> u64
     ensures { entry_of e.deadline result ≡ e }
 {
-    let sets = e.sets;
-    let tries = e.tries;
-    let a = digit(e.acked);
-    let b = digit(sets.one);
-    let d = digit(sets.two);
-    let g = digit(e.begun);
-    tries as u64 + 256 * a + 512 * b + 1024 * d + 2048 * g
+    e.tries as u64
+        + 256 * digit(e.acked)
+        + 512 * digit(e.sets.one)
+        + 1024 * digit(e.sets.two)
+        + 2048 * digit(e.begun)
 }
 
+#[tactic(auto, unfolding(crate::specs::Memory::entry_at, crate::specs::Memory::entry_of))]
 fn load_entry(words: &[u64], i: usize) -> Entry
     requires { (length words.now ≡ word_count) × (i < t1_count) }
     ensures { result ≡ entry_at words.now i }
 {
-    let a = words[2 * i];
     let b = words[2 * i + 1];
     Entry {
         begun: b / 2048 % 2 == 1,
-        deadline: a,
+        deadline: words[2 * i],
         tries: (b % 256) as u8,
         acked: b / 256 % 2 == 1,
         sets: Levels {
@@ -54,10 +52,8 @@ fn store_entry(words: &mut [u64], i: usize, e: Entry)
     requires { (length words.old ≡ word_count) × (i < t1_count) }
     ensures { (entry_at words.new i ≡ e) × ((j : ℕ) → j ≢ i → entry_at words.new j ≡ entry_at words.old j) }
 {
-    let a = e.deadline;
-    let b = second_word(e);
-    words[2 * i] = a;
-    words[2 * i + 1] = b;
+    words[2 * i] = e.deadline;
+    words[2 * i + 1] = second_word(e);
 }
 
 // The T1 in place i.
@@ -65,9 +61,10 @@ pub fn load_t1(words: &[u64], mask: u16, i: usize) -> T1
     requires { (length words.now ≡ word_count) × (i < t1_count) }
     ensures { result ≡ get_or (t1s_at mask words.now) i no_t1 }
 {
-    let runs = has_place(mask, i);
-    let entry = load_entry(words, i);
-    T1 { runs, entry }
+    T1 {
+        runs: has_place(mask, i),
+        entry: load_entry(words, i),
+    }
 }
 
 // The mask with the T1's new digit.
@@ -75,8 +72,7 @@ pub fn store_t1(words: &mut [u64], mask: u16, i: usize, t: T1) -> u16
     requires { (length words.old ≡ word_count) × (i < t1_count) }
     ensures { t1s_at result words.new ≡ set (t1s_at mask words.old) i t }
 {
-    let e = t.entry;
-    store_entry(words, i, e);
+    store_entry(words, i, t.entry);
     put_place(mask, i, t.runs)
 }
 
@@ -93,17 +89,14 @@ fn tick_t1_at(words: &mut [u64], m: Masks, i: usize, s: Lengths, clock: u32) -> 
     ensures { (t1s_at result.mask words.new ≡ set (t1s_at m.mask words.old) i (tick_t1 s clock (get_or (t1s_at m.mask words.old) i no_t1)))
         × (hello_bits result.hellos ≡ set (hello_bits m.hellos) i (hello_due s clock (get_or (t1s_at m.mask words.old) i no_t1))) }
 {
-    let old = m.mask;
-    let orders = m.hellos;
-    let t = load_t1(words, old, i);
+    let t = load_t1(words, m.mask, i);
     if !is_due(clock, t) {
         return m;
     }
-    let due = is_hello_due(s, clock, t);
-    let next = tick_t1(s, clock, t);
-    let mask = store_t1(words, old, i, next);
-    let hellos = put_place(orders, i, due);
-    Masks { mask, hellos }
+    Masks {
+        hellos: put_place(m.hellos, i, is_hello_due(s, clock, t)),
+        mask: store_t1(words, m.mask, i, tick_t1(s, clock, t)),
+    }
 }
 
 // A tick's T1 step.
@@ -113,10 +106,8 @@ pub fn tick_t1s(words: &mut [u64], mask: u16, s: Lengths, clock: u32) -> Masks
         × (hello_bits result.hellos ≡ map (hello_due s clock) (t1s_at mask words.old)) }
 {
     let mut m = Masks { mask, hellos: 0 };
-    let mut i = 0;
-    while i < T1S {
+    for i in 0..T1S {
         m = tick_t1_at(words, m, i, s, clock);
-        i += 1;
     }
     m
 }
@@ -126,9 +117,7 @@ pub fn fill_entries(words: &mut [u64], begun: bool, deadline: u64)
     requires { length words.old ≡ word_count }
     ensures { (j : ℕ) → j < t1_count → entry_at words.new j ≡ start_entry begun deadline }
 {
-    let mut i = 0;
-    while i < T1S {
+    for i in 0..T1S {
         store_entry(words, i, start_entry(begun, deadline));
-        i += 1;
     }
 }

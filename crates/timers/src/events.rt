@@ -69,46 +69,35 @@ pub struct AfterNotice {
     pub outcome: TimerOutcome,
 }
 
+#[tactic(auto, unfolding(crate::specs::Events::head_by))]
 fn start_head(s: Start) -> Head
     ensures { result ≡ start_head s }
 {
-    let mode = s.mode;
-    let lengths = s.lengths;
-    let serving = s.serving;
-    let levels = s.levels;
-    let clock = s.clock;
-    match mode {
-        Mode::Running => {
-            let none = Levels {
-                one: false,
-                two: false,
-            };
-            let t2s = start_t2s(none, 0);
-            Head {
-                mode,
-                mask: 0,
-                t2s,
-                t3: T3::Idle,
-            }
-        }
-        Mode::Restarting => {
-            let t2s = start_t2s(levels, clock as u64 + lengths.t2 as u64);
-            Head {
-                mode,
-                mask: all_t1s(serving),
-                t2s,
-                t3: T3::Runs(clock as u64 + 65535),
-            }
-        }
-        Mode::Starting => {
-            let t2s = start_t2s(levels, clock as u64 + lengths.t2 as u64);
-            Head {
-                mode,
-                mask: 0,
-                t2s,
-                t3: T3::Idle,
-            }
-        }
+    match s.mode {
+        Mode::Running => Head {
+            mode: s.mode,
+            mask: 0,
+            t2s: start_t2s(
+                Levels {
+                    one: false,
+                    two: false,
+                },
+                0,
+            ),
+            t3: T3::Idle,
+        },
+        Mode::Restarting => Head {
+            mode: s.mode,
+            mask: all_t1s(s.serving),
+            t2s: start_t2s(s.levels, s.clock as u64 + s.lengths.t2 as u64),
+            t3: T3::Runs(s.clock as u64 + 65535),
+        },
+        Mode::Starting => Head {
+            mode: s.mode,
+            mask: 0,
+            t2s: start_t2s(s.levels, s.clock as u64 + s.lengths.t2 as u64),
+            t3: T3::Idle,
+        },
     }
 }
 
@@ -117,11 +106,11 @@ pub fn start_timers(words: &mut [u64], s: Start) -> AfterStart
     requires { length words.old ≡ word_count }
     ensures { Starts s (timers_at s.serving result.head words.new) (hellos_of result.hellos) }
 {
-    let mode = s.mode;
-    let lengths = s.lengths;
-    let clock = s.clock;
-    let begun = is_restarting(mode);
-    fill_entries(words, begun, clock as u64 + lengths.t1 as u64);
+    fill_entries(
+        words,
+        is_restarting(s.mode),
+        s.clock as u64 + s.lengths.t1 as u64,
+    );
     let head = start_head(s);
     let hellos = order_hellos(head.mask, Flags::RR);
     AfterStart { head, hellos }
@@ -132,18 +121,12 @@ pub fn tick_timers(words: &mut [u64], h: Head, v: Serving, s: Lengths, clock: u3
     requires { length words.old ≡ word_count }
     ensures { Ticks s clock (timers_at v h words.old) (timers_at v result.head words.new) result.outcome (hellos_of result.hellos) }
 {
-    let mode = h.mode;
     let m = tick_t1s(words, h.mask, s, clock);
-    let mask = m.mask;
-    let hellos = order_hellos(m.hellos, again_flags(mode));
-    let mid = tick_head(v, clock, with_mask(h, mask));
-    let end = settle(v, h, mid);
-    let head = end.head;
-    let outcome = end.outcome;
+    let end = settle(v, h, tick_head(v, clock, with_mask(h, m.mask)));
     AfterTick {
-        head,
-        hellos,
-        outcome,
+        head: end.head,
+        hellos: order_hellos(m.hellos, again_flags(h.mode)),
+        outcome: end.outcome,
     }
 }
 
@@ -161,28 +144,21 @@ pub fn hear_hello(
     requires { (length words.old ≡ word_count) × (i < t1_count) × (is_running h.mode ≡ false) }
     ensures { Hears s clock i rose d (timers_at v h words.old) (timers_at v result.head words.new) result.orders }
 {
-    let mode = h.mode;
-    let m = h.mask;
-    let x = h.t3;
-    let up = is_starting(mode) & rose;
-    let t = load_t1(words, m, i);
+    let up = is_starting(h.mode) & rose;
+    let t = load_t1(words, h.mask, i);
     let hello = begin_hello(up, t);
     let first = begun_by(up, clock as u64 + s.t1 as u64, t);
-    let freed = freed_by(is_restarting(mode), d, first);
-    let l = served_at(v, i);
-    let next = hear_t1(l, d, first);
-    let mask = store_t1(words, m, i, next);
-    let t3 = hear_t3(clock, d, x);
-    let end = settle(v, h, with_t3(with_mask(h, mask), t3));
-    let head = end.head;
-    let ended = end.outcome;
-    let outcome = overload_for(up, ended);
-    let orders = HeardOrders {
-        outcome,
-        freed,
-        hello,
-    };
-    AfterHello { head, orders }
+    let freed = freed_by(is_restarting(h.mode), d, first);
+    let mask = store_t1(words, h.mask, i, hear_t1(served_at(v, i), d, first));
+    let end = settle(v, h, with_t3(with_mask(h, mask), hear_t3(clock, d, h.t3)));
+    AfterHello {
+        head: end.head,
+        orders: HeardOrders {
+            outcome: overload_for(up, end.outcome),
+            freed,
+            hello,
+        },
+    }
 }
 
 // The CSNP sets of the levels `n` are complete, for the T1 in place i.
@@ -190,15 +166,13 @@ pub fn notice_csnp(words: &mut [u64], h: Head, v: Serving, i: usize, n: Levels) 
     requires { (length words.old ≡ word_count) × (i < t1_count) }
     ensures { Closes (csnp_in i n) (timers_at v h words.old) (timers_at v result.head words.new) result.outcome }
 {
-    let m = h.mask;
-    let t = load_t1(words, m, i);
-    let l = served_at(v, i);
-    let next = satisfy(l, note(n, t));
-    let mask = store_t1(words, m, i, next);
+    let t = load_t1(words, h.mask, i);
+    let mask = store_t1(words, h.mask, i, satisfy(served_at(v, i), note(n, t)));
     let end = settle(v, h, with_mask(h, mask));
-    let head = end.head;
-    let outcome = end.outcome;
-    AfterNotice { head, outcome }
+    AfterNotice {
+        head: end.head,
+        outcome: end.outcome,
+    }
 }
 
 // The databases of the levels `n` are complete. No entry changes.
@@ -206,9 +180,10 @@ pub fn notice_database(h: Head, v: Serving, n: Levels) -> AfterNotice
     ensures { (e : ℕ → Entry) → Closes (notice_t2s n) (timers_of v h e) (timers_of v result.head e) result.outcome }
 {
     let end = settle(v, h, notice_t2s(n, h));
-    let head = end.head;
-    let outcome = end.outcome;
-    AfterNotice { head, outcome }
+    AfterNotice {
+        head: end.head,
+        outcome: end.outcome,
+    }
 }
 
 // The flags of the next hello of the T1 in place i.
@@ -216,6 +191,5 @@ pub fn next_flags(words: &[u64], h: Head, i: usize) -> Flags
     requires { (length words.now ≡ word_count) × (i < t1_count) }
     ensures { (v : Serving) → result ≡ hello_flags h.mode (get_or (timers_at v h words.now).t1s i no_t1) }
 {
-    let mode = h.mode;
-    hello_flags(mode, load_t1(words, h.mask, i))
+    hello_flags(h.mode, load_t1(words, h.mask, i))
 }

@@ -4,7 +4,7 @@ ghost use Rattle.std.specs.Prelude.{◌≡◌, ℕ};
 ghost use Rattle.basics.specs.Levels.{levels_with};
 ghost use Rattle.timer_parts.specs.declared.t1.Entry.{Entry};
 ghost use Rattle.settings.specs.declared.serving.Serving.{Serving};
-ghost use Rattle.timers.specs.Timers.{with_t1s, with_t2s, with_t3, waits, expire_t2s, cancel_t2s, notice_t2s, tick_t3, finish, count_runs, lowest_runs};
+ghost use Rattle.timers.specs.Timers.{with_t1s, with_t3, waits, expire_t2s, cancel_t2s, notice_t2s, tick_t3, finish, count_runs, lowest_runs};
 ghost use Rattle.timers.specs.Memory.{joined, timers_of, t1_bits};
 
 use basics::levels::Levels;
@@ -23,96 +23,75 @@ pub struct Head {
 }
 
 // The head with another mask of running T1s.
+#[tactic(auto, unfolding(crate::specs::Timers::with_t1s, crate::specs::Memory::timers_of))]
 pub fn with_mask(h: Head, mask: u16) -> Head
     ensures { (v : Serving) (e : ℕ → Entry) → timers_of v result e ≡ with_t1s (timers_of v h e) (joined (t1_bits mask) e) }
 {
-    let mode = h.mode;
-    let t2s = h.t2s;
-    let t3 = h.t3;
-    Head {
-        mode,
-        mask,
-        t2s,
-        t3,
-    }
-}
-
-// The head with other T2s.
-fn with_t2s(h: Head, t2s: T2s) -> Head
-    ensures { (v : Serving) (e : ℕ → Entry) → timers_of v result e ≡ with_t2s (timers_of v h e) t2s }
-{
-    let mode = h.mode;
-    let t3 = h.t3;
-    Head {
-        mode,
-        mask: h.mask,
-        t2s,
-        t3,
-    }
+    Head { mask, ..h }
 }
 
 // The head with another T3.
+#[tactic(auto, unfolding(crate::specs::Timers::with_t3, crate::specs::Memory::timers_of))]
 pub fn with_t3(h: Head, t3: T3) -> Head
     ensures { (v : Serving) (e : ℕ → Entry) → timers_of v result e ≡ with_t3 (timers_of v h e) t3 }
 {
-    let mode = h.mode;
-    let t2s = h.t2s;
-    Head {
-        mode,
-        mask: h.mask,
-        t2s,
-        t3,
-    }
+    Head { t3, ..h }
 }
 
 // The levels whose T2 waits: each, while a T1 runs that serves it.
 fn waiting_levels(v: Serving, h: Head) -> Levels
     ensures { (e : ℕ → Entry) → result ≡ levels_with (λ k. waits k (timers_of v h e)) }
 {
-    let one = share_place(v.one, h.mask);
-    let two = share_place(v.two, h.mask);
-    Levels { one, two }
+    Levels {
+        one: share_place(v.one, h.mask),
+        two: share_place(v.two, h.mask),
+    }
 }
 
 // T2 cancelling.
+#[tactic(auto, unfolding(crate::specs::Timers::cancel_t2s, crate::specs::Timers::with_t2s, crate::specs::Memory::timers_of))]
 pub fn cancel_t2s(v: Serving, h: Head) -> Head
     ensures { (e : ℕ → Entry) → timers_of v result e ≡ cancel_t2s (timers_of v h e) }
 {
-    let both = h.t2s;
-    let waits = waiting_levels(v, h);
-    with_t2s(h, cancel_both(waits, both))
+    Head {
+        t2s: cancel_both(waiting_levels(v, h), h.t2s),
+        ..h
+    }
 }
 
+#[tactic(auto, unfolding(crate::specs::Timers::expire_t2s, crate::specs::Timers::with_t2s, crate::specs::Memory::timers_of))]
 fn expire_t2s(clock: u32, h: Head) -> Head
     ensures { (v : Serving) (e : ℕ → Entry) → timers_of v result e ≡ expire_t2s clock (timers_of v h e) }
 {
-    let both = h.t2s;
-    with_t2s(h, expire_both(clock, both))
+    Head {
+        t2s: expire_both(clock, h.t2s),
+        ..h
+    }
 }
 
 // The databases of the levels `n` are complete.
+#[tactic(auto, unfolding(crate::specs::Timers::notice_t2s, crate::specs::Timers::with_t2s, crate::specs::Memory::timers_of))]
 pub fn notice_t2s(n: Levels, h: Head) -> Head
     ensures { (v : Serving) (e : ℕ → Entry) → timers_of v result e ≡ notice_t2s n (timers_of v h e) }
 {
-    let both = h.t2s;
-    with_t2s(h, notice_both(n, both))
+    Head {
+        t2s: notice_both(n, h.t2s),
+        ..h
+    }
 }
 
 fn tick_t3(clock: u32, h: Head) -> Head
     ensures { (v : Serving) (e : ℕ → Entry) → timers_of v result e ≡ tick_t3 clock (timers_of v h e) }
 {
-    let mode = h.mode;
-    let t2s = h.t2s;
-    let t3 = h.t3;
-    if expires_t3(clock, t2s, t3) {
-        return Head {
-            mode,
+    if expires_t3(clock, h.t2s, h.t3) {
+        Head {
             mask: 0,
-            t2s,
             t3: T3::Expired,
-        };
+            ..h
+        }
+    } else {
+        h
     }
-    h
 }
 
 // A tick's steps after T1: T2 expiry, T2 cancelling, T3.
@@ -126,19 +105,20 @@ pub fn tick_head(v: Serving, clock: u32, h: Head) -> Head
 pub fn end_restart(h: Head) -> Head
     ensures { (v : Serving) (e : ℕ → Entry) → timers_of v result e ≡ finish (timers_of v h e) }
 {
-    let t2s = h.t2s;
-    if any_t2(t2s) {
-        return h;
-    }
-    Head {
-        mode: Mode::Running,
-        mask: 0,
-        t2s,
-        t3: T3::Idle,
+    if any_t2(h.t2s) {
+        h
+    } else {
+        Head {
+            mode: Mode::Running,
+            mask: 0,
+            t3: T3::Idle,
+            ..h
+        }
     }
 }
 
 // How many T1s run.
+#[tactic(auto, using(crate::proofs::TimersLaws::count_of))]
 pub fn count_waiting(h: Head) -> u32
     ensures { (v : Serving) (e : ℕ → Entry) → result ≡ count_runs (timers_of v h e).t1s }
 {

@@ -22,15 +22,13 @@ pub enum HelloOrder {
 }
 
 // A hello with these flags for each T1 of a mask.
+#[tactic(auto, unfolding(crate::specs::Hellos::ordering))]
 pub fn order_hellos(t1s: u16, flags: Flags) -> HelloOrders
     ensures { hellos_of result ≡ ordering flags.bits (hello_bits t1s) }
 {
-    if any_place(t1s) {
-        return HelloOrders { t1s, flags };
-    }
     HelloOrders {
         t1s,
-        flags: Flags::NONE,
+        flags: if any_place(t1s) { flags } else { Flags::NONE },
     }
 }
 
@@ -39,17 +37,20 @@ pub fn again_flags(mode: Mode) -> Flags
     ensures { result.bits ≡ again_flags mode }
 {
     if is_starting(mode) {
-        return Flags::RR.with(Flags::SA);
+        Flags::RR.with(Flags::SA)
+    } else {
+        Flags::RR
     }
-    Flags::RR
 }
 
 // The hello that a T1 begins with, where it does begin.
+#[tactic(auto, unfolding(crate::specs::Hellos::begin_hello))]
 pub fn begin_hello(up: bool, t: T1) -> HelloOrder
     ensures { result ≡ begin_hello up t }
 {
     if does_begin(up, t) {
-        return HelloOrder::Suppress;
+        HelloOrder::Suppress
+    } else {
+        HelloOrder::Nothing
     }
-    HelloOrder::Nothing
 }

@@ -38,56 +38,47 @@ pub struct Settled {
     pub outcome: TimerOutcome,
 }
 
+#[tactic(auto, unfolding(crate::specs::Outcome::overload_of))]
 fn overload_of(set: bool, clear: bool) -> Overload
     ensures { result ≡ overload_of set clear }
 {
-    if set {
-        if clear {
-            return Overload::Both;
-        }
-        return Overload::Set;
+    match (set, clear) {
+        (false, false) => Overload::Quiet,
+        (true, false) => Overload::Set,
+        (false, true) => Overload::Clear,
+        (true, true) => Overload::Both,
     }
-    if clear {
-        return Overload::Clear;
-    }
-    Overload::Quiet
 }
 
+#[tactic(auto, unfolding(crate::specs::Outcome::outcome_with))]
 fn outcome_with(ended: bool, spf: Levels, overload: Overload) -> TimerOutcome
     ensures { result ≡ outcome_with ended spf overload }
 {
     if ended {
-        return TimerOutcome::Ended { spf, overload };
+        TimerOutcome::Ended { spf, overload }
+    } else {
+        TimerOutcome::Goes { spf, overload }
     }
-    TimerOutcome::Goes { spf, overload }
 }
 
 // From the timers before a call, after its own step, and after all of it.
+#[tactic(auto, unfolding(crate::specs::Outcome::outcome_of, crate::specs::Outcome::overload_due, crate::specs::Memory::timers_of))]
 fn outcome_of(before: Head, mid: Head, after: Head) -> TimerOutcome
     ensures { (v : Serving) (d e f : ℕ → Entry) → result ≡ outcome_of (timers_of v before d) (timers_of v mid e) (timers_of v after f) }
 {
-    let old = before.t3;
-    let own = mid.t3;
-    let a = before.t2s;
-    let b = after.t2s;
-    let mode = after.mode;
-    let first = before.mode;
-    let spf = spf_due(a, b);
-    let was = is_expired(old);
-    let is = is_expired(own);
-    let ended = is_running(mode);
-    let overload = overload_of(!was & is, ended & (is | is_starting(first)));
-    outcome_with(ended, spf, overload)
+    let was = is_expired(before.t3);
+    let is = is_expired(mid.t3);
+    let ended = is_running(after.mode);
+    let overload = overload_of(!was & is, ended & (is | is_starting(before.mode)));
+    outcome_with(ended, spf_due(before.t2s, after.t2s), overload)
 }
 
 fn also_set(overload: Overload) -> Overload
     ensures { result ≡ also_set overload }
 {
     match overload {
-        Overload::Quiet => Overload::Set,
-        Overload::Set => Overload::Set,
-        Overload::Clear => Overload::Both,
-        Overload::Both => Overload::Both,
+        Overload::Quiet | Overload::Set => Overload::Set,
+        Overload::Clear | Overload::Both => Overload::Both,
     }
 }
 
@@ -98,19 +89,20 @@ fn set_if(up: bool, overload: Overload) -> Overload
 }
 
 // The outcome of an accepted hello; `up`: in the mode Starting its record becomes UP.
+#[tactic(auto, unfolding(crate::specs::Outcome::overloaded))]
 pub fn overload_for(up: bool, o: TimerOutcome) -> TimerOutcome
     ensures { result ≡ overloaded up o }
 {
     match o {
         TimerOutcome::Idle => TimerOutcome::Idle,
-        TimerOutcome::Goes { spf, overload } => {
-            let overload = set_if(up, overload);
-            TimerOutcome::Goes { spf, overload }
-        }
-        TimerOutcome::Ended { spf, overload } => {
-            let overload = set_if(up, overload);
-            TimerOutcome::Ended { spf, overload }
-        }
+        TimerOutcome::Goes { spf, overload } => TimerOutcome::Goes {
+            spf,
+            overload: set_if(up, overload),
+        },
+        TimerOutcome::Ended { spf, overload } => TimerOutcome::Ended {
+            spf,
+            overload: set_if(up, overload),
+        },
     }
 }
 
@@ -119,6 +111,8 @@ pub fn settle(v: Serving, before: Head, mid: Head) -> Settled
     ensures { (d e : ℕ → Entry) → (timers_of v result.head e ≡ finish (cancel_t2s (timers_of v mid e))) × (result.outcome ≡ outcome_of (timers_of v before d) (timers_of v mid e) (finish (cancel_t2s (timers_of v mid e)))) }
 {
     let head = end_restart(cancel_t2s(v, mid));
-    let outcome = outcome_of(before, mid, head);
-    Settled { head, outcome }
+    Settled {
+        head,
+        outcome: outcome_of(before, mid, head),
+    }
 }

@@ -4,4 +4,4 @@ use Rattle.control.proofs.HeadLaws.{head-back}
 use Rattle.control.proofs.head.head_word.Goals as goal
 
 pub returns : goal.returns
-returns c = head-back c.args.h _ _ _ _ _ _ c.mode_digit-m.ensures c.timer_digit-x.ensures c.digit-n.ensures c.timer_digit-y.ensures c.digit-p.ensures c.t3_digit-z.ensures (omega arith)
+returns c = head-back c.args.h _ _ _ _ _ _ c.mode_digit.ensures c.timer_digit.ensures c.digit.ensures c.timer_digit-2.ensures c.digit-2.ensures c.t3_digit.ensures (omega arith)

@@ -3,4 +3,4 @@ use Rattle.control.proofs.HeadLaws.{head-stored}
 use Rattle.control.proofs.head.store_head.Goals as goal
 
 pub returns : goal.returns
-returns c = head-stored c.args.words.now _ _ _ _ c.requires.0 c.args.h c.requires.1 (rw (c.timer_deadline-a.ensures, c.timer_deadline-b.ensures, c.t3_deadline-e.ensures) c.head_word-w.ensures)
+returns c = head-stored c.args.words.now _ _ _ _ c.requires.0 c.args.h c.requires.1 (rw (c.timer_deadline.ensures, c.timer_deadline-2.ensures, c.t3_deadline.ensures) c.head_word.ensures)

@@ -4,4 +4,4 @@ use Rattle.control.proofs.PackLaws.{circuit-back}
 use Rattle.control.proofs.pack.circuit_word.Goals as goal
 
 pub returns : goal.returns
-returns c = circuit-back c.args.s _ _ _ c.kind_digit-k.ensures c.digit-a.ensures c.digit-b.ensures (omega arith) (omega arith) (omega arith) (omega arith)
+returns c = circuit-back c.args.s _ _ _ c.kind_digit.ensures c.digit.ensures c.digit-2.ensures (omega arith) (omega arith) (omega arith) (omega arith)

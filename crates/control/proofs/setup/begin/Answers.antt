@@ -19,5 +19,5 @@ returns c =
     let t = y.auto.words ∙ mid_len entries_place entries_end m.new.words (omega (arith, len)) in
     let z = c.store_head in
     sets-up all c.requires.1 ws m.new.words _ z.new.words _ _
-    (all_set all c.requires.1 ws m.new.words _ refl m.ensures refl refl refl c.serving_for-serving.ensures c.levels_served-levels.ensures)
+    (all_set all c.requires.1 ws m.new.words _ refl m.ensures refl refl refl c.serving_for-serving.ensures c.levels_served.ensures)
     (put-stored m.new.words y.new.words len t z.new.words _ _ (sym m.ensures.serving) z.ensures) y.ensures

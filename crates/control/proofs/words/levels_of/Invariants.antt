@@ -1,6 +1,5 @@
 -- The invariant: the levels found, with those of the circuits from i on, are those of all circuits.
 use mathlib.Core.Path.{◌≡◌}
-use Prim.Native.Nat.{◌-◌, ◌≤◌}
 use lib.ListN.{drop}
 use Rattle.basics.specs.Levels.{union}
 use Rattle.settings.specs.Settings.{enabled_levels}
@@ -8,7 +7,4 @@ use Rattle.control.specs.Words.{common_of}
 use Rattle.control.proofs.words.levels_of.Given as goal
 
 abbrev pub invariant-loop-i : goal.invariant-loop-i
-invariant-loop-i l = (l.i ≤ l.count) × (union l.found (enabled_levels (drop l.i (common_of l.words).circuits)) ≡ enabled_levels (common_of l.words).circuits)
-
-abbrev pub decreases-loop-i : goal.decreases-loop-i
-decreases-loop-i l = l.count - l.i
+invariant-loop-i l = union l.found (enabled_levels (drop l.i (common_of l.words).circuits)) ≡ enabled_levels (common_of l.words).circuits

@@ -1,21 +1,18 @@
 -- The invariant: what is found is of the circuits from i on.
-use native.Mathlib.Omega.{arith}
 use mathlib.Core.Path.{◌∙◌}
 use Rattle.control.proofs.SetupLaws.{serving-fits, serving-step, serving-none}
 use Rattle.control.proofs.words.serving_for.Goals as goal
 
 pub loop-i-init : goal.loop-i-init
-loop-i-init c = let a = c.args in (omega arith, serving-none a.words.now a.count)
+loop-i-init c = serving-none c.args.words.now c.args.count
 
 pub serve_circuit-found-requires : goal.serve_circuit-found-requires
 serve_circuit-found-requires c =
     let l = c.loop-i in
-    serving-fits c.args.words.now l.i c.args.count l.found l.invariant.1 c.loop-i-test.true l.invariant.0 c.requires.1
+    serving-fits c.args.words.now l.i c.args.count l.found l.invariant c.loop-i-test.true l.auto.i c.requires.1
 
 pub loop-i-preserved : goal.loop-i-preserved
 loop-i-preserved c =
-    let l = c.loop-i in (
-      omega (arith, l.invariant.0),
-      c.serve_circuit-found.ensures
-          ∙ serving-step c.args.words.now l.i c.args.count l.found l.invariant.1 c.loop-i-test.true l.invariant.0 _ c.load_circuit-one.ensures,
-    )
+    let l = c.loop-i in
+    c.serve_circuit-found.ensures
+    ∙ serving-step c.args.words.now l.i c.args.count l.found l.invariant c.loop-i-test.true l.auto.i _ c.load_circuit-one.ensures

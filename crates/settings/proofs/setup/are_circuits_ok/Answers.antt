@@ -1,16 +1,20 @@
--- The invariant: the circuits are all in range where those from i on are.
+-- What `all` gives over the first circuits.
 use borrow.Author.Rules.{rules}
-use native.Mathlib.Omega.{arith}
-use mathlib.Core.Path.{sym, ◌∙◌}
-use Rattle.basics.proofs.ListLaws.{every_here, every-skip, every-end}
+use borrow.Author.Tests.{tests}
+use mathlib.Core.Bool.{Bool, ◌&&◌}
+use mathlib.Core.List.{List, [], ◌∷◌}
+use mathlib.Core.Path.{◌≡◌, refl, ap, ◌∙◌}
+use Rattle.std.specs.List.{list_all}
+use Rattle.std.proofs.lemmas.Iterator.{YieldsList-from_slice}
+use Rattle.std.proofs.lemmas.Iterator.Search.{all_from_yields_List}
+use Rattle.basics.specs.Lists.{every}
 use Rattle.settings.specs.Settings.{circuit_ok}
 use Rattle.settings.proofs.setup.are_circuits_ok.Goals as goal
 
-pub loop-i-preserved : goal.loop-i-preserved
-loop-i-preserved c = let l = c.loop-i in let a = c.args in (omega arith, l.invariant.1 ∙ every-skip circuit_ok a.count a.all l.i (search rules) _ c.loop-i-test.true (sym c.is_circuit_ok.ensures ∙ c.if-is_circuit_ok.true))
-
-pub returns-else-is_circuit_ok : goal.returns-else-is_circuit_ok
-returns-else-is_circuit_ok c = let l = c.loop-i in let a = c.args in sym (l.invariant.1 ∙ every_here circuit_ok a.count a.all l.i (search rules) _ c.loop-i-test.true (sym c.is_circuit_ok.ensures ∙ c.if-is_circuit_ok.false))
+all-every : {A : Type 0} (p : A → Bool) (xs : List A) → list_all p xs ≡ every p xs
+unfolding every
+all-every p [] = refl
+all-every p (x ∷ xs) = ap (λ (b : Bool). p x && b) (all-every p xs)
 
 pub returns : goal.returns
-returns c = let l = c.loop-i in let a = c.args in sym (l.invariant.1 ∙ every-end circuit_ok a.count a.all l.i (search rules) (omega arith))
+returns c = all_from_yields_List circuit_ok _ _ _ c.all.ensures.ran (YieldsList-from_slice _ cc) (λ x b q k. search (rules, tests)) ∙ all-every circuit_ok _

@@ -7,5 +7,5 @@ use Rattle.timers.proofs.entries.load_t1.Goals as goal
 
 pub returns : goal.returns
 returns c = let a = c.args in
-    rw (c.has_place-runs.ensures, c.load_entry-entry.ensures)
+    rw (c.has_place.ensures, c.load_entry.ensures)
     (sym (get_or-joined (t1_bits a.mask) (entry_at a.words.now) a.i (rw length-bits (omega arith))))

@@ -5,5 +5,5 @@ use Rattle.timers.proofs.entries.second_word.Goals as goal
 
 pub returns : goal.returns
 returns c = let e = c.args.e in
-    rw (c.digit-a.ensures.0, c.digit-b.ensures.0, c.digit-d.ensures.0, c.digit-g.ensures.0)
+    rw (c.digit.ensures.0, c.digit-2.ensures.0, c.digit-3.ensures.0, c.digit-4.ensures.0)
     (packs e.deadline e.tries e.acked e.sets.one e.sets.two e.begun (omega arith))

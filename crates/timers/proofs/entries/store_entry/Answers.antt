@@ -5,6 +5,6 @@ use Rattle.timers.proofs.entries.store_entry.Goals as goal
 
 pub returns : goal.returns
 returns c = let a = c.args in (
-  entry_here a.words.now a.i a.e.deadline c.second_word-b.result c.requires.0 c.requires.1 ∙ c.second_word-b.ensures,
-  λ j q. entry-else a.words.now a.i j a.e.deadline c.second_word-b.result q,
+  entry_here a.words.now a.i a.e.deadline c.second_word.result c.requires.0 c.requires.1 ∙ c.second_word.ensures,
+  λ j q. entry-else a.words.now a.i j a.e.deadline c.second_word.result q,
 )

@@ -16,7 +16,7 @@ returns c = let a = c.args in
     let e = entry_at a.words.now in
     let f = entry_at st.new.words in
     let changed =
-    c.satisfy-next.ensures ∙ ap (λ (x : Levels). satisfied x c.note.result) c.served_at-l.ensures
+    c.satisfy.ensures ∙ ap (λ (x : Levels). satisfied x c.note.result) c.served_at.ensures
     ∙ ap (satisfied l) (c.note.ensures ∙ ap (noted a.n) c.load_t1-t.ensures) in
     closes (csnp_in a.i a.n) (timers_of a.v a.h e) _ _ _
     (c.with_mask.ensures a.v f ∙ t1-stored a.v a.h st.result a.i e f (λ (x : T1). satisfied l (noted a.n x)) _ changed st.ensures

@@ -11,5 +11,5 @@ pub returns : goal.returns
 returns c = let a = c.args in
     let x = c.fill_entries in
     starts a.s c.start_head-head.result (entry_at x.new.words) _ c.start_head-head.ensures
-    (λ j k. x.ensures j k ∙ ap (λ (b : Bool). start_entry b (a.s.clock + a.s.lengths.t1)) c.is_restarting-begun.ensures)
+    (λ j k. x.ensures j k ∙ ap (λ (b : Bool). start_entry b (a.s.clock + a.s.lengths.t1)) c.is_restarting.ensures)
     c.order_hellos-hellos.ensures

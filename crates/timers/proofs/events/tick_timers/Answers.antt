@@ -12,7 +12,7 @@ returns c = let a = c.args in
     let x = c.tick_t1s-m in
     let e = entry_at a.words.now in
     let f = entry_at x.new.words in
-    let mid = to_t3-is a.v a.s a.clock x.result.mask a.h e f _ _ x.ensures.0 (c.with_mask.ensures a.v f) (c.tick_head-mid.ensures f) in
+    let mid = to_t3-is a.v a.s a.clock x.result.mask a.h e f _ _ x.ensures.0 (c.with_mask.ensures a.v f) (c.tick_head.ensures f) in
     ticks a.v a.s a.clock a.h e _ _ _ (closes (to_t3 a.s a.clock) (timers_of a.v a.h e) _ _ _ mid (c.settle-end.ensures e f))
-    (c.order_hellos-hellos.ensures ∙ ap (λ (n : ℕ). ordering n (hello_bits x.result.hellos)) c.again_flags.ensures
+    (c.order_hellos.ensures ∙ ap (λ (n : ℕ). ordering n (hello_bits x.result.hellos)) c.again_flags.ensures
     ∙ ap (ordering (again_flags a.h.mode)) x.ensures.1)

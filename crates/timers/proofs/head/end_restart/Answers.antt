@@ -8,6 +8,6 @@ pub returns-then-any_t2 : goal.returns-then-any_t2
 unfolding finish over timers_of
 returns-then-any_t2 c = λ v e. simp (← c.any_t2.ensures, c.if-any_t2.true)
 
-pub returns : goal.returns
+pub returns-else-any_t2 : goal.returns-else-any_t2
 unfolding finish over timers_of
-returns c = λ v e. simp (← c.any_t2.ensures, c.if-any_t2.false, joined-stop c.args.h.mask e)
+returns-else-any_t2 c = λ v e. simp (← c.any_t2.ensures, c.if-any_t2.false, joined-stop c.args.h.mask e)

@@ -8,6 +8,6 @@ pub returns-then-expires_t3 : goal.returns-then-expires_t3
 unfolding tick_t3 with_t1s with_t3 timers_of
 returns-then-expires_t3 c = λ v e. simp (← c.expires_t3.ensures, c.if-expires_t3.true, joined-stop c.args.h.mask e)
 
-pub returns : goal.returns
+pub returns-else-expires_t3 : goal.returns-else-expires_t3
 unfolding tick_t3 with_t1s with_t3 timers_of
-returns c = λ v e. simp (← c.expires_t3.ensures, c.if-expires_t3.false)
+returns-else-expires_t3 c = λ v e. simp (← c.expires_t3.ensures, c.if-expires_t3.false)

@@ -6,4 +6,4 @@ use Rattle.timers.proofs.head.waiting_levels.Goals as goal
 
 pub returns : goal.returns
 returns c = λ e. let a = c.args in
-    rw (c.share_place-one.ensures ∙ waits-of First a.v a.h e, c.share_place-two.ensures ∙ waits-of Second a.v a.h e)
+    rw (c.share_place.ensures ∙ waits-of First a.v a.h e, c.share_place-2.ensures ∙ waits-of Second a.v a.h e)
