@@ -30,10 +30,7 @@ fn mode_in(d: u64) -> Mode
 fn timer_in(d: u64, deadline: u64) -> Option<u64>
     ensures { result ≡ timer_in d deadline }
 {
-    if d == 1 {
-        return Some(deadline);
-    }
-    None
+    (d == 1).then_some(deadline)
 }
 
 fn t2_in(d: u64, n: u64, deadline: u64) -> T2
@@ -107,19 +104,13 @@ fn mode_digit(m: Mode) -> u64
 fn timer_digit(t: Option<u64>) -> u64
     ensures { (timer_in result (timer_deadline t) ≡ t) × (result < 2) }
 {
-    match t {
-        None => 0,
-        Some(_) => 1,
-    }
+    digit(t.is_some())
 }
 
 fn timer_deadline(t: Option<u64>) -> u64
     ensures { result ≡ timer_deadline t }
 {
-    match t {
-        None => 0,
-        Some(deadline) => deadline,
-    }
+    t.unwrap_or(0)
 }
 
 fn t3_digit(t: T3) -> u64

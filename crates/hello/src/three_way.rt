@@ -10,7 +10,7 @@ use basics::octets::{four, six};
 use tlv::tlvs::{BrokenRule, THREE_WAY, find, find_after, value_at, value_of};
 
 // The neighbour's state of this adjacency.
-#[derive(Clone, Copy)]
+#[derive(Clone, Copy, PartialEq, Eq)]
 pub enum ThreeWayState {
     Up,
     Initializing,

@@ -19,20 +19,14 @@ pub enum Heard {
 fn says_up(state: ThreeWayState) -> bool
     ensures { result ≡ says_up state }
 {
-    match state {
-        ThreeWayState::Up => true,
-        ThreeWayState::Initializing => false,
-        ThreeWayState::Down => false,
-    }
+    state == ThreeWayState::Up
 }
 
 fn names_circuit(ids: Identifiers, circuit: u32) -> bool
     ensures { result ≡ names_circuit circuit ids }
 {
     match ids {
-        Identifiers::Absent => false,
-        Identifiers::Own(_) => false,
-        Identifiers::Neighbor(_, _) => false,
+        Identifiers::Absent | Identifiers::Own(_) | Identifiers::Neighbor(_, _) => false,
         Identifiers::Whole(_, _, theirs) => theirs == circuit,
     }
 }
@@ -40,10 +34,7 @@ fn names_circuit(ids: Identifiers, circuit: u32) -> bool
 fn names_system(neighbor: Option<u64>, system: u64) -> bool
     ensures { result ≡ names_system system neighbor }
 {
-    match neighbor {
-        None => false,
-        Some(named) => named == system,
-    }
+    neighbor == Some(system)
 }
 
 fn shows_up(link: Link) -> bool

@@ -21,7 +21,7 @@ pub struct T2s {
 fn start_timer(on: bool, at: u64) -> Option<u64>
     ensures { result ≡ start_timer on at }
 {
-    if on { Some(at) } else { None }
+    on.then_some(at)
 }
 
 // The T2 of each of the levels `l` runs, with the deadline `at`.
@@ -44,30 +44,19 @@ pub fn start_t2s(l: Levels, at: u64) -> T2s
 fn t2_runs(t: T2) -> bool
     ensures { result ≡ t2_runs t }
 {
-    let k = t.timer;
-    match k {
-        None => false,
-        Some(_) => true,
-    }
+    t.timer.is_some()
 }
 
 fn t2_after(at: u64, t: T2) -> bool
     ensures { result ≡ t2_after at t }
 {
-    let k = t.timer;
-    match k {
-        None => false,
-        Some(deadline) => at < deadline,
-    }
+    t.timer.is_some_and(|deadline| at < deadline)
 }
 
 fn expire_timer(clock: u32, k: Option<u64>) -> Option<u64>
     ensures { result ≡ expire_timer clock k }
 {
-    let Some(deadline) = k else {
-        return k;
-    };
-    if deadline <= clock as u64 { None } else { k }
+    k.filter(|deadline| u64::from(clock) < *deadline)
 }
 
 #[tactic(auto, unfolding(crate::specs::T2::expire_t2))]
@@ -83,15 +72,11 @@ fn expire_t2(clock: u32, t: T2) -> T2
 fn cancel_t2(wait: bool, t: T2) -> T2
     ensures { result ≡ cancel_t2 wait t }
 {
-    let noticed = t.noticed;
     if wait {
         return t;
     }
-    if noticed {
-        return T2 {
-            timer: None,
-            noticed,
-        };
+    if t.noticed {
+        return T2 { timer: None, ..t };
     }
     t
 }
