@@ -1,12 +1,16 @@
 -- The laws of a search: the answer of the whole is that of what is left, and what an answer says of the room.
-use Prim.Native.Nat.{ℕ, suc, ◌+◌, ◌<◌, ◌≤◌}
+use Prim.Native.Nat.{ℕ, zero, suc, ◌+◌, ◌<◌, ◌≤◌}
+use Rattle.std.specs.Option.{MatchOption, unwrap_or}
+use Rattle.std.specs.Prelude.{Option, Some, None}
 use native.Mathlib.Omega.{arith}
 use native.Mathlib.Numerals.{add-one}
-use mathlib.Core.Path.{◌≡◌, refl}
+use mathlib.Core.Path.{◌≡◌, refl, ap, sym, ◌∙◌}
 use mathlib.Core.Bool.{Bool, true, false, true≢false}
 use mathlib.Core.List.{List, [], ◌∷◌}
 use lib.ListN.{length, get_or, drop, drop_of_length-le}
 use lib.Seq.{drop-cons}
+use Rattle.std.specs.List.{list_any, range_with_len}
+use Rattle.slots.specs.Slots.{places}
 use Rattle.basics.proofs.BoolLaws.{by-test}
 use Rattle.adjacency.specs.declared.record.Key.{Key}
 use Rattle.adjacency.specs.declared.record.Adjacency.TheVariants.{Absent}
@@ -75,3 +79,50 @@ key-held k Closed e = e
 
 pub key-stands : (k : Key) (t : List Slot) → first_of (has_key k) t < length t → is_held (get_or t (first_of (has_key k) t) Free) ≡ true
 key-stands k t l = key-held k (get_or t (first_of (has_key k) t) Free) (first-true (has_key k) t l)
+
+-- what `find` and `any` over the places have answered
+
+first-is : (p : Slot → Bool) (t : List Slot) (i : ℕ) → i < length t → p (get_or t i Free) ≡ true → ((k : ℕ) → k < i → p (get_or t k Free) ≡ false)
+    → i ≡ first_of p t
+first-is p [] i lt e h = absurd (omega arith)
+first-is p (s ∷ t) zero lt e h = rw e refl
+first-is p (s ∷ t) (suc i) lt e h =
+    let go : i ≡ first_of p t = first-is p t i (omega arith) e (λ k l. h (suc k) (omega arith)) in
+    let skip : p s ≡ false = h 0 (omega arith) in
+    rw skip (ap suc go)
+
+first-past : (p : Slot → Bool) (t : List Slot) → ((k : ℕ) → k < length t → p (get_or t k Free) ≡ false) → length t ≡ first_of p t
+first-past p [] h = refl
+first-past p (s ∷ t) h =
+    let go : length t ≡ first_of p t = first-past p t (λ k l. h (suc k) (omega arith)) in
+    let skip : p s ≡ false = h 0 (omega arith) in
+    rw skip (ap suc go)
+
+-- the places of t from the i-th on
+any-from : (p : Slot → Bool) (t u : List Slot) (i n : ℕ) → ((k m : ℕ) → m ≡ i + k → k < length u → get_or t m Free ≡ get_or u k Free) → length u ≡ n
+    → list_any (λ i. p (get_or t i Free)) (range_with_len i n) ≡ some p u
+unfolding some
+any-from p t [] i zero h l = refl
+any-from p t [] i (suc n) h l = absurd (omega arith)
+any-from p t (s ∷ u) i zero h l = absurd (omega arith)
+any-from p t (s ∷ u) i (suc n) h l = 
+    let here : get_or t i Free ≡ s = h 0 i (omega arith) (omega arith) in
+    let go : list_any (λ i. p (get_or t i Free)) (range_with_len (i + 1) n) ≡ some p u = any-from p t u (i + 1) n (λ k m e q. h (suc k) m (omega arith) (omega arith)) (omega arith) in
+    rw (here, go) refl
+
+abbrev pub Found : (Slot → Bool) → List Slot → ℕ → Type 0
+Found p t i = p (get_or t i Free) ≡ true
+
+abbrev pub Passed : (Slot → Bool) → List Slot → ℕ → Type 0
+Passed p t i = p (get_or t i Free) ≡ false
+
+module _ (p : Slot → Bool) (t : List Slot) (len : length t ≡ places) where
+  pub first_found : (r : Option ℕ)
+      → MatchOption r ((k : ℕ) → 0 ≤ k → k < places → Passed p t k) (λ i. (0 ≤ i) × (i < places) × Found p t i × ((k : ℕ) → 0 ≤ k → k < i → Passed p t k))
+      → unwrap_or r places ≡ first_of p t
+  first_found None h = sym len ∙ first-past p t (λ k l. h k (omega arith) (omega arith))
+  first_found (Some i) h = first-is p t i (omega arith) h.2 (λ k l. h.3 k (omega arith) l)
+
+  pub any_found : (r : Bool)
+      → r ≡ list_any (λ i. p (get_or t i Free)) (range_with_len 0 places) → r ≡ some p t
+  any_found r e = e ∙ any-from p t t 0 places (λ k m e l. ap (λ j. get_or t j Free) (omega (arith, e))) len

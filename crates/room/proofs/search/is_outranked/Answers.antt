@@ -1,28 +1,16 @@
--- The invariant: some router outranks us just where one from place i on does.
-use Rattle.slots.specs.Slots.{table_of}
+-- What `any` has answered, by the law `any_found`.
+use Rattle.slots.specs.Slots.{table_of, places}
 use Rattle.adjacency.specs.Place.{outranked_at}
+use Rattle.adjacency.specs.declared.place.Slot.TheVariants.{Free}
 use Rattle.slots.proofs.SlotLaws.{length-table}
-use Rattle.room.proofs.SearchLaws.{any_here, any-skip, any_none}
-use mathlib.Core.Path.{sym, ◌∙◌}
-use native.Mathlib.Omega.{arith}
+use Rattle.room.proofs.SearchLaws.{any_found}
+use Rattle.std.proofs.Common.{get_or, refl, rules}
+use Rattle.std.proofs.lemmas.Iterator.{YieldsList-from_range}
+use Rattle.std.proofs.lemmas.Iterator.Search.{any_from_yields_List}
 use Rattle.room.proofs.search.is_outranked.Goals as goal
-
-pub returns-then-is_outranked_at : goal.returns-then-is_outranked_at
-returns-then-is_outranked_at c =
-    let l = c.loop-i in
-    let a = c.args in
-    sym (l.invariant.1 ∙ any_here (outranked_at a.rank) (table_of a.words.now) l.i (rw length-table (omega arith)) (sym c.is_outranked_at.ensures ∙ c.if-is_outranked_at.true))
-
-pub loop-i-preserved : goal.loop-i-preserved
-loop-i-preserved c =
-    let l = c.loop-i in
-    let a = c.args in (
-      omega arith,
-      l.invariant.1 ∙ any-skip (outranked_at a.rank) (table_of a.words.now) l.i (rw length-table (omega arith)) (sym c.is_outranked_at.ensures ∙ c.if-is_outranked_at.false),
-    )
 
 pub returns : goal.returns
 returns c =
-    let l = c.loop-i in
-    let a = c.args in
-    sym (l.invariant.1 ∙ any_none (outranked_at a.rank) (table_of a.words.now) l.i (rw length-table (omega arith)))
+    let t = table_of c.args.words.now in
+    let p = outranked_at c.args.rank in
+    any_found p t (length-table _) _ (any_from_yields_List (λ i. p (get_or t i Free)) _ _ _ c.any.ensures.ran (YieldsList-from_range 0 places places refl refl) (λ x b q k. search rules))
