@@ -1,15 +1,17 @@
 -- The laws of a search: the answer of the whole is that of what is left, and what an answer says of the room.
-use Prim.Native.Nat.{ℕ, zero, suc, ◌+◌, ◌<◌, ◌≤◌}
+use Prim.Native.Nat.{ℕ, zero, suc, ◌<◌, ◌≤◌}
 use Rattle.std.specs.Option.{MatchOption, unwrap_or}
 use Rattle.std.specs.Prelude.{Option, Some, None}
 use native.Mathlib.Omega.{arith}
-use native.Mathlib.Numerals.{add-one}
 use mathlib.Core.Path.{◌≡◌, refl, ap, sym, ◌∙◌}
 use mathlib.Core.Bool.{Bool, true, false, true≢false}
 use mathlib.Core.List.{List, [], ◌∷◌}
-use lib.ListN.{length, get_or, drop, drop_of_length-le}
-use lib.Seq.{drop-cons}
-use Rattle.std.specs.List.{list_any, range_with_len}
+use lib.ListN.{length, get_or}
+use Rattle.std.specs.Bool.{MatchBool}
+use Rattle.std.specs.List.{range_with_len, HoldsAt, AllWithin}
+use Rattle.std.proofs.Common.{subst, zero-add}
+use Rattle.std.proofs.lemmas.List.FromFn.{get_or-range_with_len}
+use Rattle.std.proofs.lemmas.List.Recursion.{or_at, or_from_places}
 use Rattle.slots.specs.Slots.{places}
 use Rattle.basics.proofs.BoolLaws.{by-test}
 use Rattle.adjacency.specs.declared.record.Key.{Key}
@@ -21,29 +23,6 @@ use Rattle.adjacency.specs.declared.place.Slot.TheVariants.{Free, Held, Closed}
 use Rattle.room.specs.Table.{find, first_state}
 use Rattle.basics.specs.Lists.{some}
 use Rattle.room.specs.Place.{first_of, state_in}
-
-module _ (p : Slot → Bool) (t : List Slot) (i : ℕ) (lt : i < length t) where
-  pub first-here : p (get_or t i Free) ≡ true → first_of p (drop i t) ≡ 0
-  first-here e = rw (drop-cons t i Free lt) (rw e refl)
-
-  pub first-skip : p (get_or t i Free) ≡ false → first_of p (drop i t) ≡ first_of p (drop (i + 1) t) + 1
-  first-skip e = rw (add-one i, drop-cons t i Free lt) (rw (e, add-one (first_of p (drop (suc i) t))) refl)
-
-  pub any_here : p (get_or t i Free) ≡ true → some p (drop i t) ≡ true
-  unfolding some
-  any_here e = rw (drop-cons t i Free lt) (rw e refl)
-
-  pub any-skip : p (get_or t i Free) ≡ false → some p (drop i t) ≡ some p (drop (i + 1) t)
-  unfolding some
-  any-skip e = rw (add-one i, drop-cons t i Free lt) (rw e refl)
-
-module _ (p : Slot → Bool) (t : List Slot) (i : ℕ) (le : length t ≤ i) where
-  pub first-none : first_of p (drop i t) ≡ 0
-  first-none = rw (drop_of_length-le t le) refl
-
-  pub any_none : some p (drop i t) ≡ false
-  unfolding some
-  any_none = rw (drop_of_length-le t le) refl
 
 pub first-true : (p : Slot → Bool) (t : List Slot) → first_of p t < length t → p (get_or t (first_of p t) Free) ≡ true
 first-true p [] l = absurd (omega arith)
@@ -98,17 +77,15 @@ first-past p (s ∷ t) h =
     let skip : p s ≡ false = h 0 (omega arith) in
     rw skip (ap suc go)
 
--- the places of t from the i-th on
-any-from : (p : Slot → Bool) (t u : List Slot) (i n : ℕ) → ((k m : ℕ) → m ≡ i + k → k < length u → get_or t m Free ≡ get_or u k Free) → length u ≡ n
-    → list_any (λ i. p (get_or t i Free)) (range_with_len i n) ≡ some p u
-unfolding some
-any-from p t [] i zero h l = refl
-any-from p t [] i (suc n) h l = absurd (omega arith)
-any-from p t (s ∷ u) i zero h l = absurd (omega arith)
-any-from p t (s ∷ u) i (suc n) h l = 
-    let here : get_or t i Free ≡ s = h 0 i (omega arith) (omega arith) in
-    let go : list_any (λ i. p (get_or t i Free)) (range_with_len (i + 1) n) ≡ some p u = any-from p t u (i + 1) n (λ k m e q. h (suc k) m (omega arith) (omega arith)) (omega arith) in
-    rw (here, go) refl
+abbrev all : List ℕ
+all = range_with_len 0 places
+
+-- what `any` has answered over the places, by what true and false say of one
+abbrev pub AnyOf : (ℕ → Type 0) → (ℕ → Type 0) → Bool → Type 0
+AnyOf Yes No r = MatchBool r ((k : ℕ) × (k < length all) × HoldsAt Yes all k) (AllWithin No all 0 (length all))
+
+at : (P : ℕ → Type 0) (k : ℕ) → k < places → HoldsAt P all k → P k
+at P k l h = subst P (get_or-range_with_len 0 places k 0 l ∙ zero-add k) (h 0)
 
 abbrev pub Found : (Slot → Bool) → List Slot → ℕ → Type 0
 Found p t i = p (get_or t i Free) ≡ true
@@ -123,6 +100,13 @@ module _ (p : Slot → Bool) (t : List Slot) (len : length t ≡ places) where
   first_found None h = sym len ∙ first-past p t (λ k l. h k (omega arith) (omega arith))
   first_found (Some i) h = first-is p t i (omega arith) h.2 (λ k l. h.3 k (omega arith) l)
 
-  pub any_found : (r : Bool)
-      → r ≡ list_any (λ i. p (get_or t i Free)) (range_with_len 0 places) → r ≡ some p t
-  any_found r e = e ∙ any-from p t t 0 places (λ k m e l. ap (λ j. get_or t j Free) (omega (arith, e))) len
+  pub none_found : (No : ℕ → Type 0) → ((k : ℕ) → k < places → No k → Passed p t k) → AllWithin No all 0 (length all) → some p t ≡ false
+  unfolding some
+  none_found No told h =
+      or_from_places (some p) p refl (λ _ _. refl) t Free
+      (λ k l. let lt : k < places = omega (arith, len, l) in told k lt (at No k lt (λ d. h k d (omega arith) lt)))
+
+  pub any_found : (r : Bool) → AnyOf (Found p t) (Passed p t) r → r ≡ some p t
+  unfolding some
+  any_found true h = sym (or_at (some p) p refl (λ _ _. refl) t h.0 Free (omega (arith, len, h.1)) (at (Found p t) h.0 h.1 h.2))
+  any_found false h = sym (none_found (Passed p t) (λ k l e. e) h)
