@@ -13,7 +13,7 @@ use Rattle.basics.specs.Lists.{some}
 abbrev pub Tells : (Bor (List ℕ) → ℕ → Bool → Type 0) → (State → Bool) → Type 0
 Tells answers test =
     (ws : Bor (List ℕ)) (i : ℕ) (r : Bool) → length ws.now ≡ room_words → i < places → answers ws i r
-        → r ≡ meets test (get_or (table_of ws.now) i Free)
+    → r ≡ meets test (get_or (table_of ws.now) i Free)
 
 -- t is what stood before, t' what is left, r whether any record went
 pub record Sweeps (p : State → Bool) (t t' : List Slot) (r : Bool) : Type 0 where

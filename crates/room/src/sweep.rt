@@ -52,5 +52,5 @@ pub fn release(words: &mut [u64])
     requires { length words.old ≡ room_words }
     ensures { table_of words.new ≡ released (table_of words.old) }
 {
-    sweep_in(words, |words, i| is_planned_at(words, i));
+    sweep_in(words, is_planned_at);
 }

@@ -15,7 +15,7 @@ loop-i-preserved g c =
     let t = table_of l.words in
     let lt : l.i < length t = rw length-table (omega arith) in
     elim c.if-goes_at.branch [
-      then-goes_at w ↦ (
+      | then-goes_at w ↦ (
         cc,
         λ test tells.
             rw (w.words-is, w.any-is, w.clear.ensures)
