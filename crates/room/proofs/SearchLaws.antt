@@ -4,7 +4,7 @@ use Rattle.std.specs.Option.{MatchOption, unwrap_or}
 use Rattle.std.specs.Prelude.{Option, Some, None}
 use native.Mathlib.Omega.{arith}
 use mathlib.Core.Path.{◌≡◌, refl, ap, sym, ◌∙◌}
-use mathlib.Core.Bool.{Bool, true, false, true≢false}
+use mathlib.Core.Bool.{Bool, true, false}
 use mathlib.Core.List.{List, [], ◌∷◌}
 use lib.ListN.{length, get_or}
 use Rattle.std.specs.Bool.{MatchBool}
@@ -15,7 +15,6 @@ use Rattle.std.proofs.lemmas.List.Recursion.{or_at, or_from_places}
 use Rattle.slots.specs.Slots.{places}
 use Rattle.basics.proofs.BoolLaws.{by-test}
 use Rattle.adjacency.specs.declared.record.Key.{Key}
-use Rattle.adjacency.specs.declared.record.Adjacency.TheVariants.{Absent}
 use Rattle.adjacency.specs.Place.{is_held, has_key}
 use Rattle.adjacency.specs.Keys.{same_key}
 use Rattle.adjacency.specs.declared.place.Slot.{Slot}
@@ -29,11 +28,6 @@ first-true p [] l = absurd (omega arith)
 first-true p (s ∷ t) l =
     let go = first-true p t in
     by-test (p s) (λ q. rw q q) (λ q. let m : suc (first_of p t) < suc (length t) = rw q at l in rw q (go (omega (arith, m))))
-
-pub no-state : (s : Slot) → is_held s ≡ false → Absent ≡ state_in s
-no-state Free e = refl
-no-state (Held r) e = absurd (true≢false e)
-no-state Closed e = refl
 
 -- the record with a key is the one at its place, and the first record at the first that is held; past the end none stands
 
