@@ -13,11 +13,7 @@ use adjacency::record::Key;
 fn is_held_word(w: u64) -> bool
     ensures { result ≡ held_word w }
 {
-    let tag = w % 4;
-    if tag == 0 {
-        return false;
-    }
-    tag != 3
+    w % 4 != 0 && w % 4 != 3
 }
 
 // Whether the place is free.
@@ -41,17 +37,11 @@ pub fn is_key_at(words: &[u64], i: usize, key: Key) -> bool
     requires { (length words.now ≡ room_words) × (i < places) }
     ensures { result ≡ has_key key (get_or (table_of words.now) i Free) }
 {
-    if words[PLACE_WORDS * i] != key.system {
-        return false;
-    }
-    if words[PLACE_WORDS * i + 1] != key.mac {
-        return false;
-    }
     let w = words[PLACE_WORDS * i + 3];
-    if w / 256 % 256 != key.level as u64 {
-        return false;
-    }
-    is_held_word(w)
+    words[PLACE_WORDS * i] == key.system
+        && words[PLACE_WORDS * i + 1] == key.mac
+        && w / 256 % 256 == u64::from(key.level)
+        && is_held_word(w)
 }
 
 // Where this is false no record at the place has expired.
@@ -67,10 +57,7 @@ pub fn is_expired_at(words: &[u64], i: usize, clock: u64) -> bool
     requires { (length words.now ≡ room_words) × (i < places) }
     ensures { result ≡ meets (expired_by clock) (get_or (table_of words.now) i Free) }
 {
-    if is_due_at(words, i, clock) {
-        return is_held_word(words[PLACE_WORDS * i + 3]);
-    }
-    false
+    is_due_at(words, i, clock) && is_held_word(words[PLACE_WORDS * i + 3])
 }
 
 // Whether a Planned record stands there.
@@ -79,10 +66,7 @@ pub fn is_planned_at(words: &[u64], i: usize) -> bool
     ensures { result ≡ meets planned_state (get_or (table_of words.now) i Free) }
 {
     let w = words[PLACE_WORDS * i + 3];
-    if w % 4 != 2 {
-        return false;
-    }
-    2 <= w / 4 % 4
+    w % 4 == 2 && 2 <= w / 4 % 4
 }
 
 // Whether the router of a record there has the CSNP duty before us.
@@ -91,10 +75,7 @@ pub fn is_outranked_at(words: &[u64], i: usize, rank: Rank) -> bool
     ensures { result ≡ outranked_at rank (get_or (table_of words.now) i Free) }
 {
     let w = words[PLACE_WORDS * i + 3];
-    if w % 4 != 2 {
-        return false;
-    }
-    if w / 256 % 256 != rank.level as u64 {
+    if w % 4 != 2 || w / 256 % 256 != u64::from(rank.level) {
         return false;
     }
     let Slot::Held(entry) = load(words, i) else {
