@@ -68,7 +68,7 @@ pub fn store(words: &mut [u64], i: usize, entry: Record)
 }
 
 // The expiry word of a place without a record: past every clock, so that a tick passes the place by this word alone. It means nothing.
-const NEVER: u64 = 18446744073709551615;
+const NEVER: u64 = u64::MAX;
 
 // A place without a record: what its tag means whatever the other words are.
 fn leave_empty(words: &mut [u64], i: usize, tag: u64)
