@@ -1,6 +1,6 @@
 // The two words and the 1,500 octets of one circuit's unfinished frame. The first word is one more than the length of a frame that is begun, so from 1 to
 // 1,501; with any other none is begun. The second is the MAC.
-ghost use Rattle.std.specs.Prelude.{◌≡◌, ◌++◌, ◌+◌, ◌≤◌, length, take, drop};
+ghost use Rattle.std.specs.Prelude.{◌≡◌, length};
 ghost use Rattle.basics.specs.Octets.{big};
 ghost use Rattle.chunks.specs.Words.{slot_words, pending_of, Loads, Adds};
 ghost use Rattle.chunks.specs.Chunks.{most_octets};
@@ -48,9 +48,8 @@ pub fn begin(slot: &mut [u64], source: &[u8])
     requires { (length slot.old ≡ slot_words) × (length source.now ≡ 6) }
     ensures { pending_of slot.new ≡ Pending.Begun (big 6 source.now 0) 0 }
 {
-    let mac = six(source, 0);
     slot[0] = 1;
-    slot[1] = mac;
+    slot[1] = six(source, 0);
 }
 
 // No frame is begun.
@@ -59,17 +58,6 @@ pub fn clear(slot: &mut [u64])
     ensures { pending_of slot.new ≡ Pending.Idle }
 {
     slot[0] = 0;
-}
-
-fn copy_in(frame: &mut [u8], at: usize, octets: &[u8])
-    requires { at + length octets.now ≤ length frame.old }
-    ensures { frame.new ≡ take at frame.old ++ octets.now ++ drop (at + length octets.now) frame.old }
-{
-    let mut i = 0;
-    while i < octets.len() {
-        frame[at + i] = octets[i];
-        i += 1;
-    }
 }
 
 // Refusals 13 and 14, or the chunk is joined.
@@ -83,7 +71,7 @@ pub fn add(slot: &mut [u64], frame: &mut [u8], octets: &[u8]) -> Handed
     if MOST_OCTETS - n < octets.len() {
         return Handed::Refused(Refusal::TooLong);
     }
-    copy_in(frame, n, octets);
+    frame[n..n + octets.len()].copy_from_slice(octets);
     slot[0] = (n + octets.len() + 1) as u64;
     Handed::Done
 }
