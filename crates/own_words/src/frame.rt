@@ -35,13 +35,10 @@ fn here_of(words: &[u64], s: Circuit) -> Here
     requires { length words.now ≡ control_words }
     ensures { result ≡ here_of (common_of words.now) s }
 {
-    let clock = clock_of(words);
-    let restarting = is_restarting(mode_of(words));
-    let own = system_of(words);
     Here {
-        clock,
-        restarting,
-        own,
+        clock: clock_of(words),
+        restarting: is_restarting(mode_of(words)),
+        own: system_of(words),
         circuit: s.id,
         hold: s.hold,
     }
@@ -63,36 +60,34 @@ fn order_in(
 {
     let i = n as usize - 1;
     let s = load_circuit(&gateway[0..CONTROL_WORDS], i);
-    let kind = s.kind;
-    let levels = s.levels;
-    let link = frame.link;
     let rank = Rank {
         level: change.level,
         priority: s.priority,
         mac: s.mac,
     };
     let a = CONTROL_WORDS + ROOM_WORDS * i;
-    let csnps = csnps_in(&gateway[a..a + ROOM_WORDS], rank, line, levels, link);
-    let before = change.before;
-    let after = change.after;
-    let rose = rises(before, after);
+    let csnps = csnps_in(
+        &gateway[a..a + ROOM_WORDS],
+        rank,
+        line,
+        s.levels,
+        frame.link,
+    );
+    let rose = rises(change.before, change.after);
     let x = hear(
         &mut gateway[0..CONTROL_WORDS],
-        kind,
+        s.kind,
         i,
         change.level,
         rose,
         said,
     );
-    let outcome = x.outcome;
-    let freed = x.freed;
-    let hello = x.hello;
     Orders {
         reply,
         csnps,
-        outcome,
-        freed,
-        hello,
+        outcome: x.outcome,
+        freed: x.freed,
+        hello: x.hello,
         change,
     }
 }
@@ -133,9 +128,8 @@ fn decide_in(
     requires { (length gateway.old ≡ own_words) × (0 < n) × (n ≤ circuits) × (11 ≤ length reply.old) × (s ≡ circuit_held gateway.old n) × (kind_of frame.link ≡ s.kind) }
     ensures { Meets (received_of result) (lift (gateway_of gateway.old) n (decided_in n s mac reply.old frame)) gateway.old gateway.new reply.new }
 {
-    let kind = s.kind;
     let here = here_of(&gateway[0..CONTROL_WORDS], s);
-    let key = key_in(kind, mac, frame);
+    let key = key_in(s.kind, mac, frame);
     let said = heard_of(frame, here.own, here.circuit);
     let a = CONTROL_WORDS + ROOM_WORDS * (n as usize - 1);
     let decided = accept_in(&mut gateway[a..a + ROOM_WORDS], here, key, frame, reply);
@@ -167,9 +161,8 @@ fn check_in(
     requires { (length gateway.old ≡ own_words) × (0 < n) × (n ≤ circuits) × (11 ≤ length reply.old) × (length source.now ≡ 6) × (s ≡ circuit_held gateway.old n) × (kind_of frame.link ≡ s.kind) }
     ensures { Meets (received_of result) (lift (gateway_of gateway.old) n (checked n s (big 6 source.now 0) reply.old frame)) gateway.old gateway.new reply.new }
 {
-    let levels = s.levels;
     let own = system_of(&gateway[0..CONTROL_WORDS]);
-    if is_wrong_source(levels, own, frame) {
+    if is_wrong_source(s.levels, own, frame) {
         return Received::Refused(Refusal::WrongSource);
     }
     let mac = six(source, 0);
@@ -188,11 +181,10 @@ fn read_in(
     requires { (length gateway.old ≡ own_words) × (0 < n) × (n ≤ circuits) × (length source.now ≡ 6) × (s ≡ circuit_held gateway.old n) }
     ensures { Meets (received_of result) (lift (gateway_of gateway.old) n (Rattle.model.specs.Receive.receive n s (big 6 source.now 0) frame.now reply.old)) gateway.old gateway.new reply.new }
 {
-    let kind = s.kind;
     if reply.len() < 11 {
         return Received::Refused(Refusal::ReplyRoom);
     }
-    match read_hello(frame, kind, s.mac) {
+    match read_hello(frame, s.kind, s.mac) {
         Read::Refused(x) => Received::Refused(x),
         Read::Accepted(hello) => check_in(gateway, n, s, source, hello, reply),
     }
