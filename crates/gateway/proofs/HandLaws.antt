@@ -245,12 +245,6 @@ module _ (ws : List ℕ) (n : ℕ) (lo : 0 < n) (hi : n ≤ circuits) (s : Circu
 
 -- .. and what it then does
 
-pub ends-refused : {n : ℕ} {ws ws' : List ℕ} {r : Taken} {x : Refusal} (fs b : List ℕ) → Takes n ws ws' r → r ≡ RefusedTaken x
-    → DoesWith (Hand n (End b)) (Refused x) ws fs ws' fs b
-ends-refused {n} {ws} {ws'} {r} {x} fs b m e =
-    let t : Takes n ws ws' (RefusedTaken x) = rw e at m in
-    rw t.0 (refuses ws fs b n (End b) x (t.1 fs b))
-
 pub takes-as : {n : ℕ} {ws ws' : List ℕ} {r : Taken} {mac start end : ℕ} → Takes n ws ws' r → r ≡ FrameTaken mac start end → TakesFrame n ws ws' mac start end
 takes-as m e = rw e at m
 
