@@ -5,10 +5,10 @@ use native.Mathlib.Numerals.{add-one}
 use mathlib.Core.Path.{◌≡◌, refl, ap, sym, ◌∙◌}
 use mathlib.Core.Bool.{Bool, true, false, ◌&&◌}
 use mathlib.Core.List.{List, [], ◌∷◌, map}
-use lib.ListN.{length, get_or, take, drop, drop_of_length-le}
+use lib.ListN.{length, take, drop, drop_of_length-le}
 use lib.Seq.{drop-cons, get_or-take, length-take-le}
-use lib.Dec.{eqb, ltb, leb}
-use borrow.Author.Tests.{eqb-true, eqb-false, eq-eqb, ne_eqb, le-ltb, lt-leb}
+use lib.Dec.{eqb, leb}
+use borrow.Author.Tests.{eqb-false, eq-eqb, ne_eqb, le-ltb, lt-leb}
 use Rattle.basics.specs.Octets.{octet, big}
 use Rattle.basics.specs.Mask.{circuits}
 use Rattle.basics.specs.Levels.{some_on}
@@ -16,7 +16,7 @@ use Rattle.basics.specs.Lists.{every}
 use Rattle.basics.proofs.BoolLaws.{by-test, both, and_right, and-false, and-true}
 use Rattle.basics.proofs.ListLaws.{get_or-tabulate, length-tabulate}
 use Rattle.settings.proofs.SettingsLaws.{between-true}
-use Rattle.settings.specs.Settings.{between, circuit_ok, lengths_ok, settings_ok, circuits_of}
+use Rattle.settings.specs.Settings.{between, circuit_ok, lengths_ok, settings_ok}
 use Rattle.isis_gr.specs.Words.{mode_known, kind_known, levels_of, levels_known}
 use Rattle.isis_gr.specs.Settings.{layout, circuit_place, circuit_places, circuit_from, circuit_known, settings_from, settings_known}
 use Rattle.isis_gr.specs.Faults.{or_else, circuit_fault, circuits_fault, whole_fault, fault_of, FaultsTell}
@@ -129,9 +129,6 @@ module _ (s : List ℕ) where
       ∙ ap (λ cs. every (circuit_known s) (take (octet s 16) circuit_places) && every circuit_ok cs) (sym (take-map (circuit_from s) (octet s 16) circuit_places))
 
   -- the other settings
-  abbrev lengths-fine : Bool
-  lengths-fine = lengths_ok (settings_from s).lengths
-
   whole-fine : eqb (whole_fault s) 0 ≡ (lengths_ok (settings_from s).lengths && (mode_known (octet s 15) && between 1 (octet s 16) circuits))
   unfolding whole_fault lengths_ok settings_from
   whole-fine =

@@ -2,11 +2,7 @@
 use Prim.Native.Nat.{ℕ, ◌+◌, ◌-◌, ◌<◌, ◌≤◌}
 use mathlib.Core.Path.{◌≡◌, refl, sym, ap, ◌∙◌}
 use mathlib.Core.Bool.{Bool, true, false, not, true≢false}
-use mathlib.Core.List.{List, [], ◌∷◌}
-use mathlib.Core.Logic.{⊎_elim}
-use types.Run.{OneOf}
-use denote.Enum.Declared.{tag_of}
-use Rattle.adjacency.specs.contracts.marks.Line.{the_type}
+use mathlib.Core.List.{List}
 use native.Mathlib.Omega.{arith}
 use Rattle.basics.proofs.BoolLaws.{neither}
 use Rattle.basics.specs.Lists.{part}
@@ -27,7 +23,6 @@ use Rattle.adjacency.specs.Step.{wrong_source, level_off}
 use Rattle.adjacency.specs.declared.marks.Acknowledgement.{Acknowledgement}
 use Rattle.adjacency.specs.declared.marks.Acknowledgement.TheVariants.{Nothing as NoReply, Send}
 use Rattle.adjacency.specs.declared.marks.Line.{Line}
-use Rattle.adjacency.specs.declared.marks.Line.TheVariants.{One, Two, Three, Four, Five}
 use Rattle.adjacency.specs.declared.react.Reaction.TheVariants.{Accepted}
 use Rattle.adjacency.specs.declared.record.Adjacency.{Adjacency}
 use Rattle.adjacency.specs.declared.record.Key.{Key}
@@ -47,7 +42,7 @@ use Rattle.own_words.specs.Words.{gateway_of, room_place}
 use Rattle.reasons.proofs.FrameLaws.{Took, took}
 use Rattle.reasons.proofs.LineLaws.{line-restart, line-planned, line-silent}
 use Rattle.reasons.specs.Duty.{duty_in}
-use Rattle.reasons.specs.Why.{Why, NotSo, Fits, line_no, by_duty, by_line, stands_on, standing, fits_read, fits_on, unordered, no_csnps}
+use Rattle.reasons.specs.Why.{Why, NotSo, by_duty, by_line, stands_on, standing, fits_read, fits_on, unordered, no_csnps}
 use Rattle.reasons.specs.declared.why.Duty.{Duty}
 use Rattle.isis_gr_why.proofs.StandingLaws.{standing_by}
 use Rattle.isis_gr_why.specs.Told.{line_told}
@@ -68,14 +63,6 @@ module _ (ws ws' : List ℕ) (n : ℕ) (s : Circuit) (known : circuit_of (gatewa
 
 pub not-unknown : (g : Gateway) (n : ℕ) (s : Circuit) → circuit_of g.common n ≡ Unknown → circuit_of g.common n ≡ Known s → ⊥
 not-unknown g n s e k = let z : ◌≡◌ {A = ℕ} 0 1 = cc in omega arith
-
--- every line but line 1 is named
-pub by-line-fits : (line : Line) → OneOf (1 ∷ 2 ∷ 3 ∷ 4 ∷ []) (tag_of the_type line) → (d : Duty) → Fits (line_no line) ≡ by_line line d
-by-line-fits One h d = absurd (⊎_elim (λ e. omega arith) (⊎_elim (λ e. omega arith) (⊎_elim (λ e. omega arith) (λ e. omega arith))) h)
-by-line-fits Two h d = refl
-by-line-fits Three h d = refl
-by-line-fits Four h d = refl
-by-line-fits Five h d = refl
 
 -- ---- what the answer tells of the frame
 

@@ -11,7 +11,6 @@ ghost use Rattle.reasons.specs.Why.{reason_of, why_of};
 ghost use Rattle.isis_gr_why.specs.Explains.{Explains};
 ghost use Rattle.isis_gr_why.specs.Told.{Tells};
 
-use crate::copy::copy_in;
 use crate::frames::why_silent;
 use crate::made::{Made, make};
 use crate::standing::standing_in;
@@ -64,7 +63,7 @@ pub fn why(
 ) -> Reason
     ensures { Explains question call (big 6 source.now 0) frame.now reply.old circuit (key_given level system.now mac.now) before.now after.new reply.new result }
 {
-    copy_in(before, after);
+    after.copy_from_slice(before);
     let made = make(after, call, source, frame, reply);
     let key = Key {
         level,

@@ -14,16 +14,8 @@ use slots::slot::{PLACES, load};
 fn priority_in(entry: Record) -> u8
     ensures { result ≡ priority_in entry }
 {
-    let state = entry.state;
-    match state {
-        State::Init(data) => {
-            let last = data.last;
-            last.priority
-        }
-        State::Up(data, _) => {
-            let last = data.last;
-            last.priority
-        }
+    match entry.state {
+        State::Init(data) | State::Up(data, _) => data.last.priority,
     }
 }
 
@@ -43,14 +35,7 @@ fn duty_of(entry: Record) -> Duty
 fn is_tie(system: u64, priority: u8, mac: u64, entry: Record) -> bool
     ensures { result ≡ is_tie system priority mac entry }
 {
-    let key = entry.key;
-    if priority_in(entry) != priority {
-        return false;
-    }
-    if key.mac != mac {
-        return false;
-    }
-    key.system < system
+    priority_in(entry) == priority && entry.key.mac == mac && entry.key.system < system
 }
 
 // Whether a record goes before the router that had the duty.
@@ -62,13 +47,8 @@ fn is_ahead(own: Rank, system: u64, priority: u8, mac: u64, entry: Record) -> bo
         priority,
         mac,
     };
-    if is_outranked_by(best, entry) {
-        return true;
-    }
-    if is_outranked_by(own, entry) {
-        return is_tie(system, priority, mac, entry);
-    }
-    false
+    is_outranked_by(best, entry)
+        || is_outranked_by(own, entry) && is_tie(system, priority, mac, entry)
 }
 
 // Who has it once a record is looked at too.
@@ -108,10 +88,8 @@ pub(crate) fn duty_in(words: &[u64], own: Rank) -> Duty
     ensures { result ≡ duty_in own (table_of words.now) }
 {
     let mut duty = Duty::Ours;
-    let mut i = 0;
-    while i < PLACES {
+    for i in 0..PLACES {
         duty = duty_at(words, i, own, duty);
-        i += 1;
     }
     duty
 }
