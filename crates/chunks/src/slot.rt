@@ -1,6 +1,6 @@
 // The two words and the 1,500 octets of one circuit's unfinished frame. The first word is one more than the length of a frame that is begun, so from 1 to
 // 1,501; with any other none is begun. The second is the MAC.
-ghost use Rattle.std.specs.Prelude.{◌≡◌, length};
+ghost use Rattle.std.specs.Prelude.{◌≡◌, ◌++◌, ◌+◌, ◌≤◌, length, take, drop};
 ghost use Rattle.basics.specs.Octets.{big};
 ghost use Rattle.chunks.specs.Words.{slot_words, pending_of, Loads, Adds};
 ghost use Rattle.chunks.specs.Chunks.{most_octets};
@@ -60,6 +60,16 @@ pub fn clear(slot: &mut [u64])
     slot[0] = 0;
 }
 
+// Octet by octet: `copy_from_slice` is a call of memmove, by which `isis_gr_raw_add_chunk` goes past its limit of stack.
+fn copy_in(frame: &mut [u8], at: usize, octets: &[u8])
+    requires { at + length octets.now ≤ length frame.old }
+    ensures { frame.new ≡ take at frame.old ++ octets.now ++ drop (at + length octets.now) frame.old }
+{
+    for i in 0..octets.len() {
+        frame[at + i] = octets[i];
+    }
+}
+
 // Refusals 13 and 14, or the chunk is joined.
 pub fn add(slot: &mut [u64], frame: &mut [u8], octets: &[u8]) -> Handed
     requires { (length slot.old ≡ slot_words) × (length frame.old ≡ most_octets) }
@@ -71,7 +81,7 @@ pub fn add(slot: &mut [u64], frame: &mut [u8], octets: &[u8]) -> Handed
     if MOST_OCTETS - n < octets.len() {
         return Handed::Refused(Refusal::TooLong);
     }
-    frame[n..n + octets.len()].copy_from_slice(octets);
+    copy_in(frame, n, octets);
     slot[0] = (n + octets.len() + 1) as u64;
     Handed::Done
 }

@@ -11,6 +11,7 @@ ghost use Rattle.reasons.specs.Why.{reason_of, why_of};
 ghost use Rattle.isis_gr_why.specs.Explains.{Explains};
 ghost use Rattle.isis_gr_why.specs.Told.{Tells};
 
+use crate::copy::copy_in;
 use crate::frames::why_silent;
 use crate::made::{Made, make};
 use crate::standing::standing_in;
@@ -63,7 +64,7 @@ pub fn why(
 ) -> Reason
     ensures { Explains question call (big 6 source.now 0) frame.now reply.old circuit (key_given level system.now mac.now) before.now after.new reply.new result }
 {
-    after.copy_from_slice(before);
+    copy_in(before, after);
     let made = make(after, call, source, frame, reply);
     let key = Key {
         level,

@@ -6,6 +6,7 @@
 pub mod call; // call.rt: the call
 pub mod exports; // exports.rt: the call for C
 pub mod words; // words.rt: the reason as two words
+mod copy; // copy.rt: the words, copied
 mod standing; // standing.rt: the record that is asked for
 mod duty; // duty.rt: who has the CSNP duty
 mod made; // made.rt: the call in question, made

@@ -1,9 +1,4 @@
 -- Refusals 13 and 14, or the chunk copied and the length stored: a law each.
-use Prim.Native.Nat.{◌+◌}
-use mathlib.Core.Path.{refl}
-use mathlib.Core.List.{append_assoc}
-use lib.ListN.{length}
-use borrow.Rule.Slice.PartMut.{Post-is}
 use native.Mathlib.Omega.{arith}
 use Rattle.chunks.proofs.SlotLaws.{pending-is, range-is, adds-not-begun, adds-too-long, adds}
 use Rattle.chunks.proofs.slot.add.Goals as goal
@@ -16,5 +11,4 @@ returns-then-n-octets c = let r = range-is c.load.ensures c.in-Begun.is in adds-
 
 pub returns : goal.returns
 returns c = let r = range-is c.load.ensures c.in-Begun.is in let a = c.args in
-    adds a.octets.now a.slot.now a.frame.now _ _ (pending-is c.load.ensures c.in-Begun.is) (omega (arith, r)) (omega (arith, r)) c.requires.0 _
-    (rw (c.copy_from_slice.ensures.after, Post-is c.in-Begun.n (c.in-Begun.n + length a.octets.now) a.frame.now (omega arith), append_assoc) refl)
+    adds a.octets.now a.slot.now a.frame.now _ _ (pending-is c.load.ensures c.in-Begun.is) (omega (arith, r)) (omega (arith, r)) c.requires.0 _ c.copy_in.ensures
