@@ -1,5 +1,7 @@
 -- The laws of a search: the answer of the whole is that of what is left, and what an answer says of the room.
 use Prim.Native.Nat.{ℕ, zero, suc, ◌<◌, ◌≤◌}
+use Rattle.std.specs.Option.{MatchOption, unwrap_or}
+use Rattle.std.specs.Prelude.{Option, Some, None}
 use native.Mathlib.Omega.{arith}
 use mathlib.Core.Path.{◌≡◌, refl, ap, sym, ◌∙◌}
 use mathlib.Core.Bool.{Bool, true, false}
@@ -51,7 +53,7 @@ key-held k Closed e = e
 pub key-stands : (k : Key) (t : List Slot) → first_of (has_key k) t < length t → is_held (get_or t (first_of (has_key k) t) Free) ≡ true
 key-stands k t l = key-held k (get_or t (first_of (has_key k) t) Free) (first-true (has_key k) t l)
 
--- what a search of the places, and `any` over them, has answered
+-- what `find` and `any` over the places have answered
 
 first-is : (p : Slot → Bool) (t : List Slot) (i : ℕ) → i < length t → p (get_or t i Free) ≡ true → ((k : ℕ) → k < i → p (get_or t k Free) ≡ false)
     → i ≡ first_of p t
@@ -86,12 +88,11 @@ abbrev pub Passed : (Slot → Bool) → List Slot → ℕ → Type 0
 Passed p t i = p (get_or t i Free) ≡ false
 
 module _ (p : Slot → Bool) (t : List Slot) (len : length t ≡ places) where
-  -- the places before i are passed
-  pub first_found : (i : ℕ) → i < places → ((k : ℕ) → k < i → Passed p t k) → Found p t i → i ≡ first_of p t
-  first_found i lt h e = first-is p t i (omega (arith, len, lt)) e h
-
-  pub first_none : (i : ℕ) → places ≤ i → ((k : ℕ) → k < i → Passed p t k) → places ≡ first_of p t
-  first_none i le h = sym len ∙ first-past p t (λ k l. h k (omega (arith, len, le, l)))
+  pub first_found : (r : Option ℕ)
+      → MatchOption r ((k : ℕ) → 0 ≤ k → k < places → Passed p t k) (λ i. (0 ≤ i) × (i < places) × Found p t i × ((k : ℕ) → 0 ≤ k → k < i → Passed p t k))
+      → unwrap_or r places ≡ first_of p t
+  first_found None h = sym len ∙ first-past p t (λ k l. h k (omega arith) (omega arith))
+  first_found (Some i) h = first-is p t i (omega arith) h.2 (λ k l. h.3 k (omega arith) l)
 
   pub none_found : (No : ℕ → Type 0) → ((k : ℕ) → k < places → No k → Passed p t k) → AllWithin No all 0 (length all) → some p t ≡ false
   unfolding some

@@ -32,16 +32,22 @@ pub fn is_held_at(words: &[u64], i: usize) -> bool
     is_held_word(words[PLACE_WORDS * i + 3])
 }
 
-// Whether the record with the key stands there.
+// Whether the record with the key stands there. Field by field: as one expression `isis_gr_raw_receive` goes past its limit of stack.
 pub fn is_key_at(words: &[u64], i: usize, key: Key) -> bool
     requires { (length words.now ≡ room_words) × (i < places) }
     ensures { result ≡ has_key key (get_or (table_of words.now) i Free) }
 {
+    if words[PLACE_WORDS * i] != key.system {
+        return false;
+    }
+    if words[PLACE_WORDS * i + 1] != key.mac {
+        return false;
+    }
     let w = words[PLACE_WORDS * i + 3];
-    words[PLACE_WORDS * i] == key.system
-        && words[PLACE_WORDS * i + 1] == key.mac
-        && w / 256 % 256 == u64::from(key.level)
-        && is_held_word(w)
+    if w / 256 % 256 != key.level as u64 {
+        return false;
+    }
+    is_held_word(w)
 }
 
 // Where this is false no record at the place has expired.
