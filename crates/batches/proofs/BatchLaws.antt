@@ -1,28 +1,23 @@
 -- The laws of sums, of the smaller of two and of refusals 15 and 16; and what a batch that is not refused has. Assumes nothing.
-use Prim.Native.Nat.{ℕ, ◌+◌, ◌<◌, ◌≤◌}
+use Prim.Native.Nat.{ℕ, min}
 use native.Mathlib.Omega.{arith}
-use native.Mathlib.Numerals.{add-one}
 use mathlib.Core.Path.{◌≡◌, refl}
 use mathlib.Core.List.{List}
-use lib.ListN.{length, get_or, drop, drop_of_length-le}
-use lib.Seq.{drop-cons}
 use lib.Dec.{ltb}
-use borrow.Author.Tests.{ltb-true}
+use borrow.Author.Tests.{ltb-true, ltb-false}
+use Rattle.std.specs.List.{sum_by}
+use Rattle.std.proofs.lemmas.List.Recursion.{is_sum_by}
 use Rattle.basics.proofs.BoolLaws.{by-test}
 use Rattle.batches.specs.Batch.{sum, smaller}
 
 -- ---- the sum
 
-pub sum-at : (ls : List ℕ) (i : ℕ) → i < length ls → sum (drop i ls) ≡ get_or ls i 0 + sum (drop (i + 1) ls)
+pub sum-is : (ls : List ℕ) → sum ls ≡ sum_by (λ x. x) ls
 unfolding sum
-sum-at ls i h = rw (drop-cons ls i 0 h, add-one i) refl
-
-pub sum-end : (ls : List ℕ) (i : ℕ) → length ls ≤ i → sum (drop i ls) ≡ 0
-unfolding sum
-sum-end ls i h = rw (drop_of_length-le ls h) refl
+sum-is = is_sum_by sum (λ x. x) refl (λ _ _. refl)
 
 -- ---- the smaller
 
-pub smaller-le : (a b : ℕ) → smaller a b ≤ b
+pub smaller-is : (a b : ℕ) → min a b ≡ smaller a b
 unfolding smaller
-smaller-le a b = by-test (ltb a b) (λ e. rw e (omega (arith, ltb-true a b e))) (λ e. rw e (omega arith))
+smaller-is a b = by-test (ltb a b) (λ e. let l = ltb-true a b e in rw e (omega arith)) (λ e. let l = ltb-false a b e in rw e (omega arith))

@@ -1,7 +1,7 @@
 // The lists of a batch: refusals 15 and 16, or how many frames are taken (document 02, W-207). Of every list but that of the frames' lengths its own length
 // alone is asked.
-ghost use Rattle.std.specs.Prelude.{◌≡◌, ◌≤◌, ◌<◌, length};
-ghost use Rattle.batches.specs.Batch.{most_frames, sum, smaller, uneven, checked_by};
+ghost use Rattle.std.specs.Prelude.{◌≡◌, ◌≤◌, length};
+ghost use Rattle.batches.specs.Batch.{most_frames, sum, uneven, checked_by};
 
 // The most frames of a batch, and what lies beside each: its MAC, the two words of its answer, its reply room.
 pub const MOST_FRAMES: usize = 64;
@@ -19,49 +19,23 @@ pub enum Misfit {
     WrongSum,
 }
 
-pub fn wide(length: u16) -> usize
-    ensures { (result ≡ length) × (result < 65536) }
-{
-    length as usize
-}
-
 // The lengths added up: of 64 lengths at most, so that the sum does not wrap.
 fn total(lengths: &[u16]) -> usize
     requires { length lengths.now ≤ most_frames }
     ensures { result ≡ sum lengths.now }
 {
-    let mut t: usize = 0;
-    let mut i = 0;
-    while i < lengths.len() {
-        t += wide(lengths[i]);
-        i += 1;
-    }
-    t
-}
-
-fn smaller_of(a: usize, b: usize) -> usize
-    ensures { result ≡ smaller a b }
-{
-    if a < b { a } else { b }
+    lengths.iter().map(|n| usize::from(*n)).sum()
 }
 
 // 15, by the lengths of the lists: n frames, so many circuits, octets of MACs, words of places and octets of reply room.
 fn is_uneven(n: usize, circuits: usize, sources: usize, places: usize, room: usize) -> bool
     ensures { result ≡ uneven n circuits sources places room }
 {
-    if MOST_FRAMES < n {
-        return true;
-    }
-    if circuits != n {
-        return true;
-    }
-    if sources != MAC_OCTETS * n {
-        return true;
-    }
-    if places != PLACE_WORDS * n {
-        return true;
-    }
-    room < REPLY_OCTETS * n
+    MOST_FRAMES < n
+        || circuits != n
+        || sources != MAC_OCTETS * n
+        || places != PLACE_WORDS * n
+        || room < REPLY_OCTETS * n
 }
 
 // 15, then 16, or how many frames are taken.
@@ -83,6 +57,6 @@ pub fn check(
     if total(lengths) != octets {
         return Err(Misfit::WrongSum);
     }
-    let k = smaller_of(limit, n);
+    let k = limit.min(n);
     Ok(k as u8)
 }

@@ -34,9 +34,8 @@ pub fn begin(slot: &mut [u64], source: &[u8])
     requires { (length slot.old ≡ slot_words) × (length source.now ≡ 6) }
     ensures { pending_of slot.new ≡ Some (big 6 source.now 0, 0) }
 {
-    let mac = six(source, 0);
     slot[0] = 1;
-    slot[1] = mac;
+    slot[1] = six(source, 0);
 }
 
 // No frame is begun.
@@ -47,14 +46,13 @@ pub fn clear(slot: &mut [u64])
     slot[0] = 0;
 }
 
+// Octet by octet: `copy_from_slice` is a call of memmove, by which `isis_gr_raw_add_chunk` goes past its limit of stack.
 fn copy_in(frame: &mut [u8], at: usize, octets: &[u8])
     requires { at + length octets.now ≤ length frame.old }
     ensures { frame.new ≡ take at frame.old ++ octets.now ++ drop (at + length octets.now) frame.old }
 {
-    let mut i = 0;
-    while i < octets.len() {
+    for i in 0..octets.len() {
         frame[at + i] = octets[i];
-        i += 1;
     }
 }
 

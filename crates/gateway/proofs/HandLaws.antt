@@ -238,12 +238,6 @@ module _ (ws : List ℕ) (n : ℕ) (lo : 0 < n) (hi : n ≤ circuits) (s : Circu
 
 -- .. and what it then does
 
-pub ends-refused : {n : ℕ} {ws ws' : List ℕ} {r : Result (ℕ × ℕ × ℕ) Refusal} {x : Refusal} (fs b : List ℕ) → Takes n ws ws' r → r ≡ Err x
-    → DoesWith (Hand n (End b)) (Refused x) ws fs ws' fs b
-ends-refused {n} {ws} {ws'} {r} {x} fs b m e =
-    let t : Takes n ws ws' (Err x) = rw e at m in
-    rw t.0 (refuses ws fs b n (End b) x (t.1 fs b))
-
 pub takes-as : {n : ℕ} {ws ws' : List ℕ} {r : Result (ℕ × ℕ × ℕ) Refusal} {mac start end : ℕ} → Takes n ws ws' r → r ≡ Ok (mac, start, end) → TakesFrame n ws ws' mac start end
 takes-as m e = rw e at m
 

@@ -83,9 +83,6 @@ pub record Dropped (ws ws' : List ℕ) (i : ℕ) : Type 0 where
   pub own : gateway_of ws' ≡ gateway_of ws
   pub none : (fs : List ℕ) (j : ℕ) → j < i → unfinished_at ws' fs j ≡ NoFrame
 
-pub dropped-none : (ws : List ℕ) → Dropped ws ws 0
-dropped-none ws = record { own = refl; none = λ fs j h. absurd (omega arith) }
-
 pub dropped-next : (ws₀ ws t : List ℕ) (len : length ws ≡ gateway_words) (i : ℕ) (lt : i < circuits) (long : length t ≡ slot_place i + slot_words - slot_place i)
     → pending_of t ≡ None → Dropped ws₀ ws i → Dropped ws₀ (put_mid (slot_place i) (slot_place i + slot_words - slot_place i) ws t) (i + 1)
 unfolding unfinished_at

@@ -13,7 +13,7 @@ use Rattle.basics.specs.declared.refusal.Refusal.{Refusal}
 use Rattle.basics.specs.Mask.{circuits}
 use Rattle.basics.specs.Lists.{part}
 use Rattle.basics.proofs.ListLaws.{tabulate-same}
-use Rattle.basics.proofs.PartLaws.{length_back, part_same}
+use Rattle.basics.proofs.PartLaws.{part_same}
 use Rattle.slots.specs.Slots.{table_of, room_words}
 use Rattle.chunks.specs.Chunks.{most_octets}
 use Rattle.chunks.specs.Words.{slot_words, pending_of, meant}
@@ -60,9 +60,6 @@ module _ (ws t : List ℕ) (len : length ws ≡ gateway_words) (lt : length t �
 
   pub gateway-back : gateway_of back ≡ gateway_of t
   gateway-back = sym (own-part back) ∙ ap gateway_of own_back
-
-  pub length-own : length back ≡ gateway_words
-  length-own = length_back 0 own_words ws t (omega arith) (omega arith) long ∙ len
 
   pub frames-stay : (fs : List ℕ) → whole_of back fs ≡ with_frames (gateway_of t) (whole_of ws fs).unfinished
   unfolding whole_of unfinished_at
@@ -117,7 +114,3 @@ own-does {c} {a} {ws} {ws'} plain d =
           ∙ ap (with_frames (step (gateway_of ws) c).next) (sym (frames-kept (gateway_of ws) c plain));
       kept = λ x q. e.kept x q (drops-none c x plain);
     }
-
--- with an equal call
-pub same-does : {c c' : Call} {a : Answer} {ws ws' b' : List ℕ} → c ≡ c' → Does c a ws ws' b' → Does c' a ws ws' b'
-same-does e d = rw e at d

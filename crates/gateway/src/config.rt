@@ -1,6 +1,5 @@
 // The settings as a caller gives them to setup (document 01, "What the gateway holds"): MACs and the System ID are six octets.
 ghost use Rattle.std.specs.Prelude.{◌≡◌, map};
-ghost use Rattle.basics.specs.Octets.{big};
 ghost use Rattle.gateway.specs.Given.{circuit_given, settings_given};
 
 use basics::kind::CircuitKind;
@@ -35,24 +34,13 @@ pub struct GatewaySettings {
     pub circuits: [CircuitSettings; CIRCUITS],
 }
 
-// A System ID or a MAC.
-fn number(octets: [u8; 6]) -> u64
-    ensures { result ≡ big 6 octets 0 }
-{
-    six(&octets, 0)
-}
-
 fn circuit_given(s: CircuitSettings) -> Circuit
     ensures { result ≡ circuit_given s }
 {
-    let kind = s.kind;
-    let levels = s.levels;
-    let octets = s.mac;
-    let mac = number(octets);
     Circuit {
-        kind,
-        levels,
-        mac,
+        kind: s.kind,
+        levels: s.levels,
+        mac: six(&s.mac, 0),
         priority: s.priority,
         hold: s.hold,
         metric: s.metric,
@@ -63,32 +51,18 @@ fn circuit_given(s: CircuitSettings) -> Circuit
 fn circuits_given(all: [CircuitSettings; CIRCUITS]) -> [Circuit; CIRCUITS]
     ensures { result ≡ map circuit_given all }
 {
-    let first = circuit_given(all[0]);
-    let mut read = [first; CIRCUITS];
-    let mut i = 0;
-    while i < CIRCUITS {
-        let one = all[i];
-        read[i] = circuit_given(one);
-        i += 1;
-    }
-    read
+    all.map(circuit_given)
 }
 
 pub(crate) fn settings_given(s: GatewaySettings) -> Settings
     ensures { result ≡ settings_given s }
 {
-    let octets = s.system;
-    let lengths = s.lengths;
-    let mode = s.mode;
-    let all = s.circuits;
-    let system = number(octets);
-    let circuits = circuits_given(all);
     Settings {
-        system,
-        lengths,
+        system: six(&s.system, 0),
+        lengths: s.lengths,
         clock: s.clock,
-        mode,
+        mode: s.mode,
         count: s.count,
-        circuits,
+        circuits: circuits_given(s.circuits),
     }
 }

@@ -108,11 +108,9 @@ pub(crate) fn drop_frames(gateway: &mut [u64])
     requires { length gateway.old ≡ gateway_words }
     ensures { (fs : List ℕ) → whole_of gateway.new fs ≡ with_frames (whole_of gateway.old fs) no_frames }
 {
-    let mut i: usize = 0;
-    while i < CIRCUITS {
+    for i in 0..CIRCUITS {
         let a = OWN_WORDS + SLOT_WORDS * i;
         clear(&mut gateway[a..a + SLOT_WORDS]);
-        i += 1;
     }
 }
 

@@ -1,7 +1,7 @@
 -- The laws of the exported calls: what the gateway's call meets, told by a number; and how many T1s run at most.
 use Prim.Native.Nat.{ℕ, ◌≤◌}
 use native.Mathlib.Omega.{arith}
-use mathlib.Core.Path.{◌≡◌, refl, ap, subst, ◌∙◌}
+use mathlib.Core.Path.{◌≡◌, ap, subst, ◌∙◌}
 use mathlib.Core.Bool.{Bool}
 use mathlib.Core.List.{List, [], ◌∷◌}
 use lib.ListN.{length, set}
@@ -12,17 +12,14 @@ use Rattle.timers.specs.Timers.{count_runs}
 use Rattle.timers.specs.Memory.{timers_of, t1_bits}
 use Rattle.timers.proofs.T1sLaws.{length-joined, length-bits}
 use Rattle.control.specs.Words.{common_of}
-use Rattle.adjacency.specs.declared.record.State.{State}
-use Rattle.adjacency.specs.declared.record.State.TheVariants.{Init, Up}
-use Rattle.model.specs.Answers.{Answer, Told, Looked, Waits, state_answer, record_answer}
+use Rattle.model.specs.Answers.{Answer, Told, Waits}
 use Rattle.model.specs.Step.{Call, Over, step, judge, carry}
 use Rattle.model.specs.Step.{Waiting as WaitingCall}
 use Rattle.own_words.specs.Words.{gateway_of}
 use Rattle.gateway.specs.Whole.{whole_of, DoesWith, Does}
-use Rattle.isis_gr.specs.Words.{answer_no, changed_no, record_words, found_words}
+use Rattle.isis_gr.specs.Words.{answer_no, changed_no}
 use Rattle.isis_gr.specs.declared.answers.ReceivedWords.{ReceivedWords}
-use Rattle.isis_gr.specs.Encodes.{EncodesWith, EncodesFrameWith, Encodes, EncodesFrame, EncodesFound}
-use Rattle.std.specs.Prelude.{Some}
+use Rattle.isis_gr.specs.Encodes.{EncodesWith, EncodesFrameWith, Encodes}
 
 -- of an answer, the step's
 pub with-octets : {w : ℕ} {a : Answer} {c : Call} {ws fs ws' fs' b' : List ℕ} → DoesWith c a ws fs ws' fs' b' → w ≡ answer_no a → EncodesWith w c ws fs ws' fs' b'
@@ -35,19 +32,6 @@ encodes m e fs = with-octets (m fs) e
 pub frame-with : {w : ReceivedWords} {a : Answer} {c : Call} {ws fs ws' fs' b' : List ℕ} → DoesWith c a ws fs ws' fs' b' → w.answer ≡ answer_no a
     → w.change ≡ changed_no a → EncodesFrameWith w c ws fs ws' fs' b'
 frame-with m e f = record { encodes = with-octets m e; change = f ∙ ap changed_no m.answer }
-
-pub encodes-frame : {w : ReceivedWords} {a : Answer} {c : Call} {ws ws' b' : List ℕ} → Does c a ws ws' b' → w.answer ≡ answer_no a → w.change ≡ changed_no a
-    → EncodesFrame w c ws ws' b'
-encodes-frame m e f fs = frame-with (m fs) e f
-
-pub encodes-found : {w : ℕ} {a : Answer} {c : Call} {ws d d' : List ℕ} → Does c a ws ws [] → w ≡ answer_no a → d' ≡ found_words a d
-    → EncodesFound w c ws d d'
-encodes-found {d = d} m e f fs = record { encodes = with-octets (m fs) e; found = f ∙ ap (λ (x : Answer). found_words x d) (m fs).answer }
-
--- a record that was found is written, whatever its state
-pub found-words : (s : State) (shown : Bool) (ws : List ℕ) → found_words (Told (Looked (state_answer s shown))) ws ≡ record_words (record_answer (Some s))
-found-words (Init d) shown ws = refl
-found-words (Up d m) shown ws = refl
 
 -- two words, both written
 pub set_both : (l : List ℕ) {x y y' : ℕ} → length l ≡ 2 → y ≡ y' → set (set l 0 x) 1 y ≡ x ∷ y' ∷ []

@@ -129,9 +129,6 @@ module _ (s : List ℕ) where
       ∙ ap (λ cs. every (circuit_known s) (take (octet s 16) circuit_places) && every circuit_ok cs) (sym (take-map (circuit_from s) (octet s 16) circuit_places))
 
   -- the other settings
-  abbrev lengths-fine : Bool
-  lengths-fine = lengths_ok (settings_from s).lengths
-
   whole-fine : eqb (whole_fault s) 0 ≡ (lengths_ok (settings_from s).lengths && (mode_known (octet s 15) && between 1 (octet s 16) circuits))
   unfolding whole_fault lengths_ok settings_from
   whole-fine =

@@ -9,7 +9,7 @@ ghost use Rattle.isis_gr.specs.Settings.{settings_octets, circuit_places, circui
 use basics::kind::CircuitKind;
 use basics::levels::Levels;
 use basics::mask::CIRCUITS;
-use basics::octets::{four, six, two, wide};
+use basics::octets::{four, six, two};
 use control::setup::Basis;
 use settings::circuit::Circuit;
 use settings::lengths::Lengths;
@@ -55,22 +55,20 @@ const ID: usize = 15;
 fn mode_of(n: u8) -> Mode
     ensures { result ≡ mode_of n }
 {
-    if n == 1 {
-        return Mode::Restarting;
+    match n {
+        1 => Mode::Restarting,
+        2 => Mode::Starting,
+        _ => Mode::Running,
     }
-    if n == 2 {
-        return Mode::Starting;
-    }
-    Mode::Running
 }
 
 fn kind_of(n: u8) -> CircuitKind
     ensures { result ≡ kind_of n }
 {
-    if n == 1 {
-        return CircuitKind::P2p;
+    match n {
+        1 => CircuitKind::P2p,
+        _ => CircuitKind::Lan,
     }
-    CircuitKind::Lan
 }
 
 fn levels_of(n: u8) -> Levels
@@ -87,11 +85,9 @@ pub(crate) fn circuit_at(s: &[u8], at: usize) -> Circuit
     requires { at + 18 < length s.now }
     ensures { result ≡ circuit_from s.now at }
 {
-    let kind = kind_of(s[at]);
-    let levels = levels_of(s[at + LEVELS]);
     Circuit {
-        kind,
-        levels,
+        kind: kind_of(s[at]),
+        levels: levels_of(s[at + LEVELS]),
         mac: six(s, at + MAC),
         priority: s[at + PRIORITY],
         hold: two(s, at + HOLD),
@@ -105,17 +101,15 @@ pub(crate) fn basis_in(s: &[u8]) -> Basis
     requires { length s.now ≡ settings_octets }
     ensures { result ≡ basis_of (settings_from s.now) }
 {
-    let lengths = Lengths {
-        t1: two(s, T1),
-        t2: two(s, T2),
-        tries: s[TRIES],
-    };
-    let mode = mode_of(s[MODE]);
     Basis {
         system: six(s, SYSTEM),
-        lengths,
+        lengths: Lengths {
+            t1: two(s, T1),
+            t2: two(s, T2),
+            tries: s[TRIES],
+        },
         clock: four(s, CLOCK),
-        mode,
+        mode: mode_of(s[MODE]),
         count: s[COUNT],
     }
 }
@@ -124,25 +118,14 @@ fn is_circuit_known(s: &[u8], at: usize) -> bool
     requires { at + 1 < length s.now }
     ensures { result ≡ circuit_known s.now at }
 {
-    if s[at] < 2 {
-        return s[at + LEVELS] < 4;
-    }
-    false
+    s[at] < 2 && s[at + LEVELS] < 4
 }
 
 fn are_circuits_known(s: &[u8], count: usize) -> bool
     requires { (length s.now ≡ settings_octets) × (count ≤ circuits) }
     ensures { result ≡ every (circuit_known s.now) (take count circuit_places) }
 {
-    let mut i = 0;
-    while i < count {
-        if is_circuit_known(s, FIRST_CIRCUIT + CIRCUIT_OCTETS * i) {
-            i += 1;
-        } else {
-            return false;
-        }
-    }
-    true
+    (0..count).all(|i| is_circuit_known(s, FIRST_CIRCUIT + CIRCUIT_OCTETS * i))
 }
 
 // Where a number is not known, setup is refused (12).
@@ -150,12 +133,5 @@ pub(crate) fn are_settings_known(s: &[u8]) -> bool
     requires { length s.now ≡ settings_octets }
     ensures { result ≡ settings_known s.now }
 {
-    let count = wide(s[COUNT]);
-    if s[MODE] < 3 {
-        if count < CIRCUITS {
-            return are_circuits_known(s, count);
-        }
-        return are_circuits_known(s, CIRCUITS);
-    }
-    false
+    s[MODE] < 3 && are_circuits_known(s, usize::from(s[COUNT]).min(CIRCUITS))
 }

@@ -9,31 +9,16 @@ use crate::config::{
     TRIES,
 };
 use basics::mask::CIRCUITS;
-use basics::octets::{four, two, wide};
+use basics::octets::{four, two};
 use settings::circuit::{MAX_HOLD, MAX_METRIC, MAX_PRIORITY, is_between};
 use settings::setup::{MAX_LENGTH, MAX_TRIES};
-
-fn wide_of(n: u8) -> u32
-    ensures { result ≡ n }
-{
-    n as u32
-}
-
-fn wide_two(n: u16) -> u32
-    ensures { result ≡ n }
-{
-    n as u32
-}
 
 // A setting's number, unless it is in range: then the next one's.
 fn or_else(ok: bool, n: u32, next: u32) -> u32
     requires { (n ≤ 255) × (next ≤ 255) }
     ensures { (result ≡ or_else ok n next) × (result ≤ 255) }
 {
-    if ok {
-        return next;
-    }
-    n
+    if ok { next } else { n }
 }
 
 fn circuit_fault(s: &[u8], at: usize) -> u32
@@ -41,9 +26,9 @@ fn circuit_fault(s: &[u8], at: usize) -> u32
     ensures { (result ≡ circuit_fault s.now at) × (result ≤ 255) }
 {
     let kind = s[at] < 2;
-    let levels = is_between(1, wide_of(s[at + LEVELS]), 3);
-    let priority = is_between(0, wide_of(s[at + PRIORITY]), MAX_PRIORITY);
-    let hold = is_between(1, wide_two(two(s, at + HOLD)), MAX_HOLD);
+    let levels = is_between(1, u32::from(s[at + LEVELS]), 3);
+    let priority = is_between(0, u32::from(s[at + PRIORITY]), MAX_PRIORITY);
+    let hold = is_between(1, u32::from(two(s, at + HOLD)), MAX_HOLD);
     let metric = is_between(0, four(s, at + METRIC), MAX_METRIC);
     let fifth = or_else(metric, 11, 0);
     let fourth = or_else(hold, 10, fifth);
@@ -56,13 +41,11 @@ fn circuits_fault(s: &[u8], count: usize) -> u32
     requires { (length s.now ≡ settings_octets) × (count ≤ circuits) }
     ensures { result ≡ circuits_fault s.now (take count circuit_places) 1 }
 {
-    let mut i = 0;
-    while i < count {
+    for i in 0..count {
         let fault = circuit_fault(s, FIRST_CIRCUIT + CIRCUIT_OCTETS * i);
         if fault != 0 {
             return fault + 256 * (i as u32 + 1);
         }
-        i += 1;
     }
     0
 }
@@ -71,11 +54,11 @@ fn whole_fault(s: &[u8]) -> u32
     requires { length s.now ≡ settings_octets }
     ensures { result ≡ whole_fault s.now }
 {
-    let one = is_between(1, wide_two(two(s, T1)), MAX_LENGTH);
-    let other = is_between(1, wide_two(two(s, T2)), MAX_LENGTH);
-    let tries = is_between(1, wide_of(s[TRIES]), MAX_TRIES);
+    let one = is_between(1, u32::from(two(s, T1)), MAX_LENGTH);
+    let other = is_between(1, u32::from(two(s, T2)), MAX_LENGTH);
+    let tries = is_between(1, u32::from(s[TRIES]), MAX_TRIES);
     let mode = s[MODE] < 3;
-    let count = is_between(1, wide_of(s[COUNT]), CIRCUITS as u32);
+    let count = is_between(1, u32::from(s[COUNT]), CIRCUITS as u32);
     let fifth = or_else(count, 6, 0);
     let fourth = or_else(mode, 5, fifth);
     let third = or_else(tries, 4, fourth);
@@ -94,5 +77,5 @@ pub(crate) fn fault_of(version: u32, s: &[u8]) -> u32
     if whole != 0 {
         return whole;
     }
-    circuits_fault(s, wide(s[COUNT]))
+    circuits_fault(s, usize::from(s[COUNT]))
 }

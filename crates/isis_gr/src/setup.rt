@@ -21,16 +21,7 @@ fn are_circuits_ok(s: &[u8], count: usize) -> bool
     requires { (length s.now ≡ settings_octets) × (count ≤ circuits) }
     ensures { result ≡ every circuit_ok (take count (settings_from s.now).circuits) }
 {
-    let mut i = 0;
-    while i < count {
-        let one = circuit_at(s, FIRST_CIRCUIT + CIRCUIT_OCTETS * i);
-        if is_circuit_ok(one) {
-            i += 1;
-        } else {
-            return false;
-        }
-    }
-    true
+    (0..count).all(|i| is_circuit_ok(circuit_at(s, FIRST_CIRCUIT + CIRCUIT_OCTETS * i)))
 }
 
 fn are_settings_ok(s: &[u8]) -> bool
@@ -38,23 +29,21 @@ fn are_settings_ok(s: &[u8]) -> bool
     ensures { result ≡ settings_ok (settings_from s.now) }
 {
     let basis = basis_in(s);
-    let count = basis.count;
-    let lengths = basis.lengths;
-    if is_between(1, count as u32, CIRCUITS as u32) {
-        return are_circuits_ok(s, count as usize) & are_lengths_ok(lengths);
-    }
-    false
+    is_between(1, u32::from(basis.count), CIRCUITS as u32)
+        && are_circuits_ok(s, usize::from(basis.count))
+        && are_lengths_ok(basis.lengths)
 }
 
 fn put_circuits(gateway: &mut [u64; GATEWAY_WORDS], s: &[u8])
     requires { length s.now ≡ settings_octets }
     ensures { HoldsCircuits (settings_from s.now).circuits gateway.new }
 {
-    let mut i = 0;
-    while i < CIRCUITS {
-        let one = circuit_at(s, FIRST_CIRCUIT + CIRCUIT_OCTETS * i);
-        put_circuit(gateway, i, one);
-        i += 1;
+    for i in 0..CIRCUITS {
+        put_circuit(
+            gateway,
+            i,
+            circuit_at(s, FIRST_CIRCUIT + CIRCUIT_OCTETS * i),
+        );
     }
 }
 

@@ -1,48 +1,19 @@
 -- What the code reads off a call that was made: each branch of its functions is one of these laws.
 use Prim.Native.Nat.{ℕ}
 use mathlib.Core.Path.{◌≡◌, refl, sym}
-use mathlib.Core.Bool.{false, true≢false}
 use mathlib.Core.Logic.{◌≢◌}
 use mathlib.Core.List.{List}
 use borrow.Author.Tests.{eq-eqb, ne_eqb}
 use Rattle.basics.specs.declared.refusal.Refusal.{Refusal}
 use Rattle.model.specs.Answers.{Answer}
 use Rattle.model.specs.Gateway.{Gateway}
-use Rattle.model.specs.Step.{Receive, Release, Clear, CsnpComplete, LookUp, LinkMetric, NextHello, Call, At, Over, Hand, Outcome}
+use Rattle.model.specs.Step.{Call, Outcome}
 use Rattle.model.specs.declared.answers.Orders.{Orders}
-use Rattle.reasons.specs.Holds.{is_receive}
-use Rattle.reasons.specs.Why.{NotSo, NoRecord, Refused, of_receive, unknown, turned_away, gone_by, no_csnps, unordered, reason_of}
-use Rattle.reasons.specs.declared.why.Reason.{Reason}
+use Rattle.reasons.specs.Why.{NotSo, NoRecord, Refused, unknown, turned_away, gone_by, no_csnps, unordered}
 use Rattle.isis_gr_why.specs.Told.{Tells}
 use Rattle.isis_gr_why.specs.declared.made.Made.{Made}
-use Rattle.isis_gr_why.specs.declared.made.Made.TheVariants.{Frame, Other}
+use Rattle.isis_gr_why.specs.declared.made.Made.TheVariants.{Frame}
 use Rattle.std.specs.Prelude.{Result, Ok, Err}
-
--- ---- a call that is no receive
-
-not-receive : {A : Type 0} (c : Call) (f : ℕ → ℕ → List ℕ → A) (other : A) → is_receive c ≡ false → other ≡ of_receive c f other
-not-receive (At m (Receive mac frame b)) f other e = absurd (true≢false e)
-not-receive (At m Release) f other e = refl
-not-receive (At m Clear) f other e = refl
-not-receive (At m (CsnpComplete level)) f other e = refl
-not-receive (At m (LookUp k)) f other e = refl
-not-receive (At m LinkMetric) f other e = refl
-not-receive (At m (NextHello level)) f other e = refl
-not-receive (Over w) f other e = refl
-not-receive (Hand m p) f other e = refl
-
-module _ (made : Made) (w : Reason) (e : made ≡ Other w) (mac : ℕ) (frame b : List ℕ) (c : Call) (x : Answer) (t : Tells made mac frame b c x) where
-  told : Tells (Other w) mac frame b c x
-  told = rw e at t
-
-  pub unknown-other : (n : ℕ) → NoRecord ≡ unknown n c x
-  unknown-other n = not-receive c (λ m mac frame. turned_away n m x) NoRecord told.1
-
-  pub went-other : reason_of w ≡ gone_by c
-  went-other = sym told.0
-
-  pub silent-other : (g : Gateway) (o : Outcome) → NotSo ≡ no_csnps g c o
-  silent-other g o = not-receive c _ NotSo told.1
 
 -- ---- a receive
 

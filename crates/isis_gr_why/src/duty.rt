@@ -14,16 +14,8 @@ use slots::slot::{PLACES, load};
 fn priority_in(entry: Record) -> u8
     ensures { result ≡ priority_in entry }
 {
-    let state = entry.state;
-    match state {
-        State::Init(data) => {
-            let last = data.last;
-            last.priority
-        }
-        State::Up(data, _) => {
-            let last = data.last;
-            last.priority
-        }
+    match entry.state {
+        State::Init(data) | State::Up(data, _) => data.last.priority,
     }
 }
 
@@ -41,14 +33,9 @@ fn router_of(entry: Record) -> Router
 fn is_tie(best: Router, entry: Record) -> bool
     ensures { result ≡ is_tie best.system best.priority best.mac entry }
 {
-    let key = entry.key;
-    if priority_in(entry) != best.priority {
-        return false;
-    }
-    if key.mac != best.mac {
-        return false;
-    }
-    key.system < best.system
+    priority_in(entry) == best.priority
+        && entry.key.mac == best.mac
+        && entry.key.system < best.system
 }
 
 // Whether a record goes before the router that had the duty.
@@ -60,13 +47,7 @@ fn is_ahead(own: Rank, best: Router, entry: Record) -> bool
         priority: best.priority,
         mac: best.mac,
     };
-    if is_outranked_by(rank, entry) {
-        return true;
-    }
-    if is_outranked_by(own, entry) {
-        return is_tie(best, entry);
-    }
-    false
+    is_outranked_by(rank, entry) || is_outranked_by(own, entry) && is_tie(best, entry)
 }
 
 // Who has it, if not we, once a record is looked at too.
@@ -104,10 +85,8 @@ pub(crate) fn duty_in(words: &[u64], own: Rank) -> Option<Router>
     ensures { result ≡ duty_in own (table_of words.now) }
 {
     let mut duty = None;
-    let mut i = 0;
-    while i < PLACES {
+    for i in 0..PLACES {
         duty = duty_at(words, i, own, duty);
-        i += 1;
     }
     duty
 }

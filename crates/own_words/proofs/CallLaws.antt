@@ -21,8 +21,6 @@ use Rattle.room.specs.Sweep.{Sweeps}
 use Rattle.metric.specs.Metric.{link_metric}
 use Rattle.restart_tlv.specs.declared.flags.Flags.{Flags}
 use Rattle.basics.specs.declared.levels.Levels.{Levels}
-use Rattle.basics.specs.declared.kind.CircuitKind.{CircuitKind}
-use Rattle.basics.specs.declared.kind.CircuitKind.TheVariants.{Lan}
 use Rattle.basics.specs.Mask.{bits_of, circuits}
 use Rattle.timer_parts.specs.T1.{hello_flags}
 use Rattle.timers.specs.Hellos.{Hellos}
@@ -158,9 +156,6 @@ module _ (ws : List ℕ) (n : ℕ) (len : length ws ≡ own_words) where
         ap (λ (x : Flags). x.bits) e
         ∙ ap (λ (j : ℕ). (hello_flags (common_of (part 0 control_words ws)).timers.mode (get_or (common_of (part 0 control_words ws)).timers.t1s j no_t1)).bits) ie in
         asks ws n (next_hello n s level) (Told (HelloFlags f.bits)) (rw has (ap (λ (x : ℕ). Told (HelloFlags x)) p)) (rw has refl) (rw has refl) (rw has refl)
-
-pub asks-lan : (kind : CircuitKind) (l : Levels) (level : ℕ) (r : Bool) → kind ≡ Lan → r ≡ has_level l level → r ≡ asks_level kind l level
-asks-lan kind l level r e h = rw e h
 
 -- the stage of a call on a circuit is the call's own definition
 module _ (g : Gateway) (n : ℕ) (s : Circuit) where

@@ -6,7 +6,7 @@ use mathlib.Core.Logic.{◌≢◌}
 use mathlib.Core.Bool.{true, false}
 use mathlib.Core.List.{List, [], ◌∷◌, ◌++◌, map}
 use lib.ListN.{length, set, get_or, take, drop}
-use borrow.Author.Tests.{lt-ltb, le-ltb}
+use borrow.Author.Tests.{le-ltb}
 use borrow.Rule.Slice.PartMut.{put_mid}
 use Rattle.basics.proofs.PartLaws.{part_same}
 use Rattle.basics.specs.Lists.{part}
@@ -73,9 +73,6 @@ pub record PutUpTo (all : List Circuit) (ws : List ℕ) (i : ℕ) : Type 0 where
   pub rooms : take i (gateway_of ws).rooms ++ map new_room (drop i all) ≡ map new_room all
 
 module _ (all : List Circuit) (len : length all ≡ circuits) where
-  pub put-none : (ws : List ℕ) → PutUpTo all ws 0
-  put-none ws = record { stored = λ j lt. absurd (omega arith); rooms = refl }
-
   pub put_next : (ws ws' : List ℕ) (i : ℕ) (d : Circuit) → i < circuits → PutUpTo all ws i → PutsCircuit i (get_or all i d) ws ws' → PutUpTo all ws' (i + 1)
   put_next ws ws' i d lt h p =
       record {
@@ -94,9 +91,6 @@ module _ (all : List Circuit) (len : length all ≡ circuits) where
 
 -- ---- the rest
 
-pub counted-many : (b : Basis) → circuits < b.count → record { system = b.system; lengths = b.lengths; clock = b.clock; mode = b.mode; count = 0 } ≡ counted_basis b
-counted-many b h = rw (lt-ltb circuits b.count h) refl
-
 pub counted_same : (b : Basis) → b.count ≤ circuits → b ≡ counted_basis b
 counted_same b h = rw (le-ltb circuits b.count h) refl
 
@@ -104,9 +98,6 @@ pub begins : (ws u : List ℕ) (b : Basis) (hellos : Hellos) → length ws ≡ o
     → SetsControl (settings_on b (circuits_from (part 0 control_words ws) 0 circuits)) u hellos → Begins b ws (put_mid 0 control_words ws u) hellos
 begins ws u b hellos len lu h =
     record { next = common-put ws u len lu ∙ ap (with_common (gateway_of ws)) h.common; ordered = h.hellos }
-
-pub begins-as : {b b' : Basis} {ws ws' : List ℕ} {h : Hellos} → b ≡ b' → Begins b ws ws' h → Begins b' ws ws' h
-begins-as e h = rw (← e) h
 
 module _ (ws : List ℕ) (s : Settings) where
   pub set-up-refused : settings_ok s ≡ false → SetsUp (setup s) ws ws (Err BadSetting)

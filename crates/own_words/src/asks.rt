@@ -50,11 +50,8 @@ fn look_on(gateway: &[u64], n: u8, s: Circuit, key: Key) -> Result<Option<Found>
     requires { (length gateway.now ≡ own_words) × (0 < n) × (n ≤ circuits) }
     ensures { Meets (looked_of result) (lift (gateway_of gateway.now) n (look_up s key)) gateway.now gateway.now [] }
 {
-    let kind = s.kind;
-    let levels = s.levels;
-    let level = key.level;
-    if asks_level(kind, levels, level) {
-        let own = key_on(kind, key);
+    if asks_level(s.kind, s.levels, key.level) {
+        let own = key_on(s.kind, key);
         let a = CONTROL_WORDS + ROOM_WORDS * (n as usize - 1);
         let stood = found(&gateway[a..a + ROOM_WORDS], own);
         return looked_at(stood);
@@ -80,22 +77,19 @@ pub fn metric_in(gateway: &[u64], n: u8) -> Result<u32, Refusal>
     let Some(s) = circuit_of(&gateway[0..CONTROL_WORDS], n) else {
         return Err(Refusal::NoCircuit);
     };
-    let kind = s.kind;
     let a = CONTROL_WORDS + ROOM_WORDS * (n as usize - 1);
     let stood = first_state(&gateway[a..a + ROOM_WORDS]);
-    Ok(link_metric(kind, s.metric, stood))
+    Ok(link_metric(s.kind, s.metric, stood))
 }
 
 fn flags_on(gateway: &[u64], n: u8, s: Circuit, level: u8) -> Result<Flags, Refusal>
     requires { (length gateway.now ≡ own_words) × (0 < n) × (n ≤ circuits) }
     ensures { Meets (flags_of result) (lift (gateway_of gateway.now) n (next_hello n s level)) gateway.now gateway.now [] }
 {
-    let kind = s.kind;
-    let levels = s.levels;
-    if !has_level(levels, level) {
+    if !has_level(s.levels, level) {
         return Err(Refusal::NoCircuit);
     }
-    let i = t1_place(kind, n as usize - 1, level);
+    let i = t1_place(s.kind, n as usize - 1, level);
     let flags = next_flags(&gateway[0..CONTROL_WORDS], i);
     Ok(flags)
 }

@@ -20,16 +20,14 @@ fn csnp_on(gateway: &mut [u64], n: u8, s: Circuit, level: u8) -> Result<TimerOut
     requires { (length gateway.old ≡ own_words) × (0 < n) × (n ≤ circuits) }
     ensures { Meets (noticed_of result) (lift (gateway_of gateway.old) n (csnp_complete n s level)) gateway.old gateway.new [] }
 {
-    let kind = s.kind;
-    let levels = s.levels;
-    if !has_level(levels, level) {
+    if !has_level(s.levels, level) {
         return Err(Refusal::NoCircuit);
     }
     if is_running(mode_of(&gateway[0..CONTROL_WORDS])) {
         return Err(Refusal::NotRestarting);
     }
     let set = only_level(level);
-    let i = t1_place(kind, n as usize - 1, level);
+    let i = t1_place(s.kind, n as usize - 1, level);
     let outcome = notice_csnp(&mut gateway[0..CONTROL_WORDS], i, set);
     Ok(outcome)
 }

@@ -21,21 +21,17 @@ pub fn put_in(gateway: &mut [u64], i: usize, s: Circuit)
     requires { (length gateway.old ≡ own_words) × (i < circuits) }
     ensures { PutsCircuit i s gateway.old gateway.new }
 {
-    let kind = s.kind;
     let a = CONTROL_WORDS + ROOM_WORDS * i;
     store_circuit(&mut gateway[0..CONTROL_WORDS], i, s);
-    open_room(&mut gateway[a..a + ROOM_WORDS], kind);
+    open_room(&mut gateway[a..a + ROOM_WORDS], s.kind);
 }
 
 fn put_circuits(gateway: &mut [u64], all: [Circuit; CIRCUITS])
     requires { length gateway.old ≡ own_words }
     ensures { HoldsCircuits all gateway.new }
 {
-    let mut i = 0;
-    while i < CIRCUITS {
-        let one = all[i];
-        put_in(gateway, i, one);
-        i += 1;
+    for i in 0..CIRCUITS {
+        put_in(gateway, i, all[i]);
     }
 }
 
@@ -52,18 +48,15 @@ pub fn set_up_in(gateway: &mut [u64], s: Settings) -> Result<HelloOrders, Refusa
     requires { length gateway.old ≡ own_words }
     ensures { SetsUp (setup s) gateway.old gateway.new result }
 {
-    let all = s.circuits;
-    let lengths = s.lengths;
-    let mode = s.mode;
     if are_settings_ok(s) {
         let basis = Basis {
             system: s.system,
-            lengths,
+            lengths: s.lengths,
             clock: s.clock,
-            mode,
+            mode: s.mode,
             count: s.count,
         };
-        put_circuits(gateway, all);
+        put_circuits(gateway, s.circuits);
         let hellos = begin_in(gateway, basis);
         return Ok(hellos);
     }
@@ -75,15 +68,7 @@ pub fn counted(s: Basis) -> Basis
     ensures { (result ≡ counted_basis s) × (result.count ≤ circuits) }
 {
     if (CIRCUITS as u8) < s.count {
-        let lengths = s.lengths;
-        let mode = s.mode;
-        return Basis {
-            system: s.system,
-            lengths,
-            clock: s.clock,
-            mode,
-            count: 0,
-        };
+        return Basis { count: 0, ..s };
     }
     s
 }

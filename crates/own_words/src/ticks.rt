@@ -25,7 +25,7 @@ fn sweep_room(gateway: &mut [u64], i: usize, clock: u32) -> bool
     ensures { (result ≡ lapsed clock (get_or (gateway_of gateway.old).rooms i no_room)) × (gateway_of gateway.new ≡ with_rooms (gateway_of gateway.old) (set (gateway_of gateway.old).rooms i (swept_room clock (get_or (gateway_of gateway.old).rooms i no_room)))) }
 {
     let a = CONTROL_WORDS + ROOM_WORDS * i;
-    expire(&mut gateway[a..a + ROOM_WORDS], clock as u64)
+    expire(&mut gateway[a..a + ROOM_WORDS], u64::from(clock))
 }
 
 // Every circuit: the mask of those that lost a record.
@@ -34,11 +34,8 @@ fn sweep_rooms(gateway: &mut [u64], clock: u32) -> u8
     ensures { (lost_bits result ≡ map (lapsed clock) (gateway_of gateway.old).rooms) × (gateway_of gateway.new ≡ with_rooms (gateway_of gateway.old) (map (swept_room clock) (gateway_of gateway.old).rooms)) }
 {
     let mut lost = 0u8;
-    let mut i = 0;
-    while i < CIRCUITS {
-        let m = sweep_room(gateway, i, clock);
-        lost = put_bit(lost, i, m);
-        i += 1;
+    for i in 0..CIRCUITS {
+        lost = put_bit(lost, i, sweep_room(gateway, i, clock));
     }
     lost
 }
@@ -101,8 +98,7 @@ pub fn clear_in(gateway: &mut [u64], n: u8) -> Result<(), Refusal>
     let Some(s) = circuit_of(&gateway[0..CONTROL_WORDS], n) else {
         return Err(Refusal::NoCircuit);
     };
-    let kind = s.kind;
     let a = CONTROL_WORDS + ROOM_WORDS * (n as usize - 1);
-    open_room(&mut gateway[a..a + ROOM_WORDS], kind);
+    open_room(&mut gateway[a..a + ROOM_WORDS], s.kind);
     Ok(())
 }

@@ -2,57 +2,73 @@
 use Prim.Native.Nat.{ℕ, suc, ◌+◌, ◌<◌, ◌≤◌}
 use native.Mathlib.Omega.{arith}
 use native.Mathlib.Numerals.{add-one}
-use mathlib.Core.Path.{◌≡◌, refl, sym}
-use mathlib.Core.Bool.{Bool, true, false, ◌||◌}
-use mathlib.Core.List.{List, [], ◌∷◌, ◌++◌, map, append-nil}
+use mathlib.Core.Path.{◌≡◌, refl, sym, ◌∙◌}
+use mathlib.Core.Bool.{Bool, true, false, true≢false, ◌||◌, or-false, or-true}
+use mathlib.Core.List.{List, [], ◌∷◌, ◌++◌, append-nil}
 use lib.ListN.{length, get_or, set, take, drop, drop_of_length-le}
-use lib.Seq.{drop-cons, take-suc-set, drop-set-lt, append_snoc, take_all}
+use lib.Seq.{drop-cons, take-suc, take-suc-set, drop-set-lt, append_snoc, take_all}
 use Rattle.basics.proofs.BoolLaws.{neither}
 use Rattle.basics.specs.declared.kind.CircuitKind.{CircuitKind}
 use Rattle.adjacency.specs.declared.record.State.{State}
-use Rattle.slots.specs.Slots.{table_of, places}
-use Rattle.adjacency.specs.Place.{meets}
+use Rattle.slots.specs.Slots.{table_of, due_at, places}
+use Rattle.adjacency.specs.Place.{meets, expired_by}
 use Rattle.adjacency.specs.declared.place.Slot.{Slot}
 use Rattle.adjacency.specs.declared.place.Slot.TheVariants.{Free}
 use Rattle.basics.proofs.ListLaws.{length-tabulate, get_or-tabulate}
 use Rattle.slots.proofs.SlotLaws.{length-table}
-use Rattle.room.specs.Table.{swept_place, sweep, empty_place, empty_room}
+use Rattle.slots.proofs.ProbeLaws.{not-due}
+use Rattle.room.proofs.SearchLaws.{AnyOf, none_found}
+use Rattle.room.specs.Table.{any_expired, swept_place, sweep, empty_place, empty_room}
 use Rattle.basics.specs.Lists.{some}
+use Rattle.room.specs.Sweep.{Sweeps}
+
+-- where no place is due, no record has expired
+pub none_due : (clock : ℕ) (ws : List ℕ) (r : Bool) → AnyOf (λ i. due_at clock ws i ≡ true) (λ i. due_at clock ws i ≡ false) r
+    → r ≡ false → any_expired clock (table_of ws) ≡ false
+none_due clock ws true h e = absurd (true≢false e)
+none_due clock ws false h e =
+    none_found (meets (expired_by clock)) (table_of ws) (length-table ws) (λ i. due_at clock ws i ≡ false) (λ i l n. sym (not-due clock ws i l n)) h
 
 -- a sweep
 
-module _ (p : State → Bool) (t : List Slot) (i : ℕ) (lt : i < length t) where
-  pub sweep-step : take (i + 1) (set t i (swept_place p (get_or t i Free))) ++ sweep p (drop (i + 1) (set t i (swept_place p (get_or t i Free))))
-      ≡ take i t ++ sweep p (drop i t)
-  unfolding sweep
-  sweep-step =
-      rw (
-        add-one i,
-        take-suc-set t i (swept_place p (get_or t i Free)) lt,
-        drop-set-lt (suc i) t i (swept_place p (get_or t i Free)) (omega arith),
-        drop-cons t i Free lt,
-      )
-      (append_snoc (take i t) (swept_place p (get_or t i Free)) (map (swept_place p) (drop (suc i) t)))
+-- the places before i are swept, and gone says whether a record went: what is done and the sweep of what is left are the sweep of the whole
+pub record Swept (p : State → Bool) (t : List Slot) (i : ℕ) (gone : Bool) (t' : List Slot) : Type 0 where
+  pub any : gone || some (meets p) (drop i t') ≡ some (meets p) t
+  pub left : take i t' ++ sweep p (drop i t') ≡ sweep p t
 
-  pub any_step : (a : Bool) → (a || meets p (get_or t i Free)) || some (meets p) (drop (i + 1) (set t i (swept_place p (get_or t i Free))))
-      ≡ a || some (meets p) (drop i t)
-  unfolding some
-  any_step true = refl
-  any_step false =
-      rw (add-one i, drop-set-lt (suc i) t i (swept_place p (get_or t i Free)) (omega arith), drop-cons t i Free lt) refl
+module _ (p : State → Bool) (t u : List Slot) (i : ℕ) (gone : Bool) (h : Swept p t i gone u) where
+  pub swept-gone : i < length u → meets p (get_or u i Free) ≡ true → Swept p t (i + 1) true (set u i Free)
+  unfolding sweep some
+  swept-gone lt e =
+      let c : drop i u ≡ get_or u i Free ∷ drop (suc i) u = drop-cons u i Free lt in
+      let w : swept_place p (get_or u i Free) ≡ Free = rw e refl in
+      record {
+        any = sym (or-true gone) ∙ rw (c, e) at h.any;
+        left =
+            rw (add-one i, take-suc-set u i Free lt, drop-set-lt (suc i) u i Free (omega arith))
+            (append_snoc (take i u) Free (sweep p (drop (suc i) u)) ∙ rw (c, w) at h.left);
+      }
 
-module _ (p : State → Bool) (t : List Slot) (i : ℕ) (le : length t ≤ i) where
-  pub sweep-end : t ≡ take i t ++ sweep p (drop i t)
-  unfolding sweep
-  sweep-end = rw (take_all i t le, drop_of_length-le t le) (sym (append-nil t))
+  pub swept-stays : i < length u → meets p (get_or u i Free) ≡ false → Swept p t (i + 1) gone u
+  unfolding sweep some
+  swept-stays lt e =
+      let c : drop i u ≡ get_or u i Free ∷ drop (suc i) u = drop-cons u i Free lt in
+      let w : swept_place p (get_or u i Free) ≡ get_or u i Free = rw e refl in
+      record {
+        any = rw (add-one i) (rw (c, e) at h.any);
+        left =
+            rw (add-one i, take-suc u i Free lt)
+            (append_snoc (take i u) (get_or u i Free) (sweep p (drop (suc i) u)) ∙ rw (c, w) at h.left);
+      }
 
-  pub any-end : (a : Bool) → a ≡ a || some (meets p) (drop i t)
-  unfolding some
-  any-end true = refl
-  any-end false = rw (drop_of_length-le t le) refl
-
-pub swept-gone : (p : State → Bool) (s : Slot) → meets p s ≡ true → Free ≡ swept_place p s
-swept-gone p s e = rw e refl
+  pub swept-end : length u ≤ i → Sweeps p t u gone
+  unfolding sweep some
+  swept-end le =
+      let d : drop i u ≡ [] = drop_of_length-le u le in
+      record {
+        any = sym (or-false gone) ∙ rw d at h.any;
+        left = sym (append-nil u) ∙ rw (take_all i u le, d) at h.left;
+      }
 
 pub swept_kept : (p : State → Bool) (s : Slot) → meets p s ≡ false → s ≡ swept_place p s
 swept_kept p s e = rw e refl

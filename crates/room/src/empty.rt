@@ -10,15 +10,11 @@ fn empty_at(words: &mut [u64], i: usize, kind: CircuitKind)
     requires { (length words.old ≡ room_words) × (i < places) }
     ensures { table_of words.new ≡ set (table_of words.old) i (empty_place kind i) }
 {
-    let CircuitKind::P2p = kind else {
+    if i == 0 || matches!(kind, CircuitKind::Lan) {
         clear(words, i);
-        return;
-    };
-    if i == 0 {
-        clear(words, i);
-        return;
+    } else {
+        close(words, i);
     }
-    close(words, i);
 }
 
 // Whatever the words were.
@@ -27,9 +23,7 @@ pub fn open_room(words: &mut [u64], kind: CircuitKind)
     requires { length words.old ≡ room_words }
     ensures { table_of words.new ≡ empty_room kind }
 {
-    let mut i = 0;
-    while i < PLACES {
+    for i in 0..PLACES {
         empty_at(words, i, kind);
-        i += 1;
     }
 }

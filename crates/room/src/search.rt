@@ -18,14 +18,9 @@ pub fn find_key(words: &[u64], level: u8, system: u64, mac: u64) -> usize
     requires { length words.now ≡ room_words }
     ensures { result ≡ first_of (has_key (record { level = level; system = system; mac = mac })) (table_of words.now) }
 {
-    let mut i = 0;
-    while i < PLACES {
-        if is_key_at(words, i, Key { level, system, mac }) {
-            return i;
-        }
-        i += 1;
-    }
-    PLACES
+    (0..PLACES)
+        .find(|i| is_key_at(words, *i, Key { level, system, mac }))
+        .unwrap_or(PLACES)
 }
 
 // The first place that is free.
@@ -33,28 +28,18 @@ pub fn first_free(words: &[u64]) -> usize
     requires { length words.now ≡ room_words }
     ensures { result ≡ first_of is_free (table_of words.now) }
 {
-    let mut i = 0;
-    while i < PLACES {
-        if is_free_at(words, i) {
-            return i;
-        }
-        i += 1;
-    }
-    PLACES
+    (0..PLACES)
+        .find(|i| is_free_at(words, *i))
+        .unwrap_or(PLACES)
 }
 
 fn first_held(words: &[u64]) -> usize
     requires { length words.now ≡ room_words }
     ensures { result ≡ first_of is_held (table_of words.now) }
 {
-    let mut i = 0;
-    while i < PLACES {
-        if is_held_at(words, i) {
-            return i;
-        }
-        i += 1;
-    }
-    PLACES
+    (0..PLACES)
+        .find(|i| is_held_at(words, *i))
+        .unwrap_or(PLACES)
 }
 
 // The state of the record at a place, if one stands there.
@@ -85,12 +70,5 @@ pub fn is_outranked(words: &[u64], rank: Rank) -> bool
     requires { length words.now ≡ room_words }
     ensures { result ≡ any_outranks rank (table_of words.now) }
 {
-    let mut i = 0;
-    while i < PLACES {
-        if is_outranked_at(words, i, rank) {
-            return true;
-        }
-        i += 1;
-    }
-    false
+    (0..PLACES).any(|i| is_outranked_at(words, i, rank))
 }

@@ -1,53 +1,29 @@
 // Records removed: by a tick those whose expiry is reached, by a release those marked Planned.
-ghost use Rattle.std.specs.Prelude.{◌≡◌, ◌<◌, false, length, get_or, set};
+ghost use Rattle.std.specs.Prelude.{◌≡◌, ◌<◌, ℕ, Bool, false, length, get_or};
 ghost use Rattle.slots.specs.Slots.{table_of, room_words, places};
+ghost use Rattle.adjacency.specs.declared.record.State.{State};
 ghost use Rattle.adjacency.specs.Place.{meets, expired_by};
 ghost use Rattle.adjacency.specs.declared.place.Slot.TheVariants.{Free};
-ghost use Rattle.room.specs.Table.{swept_place, any_expired, released};
-ghost use Rattle.room.specs.Sweep.{test_of, Sweeps};
+ghost use Rattle.room.specs.Table.{any_expired, released};
+ghost use Rattle.room.specs.Sweep.{Tells, Sweeps};
 
 use slots::probe::{is_due_at, is_expired_at, is_planned_at};
 use slots::slot::{PLACES, clear};
 
-// Which records go: at a clock, those whose expiry is at or below it; or those marked Planned.
-#[derive(Clone, Copy)]
-enum Sweep {
-    Expired(u64),
-    Planned,
-}
-
-fn is_swept_at(words: &[u64], i: usize, which: Sweep) -> bool
-    requires { (length words.now ≡ room_words) × (i < places) }
-    ensures { result ≡ meets (test_of which) (get_or (table_of words.now) i Free) }
-{
-    match which {
-        Sweep::Expired(clock) => is_expired_at(words, i, clock),
-        Sweep::Planned => is_planned_at(words, i),
-    }
-}
-
-fn sweep_at(words: &mut [u64], i: usize, which: Sweep) -> bool
-    requires { (length words.old ≡ room_words) × (i < places) }
-    ensures value { result ≡ meets (test_of which) (get_or (table_of words.old) i Free) }
-    ensures words_after { table_of words.new ≡ set (table_of words.old) i (swept_place (test_of which) (get_or (table_of words.old) i Free)) }
-{
-    if is_swept_at(words, i, which) {
-        clear(words, i);
-        return true;
-    }
-    false
-}
-
+// Each record goes at whose place the closure answers true: whether any went. Where its answers are those of a test of the record's state, that
+// is the test's sweep.
 #[inline(always)]
-fn sweep_in(words: &mut [u64], which: Sweep) -> bool
-    requires { length words.old ≡ room_words }
-    ensures { Sweeps (test_of which) (table_of words.old) (table_of words.new) result }
+fn sweep_in<F: Fn(&[u64], usize) -> bool>(words: &mut [u64], goes_at: F) -> bool
+    requires room { length words.old ≡ room_words }
+    requires pre { (f : F) (ws : _) (i : ℕ) → length ws.now ≡ room_words → i < places → F.pre f ws i }
+    ensures { (test : State → Bool) → Tells (F.post goes_at) test → Sweeps test (table_of words.old) (table_of words.new) result }
 {
     let mut any = false;
-    let mut i = 0;
-    while i < PLACES {
-        any = any | sweep_at(words, i, which);
-        i += 1;
+    for i in 0..PLACES {
+        if goes_at(words, i) {
+            clear(words, i);
+            any = true;
+        }
     }
     any
 }
@@ -57,14 +33,7 @@ fn is_due(words: &[u64], clock: u64) -> bool
     requires { length words.now ≡ room_words }
     ensures { result ≡ false → any_expired clock (table_of words.now) ≡ false }
 {
-    let mut i = 0;
-    while i < PLACES {
-        if is_due_at(words, i, clock) {
-            return true;
-        }
-        i += 1;
-    }
-    false
+    (0..PLACES).any(|i| is_due_at(words, i, clock))
 }
 
 // A tick: whether any record went.
@@ -75,7 +44,7 @@ pub fn expire(words: &mut [u64], clock: u64) -> bool
     if !is_due(words, clock) {
         return false;
     }
-    sweep_in(words, Sweep::Expired(clock))
+    sweep_in(words, |words, i| is_expired_at(words, i, clock))
 }
 
 // A release.
@@ -83,5 +52,5 @@ pub fn release(words: &mut [u64])
     requires { length words.old ≡ room_words }
     ensures { table_of words.new ≡ released (table_of words.old) }
 {
-    sweep_in(words, Sweep::Planned);
+    sweep_in(words, is_planned_at);
 }

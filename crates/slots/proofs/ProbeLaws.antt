@@ -2,7 +2,7 @@
 use Prim.Native.Nat.{ℕ, ◌+◌, ◌*◌, ◌/◌, ◌%◌, ◌<◌}
 use native.Mathlib.Omega.{arith}
 use mathlib.Core.Path.{◌≡◌, refl, sym, ap, ◌∙◌}
-use mathlib.Core.Bool.{Bool, true, false, not, cond, ◌&&◌, true≢false}
+use mathlib.Core.Bool.{Bool, true, false, not, cond, ◌&&◌}
 use mathlib.Core.List.{List}
 use lib.ListN.{get_or}
 use lib.Dec.{eqb, leb}
@@ -18,7 +18,7 @@ use Rattle.adjacency.specs.declared.record.Key.{Key}
 use Rattle.adjacency.specs.declared.record.Record.{Record}
 use Rattle.slots.specs.Word.{state_at, data_at, mark_at}
 use Rattle.slots.specs.Slots.{table_of, held_word, due_at, places}
-use Rattle.adjacency.specs.Place.{is_free, is_held, meets, expired_by, marks_planned, planned_state, outranked_at}
+use Rattle.adjacency.specs.Place.{is_free, meets, expired_by, marks_planned, planned_state}
 use Rattle.adjacency.specs.Keys.{same_key}
 use Rattle.adjacency.specs.declared.place.Slot.{Slot}
 use Rattle.adjacency.specs.declared.place.Slot.TheVariants.{Free, Held, Closed}
@@ -151,8 +151,3 @@ outranks-init rank k d = and-false (eqb k.level rank.level)
 pub outranks-level : (rank : Rank) (r : Record) → (r.key.level ≡ rank.level → ⊥) → outranks rank r ≡ false
 unfolding outranks
 outranks-level rank r ne = rw (ne_eqb r.key.level rank.level ne) refl
-
-pub outranks-none : (rank : Rank) (s : Slot) → is_held s ≡ false → false ≡ outranked_at rank s
-outranks-none rank Free h = refl
-outranks-none rank (Held r) h = absurd (true≢false h)
-outranks-none rank Closed h = refl

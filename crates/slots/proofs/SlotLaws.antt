@@ -76,18 +76,12 @@ other ws i p q v e ne = get_or-set_other ws p q v 0 (λ (z : q ≡ p). ne (ap (�
 
 module _ (ws : List ℕ) (i : ℕ) (len : length ws ≡ room_words) (lt : i < places) where
   -- the expiry and the tag change, and the tag alone decides
-  emptied : (e v : ℕ) (s : Slot) → ((system mac expiry : ℕ) → slot_of system mac expiry v ≡ s)
+  pub emptied : (e v : ℕ) (s : Slot) → ((system mac expiry : ℕ) → slot_of system mac expiry v ≡ s)
       → table_of (set (set ws (4 * i + 2) e) (4 * i + 3) v) ≡ set (table_of ws) i s
   emptied e v s means =
       stored ws (set (set ws (4 * i + 2) e) (4 * i + 3) v) i s lt
       (rw (get_or-set_same (set ws (4 * i + 2) e) (4 * i + 3) v 0 (simp length-set (omega arith))) (means _ _ _))
       (λ q ne. other (set ws (4 * i + 2) e) i (4 * i + 3) q v (omega arith) ne ∙ other ws i (4 * i + 2) q e (omega arith) ne)
-
-  pub cleared : (e : ℕ) → table_of (set (set ws (4 * i + 2) e) (4 * i + 3) 0) ≡ set (table_of ws) i Free
-  cleared e = emptied e 0 Free (λ system mac expiry. refl)
-
-  pub closed : (e : ℕ) → table_of (set (set ws (4 * i + 2) e) (4 * i + 3) 3) ≡ set (table_of ws) i Closed
-  closed e = emptied e 3 Closed (λ system mac expiry. refl)
 
 abbrev set3 : List ℕ → ℕ → ℕ → ℕ → ℕ → List ℕ
 set3 ws i a b c = set (set (set ws (4 * i) a) (4 * i + 1) b) (4 * i + 2) c

@@ -13,11 +13,7 @@ use adjacency::record::Key;
 fn is_held_word(w: u64) -> bool
     ensures { result ≡ held_word w }
 {
-    let tag = w % 4;
-    if tag == 0 {
-        return false;
-    }
-    tag != 3
+    w % 4 != 0 && w % 4 != 3
 }
 
 // Whether the place is free.
@@ -36,7 +32,7 @@ pub fn is_held_at(words: &[u64], i: usize) -> bool
     is_held_word(words[PLACE_WORDS * i + 3])
 }
 
-// Whether the record with the key stands there.
+// Whether the record with the key stands there. Field by field: as one expression `isis_gr_raw_receive` goes past its limit of stack.
 pub fn is_key_at(words: &[u64], i: usize, key: Key) -> bool
     requires { (length words.now ≡ room_words) × (i < places) }
     ensures { result ≡ has_key key (get_or (table_of words.now) i Free) }
@@ -67,10 +63,7 @@ pub fn is_expired_at(words: &[u64], i: usize, clock: u64) -> bool
     requires { (length words.now ≡ room_words) × (i < places) }
     ensures { result ≡ meets (expired_by clock) (get_or (table_of words.now) i Free) }
 {
-    if is_due_at(words, i, clock) {
-        return is_held_word(words[PLACE_WORDS * i + 3]);
-    }
-    false
+    is_due_at(words, i, clock) && is_held_word(words[PLACE_WORDS * i + 3])
 }
 
 // Whether a Planned record stands there.
@@ -79,10 +72,7 @@ pub fn is_planned_at(words: &[u64], i: usize) -> bool
     ensures { result ≡ meets planned_state (get_or (table_of words.now) i Free) }
 {
     let w = words[PLACE_WORDS * i + 3];
-    if w % 4 != 2 {
-        return false;
-    }
-    2 <= w / 4 % 4
+    w % 4 == 2 && 2 <= w / 4 % 4
 }
 
 // Whether the router of a record there has the CSNP duty before us.
@@ -91,10 +81,7 @@ pub fn is_outranked_at(words: &[u64], i: usize, rank: Rank) -> bool
     ensures { result ≡ outranked_at rank (get_or (table_of words.now) i Free) }
 {
     let w = words[PLACE_WORDS * i + 3];
-    if w % 4 != 2 {
-        return false;
-    }
-    if w / 256 % 256 != rank.level as u64 {
+    if w % 4 != 2 || w / 256 % 256 != u64::from(rank.level) {
         return false;
     }
     let Slot::Held(entry) = load(words, i) else {

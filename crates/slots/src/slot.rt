@@ -1,5 +1,5 @@
 // A place's four words: System ID, MAC, expiry, and the small fields (word.rt).
-ghost use Rattle.std.specs.Prelude.{◌≡◌, ◌+◌, ◌*◌, ◌<◌, length, get_or, set};
+ghost use Rattle.std.specs.Prelude.{◌≡◌, ◌+◌, ◌*◌, ◌<◌, ℕ, length, get_or, set};
 ghost use Rattle.slots.specs.Slots.{slot_of, table_of, record_word, FitRecord, room_words, places};
 
 use crate::word::{data_at, mark_at, state_word};
@@ -23,18 +23,17 @@ fn slot_of(system: u64, mac: u64, expiry: u64, w: u64) -> Slot
     if tag == 3 {
         return Slot::Closed;
     }
-    let kept = data_at(expiry, w);
-    let key = Key {
-        level: (w / 256 % 256) as u8,
-        system,
-        mac,
+    let data = data_at(expiry, w);
+    let state = if tag == 1 {
+        State::Init(data)
+    } else {
+        State::Up(data, mark_at(w))
     };
-    if tag == 1 {
-        let state = State::Init(kept);
-        return Slot::Held(Record { key, state });
-    }
-    let state = State::Up(kept, mark_at(w));
-    Slot::Held(Record { key, state })
+    let level = (w / 256 % 256) as u8;
+    Slot::Held(Record {
+        key: Key { level, system, mac },
+        state,
+    })
 }
 
 // What a place holds.
@@ -54,9 +53,7 @@ fn record_word(entry: Record) -> u64
     ensures value { result ≡ record_word entry }
     ensures fit_record { FitRecord entry }
 {
-    let key = entry.key;
-    let state = entry.state;
-    state_word(state) + 256 * (key.level as u64)
+    state_word(entry.state) + 256 * u64::from(entry.key.level)
 }
 
 // A record, at a place.
@@ -64,26 +61,30 @@ pub fn store(words: &mut [u64], i: usize, entry: Record)
     requires { (length words.old ≡ room_words) × (i < places) }
     ensures { table_of words.new ≡ set (table_of words.old) i (Slot.Held entry) }
 {
-    let w = record_word(entry);
-    let key = entry.key;
-    let state = entry.state;
-    let e = state_expiry(state);
-    words[PLACE_WORDS * i] = key.system;
-    words[PLACE_WORDS * i + 1] = key.mac;
-    words[PLACE_WORDS * i + 2] = e;
-    words[PLACE_WORDS * i + 3] = w;
+    words[PLACE_WORDS * i] = entry.key.system;
+    words[PLACE_WORDS * i + 1] = entry.key.mac;
+    words[PLACE_WORDS * i + 2] = state_expiry(entry.state);
+    words[PLACE_WORDS * i + 3] = record_word(entry);
 }
 
 // The expiry word of a place without a record: past every clock, so that a tick passes the place by this word alone. It means nothing.
-const NEVER: u64 = 18446744073709551615;
+const NEVER: u64 = u64::MAX;
+
+// A place without a record: what its tag means whatever the other words are.
+fn leave_empty(words: &mut [u64], i: usize, tag: u64)
+    requires { (length words.old ≡ room_words) × (i < places) }
+    ensures { (s : Slot) → ((system mac expiry : ℕ) → slot_of system mac expiry tag ≡ s) → table_of words.new ≡ set (table_of words.old) i s }
+{
+    words[PLACE_WORDS * i + 2] = NEVER;
+    words[PLACE_WORDS * i + 3] = tag;
+}
 
 // No record stands at a place any more.
 pub fn clear(words: &mut [u64], i: usize)
     requires { (length words.old ≡ room_words) × (i < places) }
     ensures { table_of words.new ≡ set (table_of words.old) i Slot.Free }
 {
-    words[PLACE_WORDS * i + 2] = NEVER;
-    words[PLACE_WORDS * i + 3] = 0;
+    leave_empty(words, i, 0);
 }
 
 // The circuit does not have this place.
@@ -91,6 +92,5 @@ pub fn close(words: &mut [u64], i: usize)
     requires { (length words.old ≡ room_words) × (i < places) }
     ensures { table_of words.new ≡ set (table_of words.old) i Slot.Closed }
 {
-    words[PLACE_WORDS * i + 2] = NEVER;
-    words[PLACE_WORDS * i + 3] = 3;
+    leave_empty(words, i, 3);
 }

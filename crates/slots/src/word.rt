@@ -39,11 +39,10 @@ fn last_at(w: u64) -> Last
 pub fn data_at(expiry: u64, w: u64) -> Data
     ensures { result ≡ data_at expiry w }
 {
-    let last = last_at(w);
     Data {
         expiry,
         suppressed: w / 16 % 2 == 1,
-        last,
+        last: last_at(w),
     }
 }
 
@@ -51,14 +50,11 @@ pub fn data_at(expiry: u64, w: u64) -> Data
 pub fn mark_at(w: u64) -> Mark
     ensures { result ≡ mark_at w }
 {
-    let m = w / 4 % 4;
-    if m == 0 {
-        return Mark::Clear;
+    match w / 4 % 4 {
+        0 => Mark::Clear,
+        1 => Mark::Restart,
+        _ => Mark::Planned,
     }
-    if m == 1 {
-        return Mark::Restart;
-    }
-    Mark::Planned
 }
 
 // Each packing function also says that its argument fits the bits it is given, and bounds the word.
@@ -90,8 +86,7 @@ fn data_word(kept: Data) -> u64
     ensures fit_data { FitData kept }
     ensures upper_bound { result ≤ 16 + 32 + 64 + 65536 * 255 + 16777216 + 33554432 + 4294967296 * 4294967295 }
 {
-    let last = kept.last;
-    last_word(last) + 16 * digit(kept.suppressed)
+    last_word(kept.last) + 16 * digit(kept.suppressed)
 }
 
 fn mark_word(mark: Mark) -> u64

@@ -18,6 +18,7 @@ pub struct T2s {
     pub two: T2,
 }
 
+#[tactic(auto, unfolding(crate::specs::T2::start_timer))]
 fn start_timer(on: bool, at: u64) -> Option<u64>
     ensures { result ≡ start_timer on at }
 {
@@ -69,6 +70,7 @@ fn expire_t2(clock: u32, t: T2) -> T2
     }
 }
 
+#[tactic(auto, unfolding(crate::specs::T2::cancel_t2))]
 fn cancel_t2(wait: bool, t: T2) -> T2
     ensures { result ≡ cancel_t2 wait t }
 {

@@ -4,7 +4,7 @@ use borrow.Author.Tests.{eq-eqb, ne_eqb, ltb-false}
 use lib.Dec.{ltb}
 use Rattle.basics.proofs.BoolLaws.{neither}
 use Rattle.batches.specs.Batch.{most_frames, checked_by, sum}
-use Rattle.batches.proofs.BatchLaws.{smaller-le}
+use Rattle.batches.proofs.BatchLaws.{smaller-is}
 use Rattle.batches.proofs.lists.check.Goals as goal
 
 pub returns-then-is_uneven : goal.returns-then-is_uneven
@@ -20,9 +20,9 @@ pub overflow_cast-result : goal.overflow_cast-result
 overflow_cast-result c =
     let n = length c.args.lengths.now in
     let few : n ≤ most_frames = ltb-false most_frames n (neither (ltb most_frames n) _ (sym c.is_uneven.ensures ∙ c.if-is_uneven.false)).0 in
-    omega (arith, c.smaller_of-k.ensures, smaller-le c.args.limit n)
+    omega (arith, c.min-k.ensures)
 
 pub returns : goal.returns
 unfolding checked_by
 returns c =
-    rw (c.smaller_of-k.ensures, sym c.is_uneven.ensures ∙ c.if-is_uneven.false, eq-eqb (sum c.args.lengths.now) c.args.octets (sym c.total.ensures ∙ c.if-total-octets.false))
+    rw (c.min-k.ensures ∙ smaller-is _ _, sym c.is_uneven.ensures ∙ c.if-is_uneven.false, eq-eqb (sum c.args.lengths.now) c.args.octets (sym c.total.ensures ∙ c.if-total-octets.false))

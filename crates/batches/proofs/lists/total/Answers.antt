@@ -1,10 +1,11 @@
--- What was added, and the sum of what is left: of at most 64 lengths, each below 65,536.
-use native.Mathlib.Omega.{arith}
-use Rattle.batches.proofs.BatchLaws.{sum-at, sum-end}
+-- The law `sum-is`: the sum of the definition is that of std.
+use Rattle.std.proofs.Common.{◌≡◌, ◌∙◌, sym, rules}
+use Rattle.std.specs.List.{sum_by}
+use Rattle.batches.proofs.BatchLaws.{sum-is}
 use Rattle.batches.proofs.lists.total.Goals as goal
 
-pub loop-i-preserved : goal.loop-i-preserved
-loop-i-preserved c = let l = c.loop-i in let ls = c.args.lengths.now in (omega arith, omega (arith, sum-at ls l.i (omega arith)), omega arith)
-
 pub returns : goal.returns
-returns c = let l = c.loop-i in omega (arith, sum-end c.args.lengths.now l.i (omega arith))
+returns c =
+    let ls = c.args.lengths.now in
+    let e : c.sum.result ≡ sum_by (λ x. x) ls = search rules in
+    e ∙ sym (sum-is ls)

@@ -12,7 +12,7 @@ loop-i-preserved c = let l = c.loop-i in
     let x = c.clear in
     let a = slot_place l.i in
     let long = x.auto.slot ∙ mid_len a (a + slot_words) l.gateway (omega arith) in
-    (omega arith, length-slot l.gateway x.new.slot l.invariant.1 l.i (omega arith) long, dropped-next _ l.gateway x.new.slot l.invariant.1 l.i (omega arith) long x.ensures l.invariant.2)
+    (length-slot l.gateway x.new.slot l.invariant.0 l.i (omega arith) long, dropped-next _ l.gateway x.new.slot l.invariant.0 l.i (omega arith) long x.ensures l.invariant.1)
 
 pub returns : goal.returns
-returns c = dropped-all _ _ c.loop-i.i (omega arith) c.loop-i.invariant.2
+returns c = dropped-all _ _ c.loop-i.i (omega arith) c.loop-i.invariant.1

@@ -1,14 +1,14 @@
--- The invariant: the numbers are all known where those from circuit i on are.
-use native.Mathlib.Omega.{arith}
-use mathlib.Core.Path.{sym, ◌∙◌}
-use Rattle.isis_gr.proofs.SettingsLaws.{known-here, known-skip, known-end}
+-- What `all` has answered, by the law `known-all`.
+use Rattle.std.proofs.Common.{◌≡◌, true, false, refl, rules, arith}
+use Rattle.std.proofs.lemmas.Iterator.{cases_from_all, YieldsList-from_range}
+use Rattle.isis_gr.specs.Settings.{circuit_place, circuit_known}
+use Rattle.isis_gr.proofs.SettingsLaws.{known-all}
 use Rattle.isis_gr.proofs.config.are_circuits_known.Goals as goal
 
-pub loop-i-preserved : goal.loop-i-preserved
-loop-i-preserved c = let l = c.loop-i in let a = c.args in (omega arith, l.invariant.1 ∙ known-skip a.s.now a.count l.i (omega arith) c.loop-i-test.true (sym c.is_circuit_known.ensures ∙ c.if-is_circuit_known.true))
-
-pub returns-else-is_circuit_known : goal.returns-else-is_circuit_known
-returns-else-is_circuit_known c = let l = c.loop-i in let a = c.args in sym (l.invariant.1 ∙ known-here a.s.now a.count l.i (omega arith) c.loop-i-test.true (sym c.is_circuit_known.ensures ∙ c.if-is_circuit_known.false))
-
 pub returns : goal.returns
-returns c = let l = c.loop-i in let a = c.args in sym (l.invariant.1 ∙ known-end a.s.now a.count l.i (omega arith) (omega arith))
+returns c =
+    let s = c.args.s.now in
+    let n = c.args.count in
+    known-all s n c.requires.1 _
+    (cases_from_all _ _ _ (λ i. circuit_known s (circuit_place i) ≡ true) (λ i. circuit_known s (circuit_place i) ≡ false) c.all.ensures.ran
+    (YieldsList-from_range 0 n n refl (omega arith)) (λ x q k. (search rules, search rules)) (λ x q k. search rules))

@@ -1,14 +1,14 @@
 -- The mode, then the first `count` circuits, as far as there are so many.
-use Rattle.isis_gr.proofs.SettingsLaws.{unknown-mode, known-first, known-all}
-use mathlib.Core.Path.{sym, ◌∙◌}
+use Prim.Native.Nat.{ℕ, min}
+use Rattle.basics.specs.Mask.{circuits}
+use Rattle.isis_gr.proofs.SettingsLaws.{unknown-mode, known-counted}
+use mathlib.Core.Path.{sym, ap, ◌∙◌}
 use borrow.Author.Tests.{lt-ltb, le-ltb}
 use Rattle.isis_gr.proofs.config.are_settings_known.Goals as goal
 
-pub returns-then-count-lt-CIRCUITS : goal.returns-then-count-lt-CIRCUITS
-returns-then-count-lt-CIRCUITS c = c.are_circuits_known.ensures ∙ known-first c.args.s.now (lt-ltb _ _ c.if-s-lt3.true) c.wide-count.result c.wide-count.ensures.is
-
 pub returns-then-s-lt3 : goal.returns-then-s-lt3
-returns-then-s-lt3 c = c.are_circuits_known-then-s-lt3.ensures ∙ known-all c.args.s.now (lt-ltb _ _ c.if-s-lt3.true) c.wide-count.result c.wide-count.ensures.is c.if-count-lt-CIRCUITS.false
+returns-then-s-lt3 c =
+    c.are_circuits_known.ensures ∙ known-counted c.args.s.now (lt-ltb _ _ c.if-s-lt3.true) c.min.result (c.min.ensures ∙ ap (λ (n : ℕ). min n circuits) c.from.ensures)
 
-pub returns : goal.returns
-returns c = sym (unknown-mode c.args.s.now (le-ltb _ _ c.if-s-lt3.false))
+pub returns-else-s-lt3 : goal.returns-else-s-lt3
+returns-else-s-lt3 c = let off = le-ltb _ _ c.if-s-lt3.false in off ∙ sym (unknown-mode c.args.s.now off)

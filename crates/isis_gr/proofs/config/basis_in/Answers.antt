@@ -11,6 +11,6 @@ returns c =
       system = c.six.ensures i;
       lengths = record { t1 = c.two.ensures i; t2 = c.two-2.ensures i; tries = octet s 10 };
       clock = c.four.ensures i;
-      mode = c.mode_of-mode.ensures i;
+      mode = c.mode_of.ensures i;
       count = octet s 16;
     }

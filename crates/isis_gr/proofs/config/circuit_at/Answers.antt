@@ -9,8 +9,8 @@ unfolding circuit_from
 returns c =
     let a = c.args in
     λ i. record {
-      kind = c.kind_of-kind.ensures i;
-      levels = c.levels_of-levels.ensures i;
+      kind = c.kind_of.ensures i;
+      levels = c.levels_of.ensures i;
       mac = c.six.ensures i;
       priority = octet a.s.now (a.at + 8);
       hold = c.two.ensures i;

@@ -10,11 +10,11 @@ pub loop-i-preserved : goal.loop-i-preserved
 loop-i-preserved c =
     let l = c.loop-i in
     let o = c.args.s.now in
-    let e = c.circuit_at-one.ensures ∙ circuit-nth o l.i (omega arith) in
-    (omega arith, put_next (settings_from o).circuits (length-circuits o) l.gateway c.put_circuit.new.gateway l.i (circuit_from o 0) (omega arith) l.invariant.1 (put_as e c.put_circuit.ensures))
+    let e = c.circuit_at.ensures ∙ circuit-nth o l.i (omega arith) in
+    put_next (settings_from o).circuits (length-circuits o) l.gateway c.put_circuit.new.gateway l.i (circuit_from o 0) (omega arith) l.invariant (put_as e c.put_circuit.ensures)
 
 pub returns : goal.returns
 returns c =
     let l = c.loop-i in
     let o = c.args.s.now in
-    put_all (settings_from o).circuits (length-circuits o) l.gateway l.i (omega arith) l.invariant.1
+    put_all (settings_from o).circuits (length-circuits o) l.gateway l.i (omega arith) l.invariant

@@ -1,12 +1,7 @@
 -- The invariant: the circuits before i are put.
-use Rattle.basics.specs.Mask.{circuits}
 use Rattle.own_words.proofs.SetupLaws.{PutUpTo}
 use Rattle.isis_gr.specs.Settings.{settings_from}
-use Prim.Native.Nat.{◌-◌, ◌≤◌}
 use Rattle.isis_gr.proofs.setup.put_circuits.Given as goal
 
 abbrev pub invariant-loop-i : goal.invariant-loop-i
-invariant-loop-i l = (l.i ≤ circuits) × PutUpTo (settings_from l.s).circuits l.gateway l.i
-
-abbrev pub decreases-loop-i : goal.decreases-loop-i
-decreases-loop-i l = circuits - l.i
+invariant-loop-i l = PutUpTo (settings_from l.s).circuits l.gateway l.i

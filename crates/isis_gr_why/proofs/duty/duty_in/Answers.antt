@@ -10,10 +10,8 @@ pub loop-i-preserved : goal.loop-i-preserved
 loop-i-preserved c =
     let l = c.loop-i in
     let a = c.args in
-    let t = table_of a.words.now in (
-      omega arith,
-      rw c.duty_at-duty.ensures (duty-step a.own l.duty t l.i (rw length-table (omega arith)) ∙ l.invariant.1),
-    )
+    let t = table_of a.words.now in
+    rw c.duty_at-duty.ensures (duty-step a.own l.duty t l.i (rw length-table (omega arith)) ∙ l.invariant)
 
 pub returns : goal.returns
-returns c = let l = c.loop-i in let a = c.args in duty-end a.own l.duty (table_of a.words.now) l.i (rw length-table (omega arith)) ∙ l.invariant.1
+returns c = let l = c.loop-i in let a = c.args in duty-end a.own l.duty (table_of a.words.now) l.i (rw length-table (omega arith)) ∙ l.invariant

@@ -13,11 +13,11 @@ loop-i-preserved c =
     let all = c.args.all in
     let la : length all ≡ circuits = search rules in
     let x = c.put_in in
-    (omega arith, x.auto.gateway ∙ l.invariant.1, put_next all la l.gateway x.new.gateway l.i _ (omega arith) l.invariant.2 x.ensures)
+    (x.auto.gateway ∙ l.invariant.0, put_next all la l.gateway x.new.gateway l.i _ (omega arith) l.invariant.1 x.ensures)
 
 pub returns : goal.returns
 returns c =
     let l = c.loop-i in
     let all = c.args.all in
     let la : length all ≡ circuits = search rules in
-    put_all all la l.gateway l.i (omega arith) l.invariant.2
+    put_all all la l.gateway l.i (omega arith) l.invariant.1

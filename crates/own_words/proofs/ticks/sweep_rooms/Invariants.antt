@@ -3,18 +3,13 @@ use Rattle.model.specs.Answers.{lost_bits}
 use Rattle.own_words.specs.Words.{own_words, gateway_of}
 use Rattle.model.specs.Step.{swept_room, lapsed}
 use Rattle.model.specs.Gateway.{with_rooms}
-use Rattle.basics.specs.Mask.{circuits}
 use lib.ListN.{length, take, drop}
 use mathlib.Core.List.{◌++◌, map}
-use Prim.Native.Nat.{◌-◌, ◌≤◌}
 use mathlib.Core.Path.{◌≡◌}
 use Rattle.own_words.proofs.ticks.sweep_rooms.Given as goal
 
 abbrev pub invariant-loop-i : goal.invariant-loop-i
 invariant-loop-i l =
-    (l.i ≤ circuits) × (length l.gateway ≡ own_words)
+    (length l.gateway ≡ own_words)
     × (take l.i (lost_bits l.lost) ++ map (lapsed l.clock) (drop l.i (gateway_of l.gateway).rooms) ≡ map (lapsed l.clock) (gateway_of l.initial.gateway).rooms)
     × (with_rooms (gateway_of l.gateway) (take l.i (gateway_of l.gateway).rooms ++ map (swept_room l.clock) (drop l.i (gateway_of l.gateway).rooms)) ≡ with_rooms (gateway_of l.initial.gateway) (map (swept_room l.clock) (gateway_of l.initial.gateway).rooms))
-
-abbrev pub decreases-loop-i : goal.decreases-loop-i
-decreases-loop-i l = circuits - l.i

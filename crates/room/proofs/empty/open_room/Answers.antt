@@ -7,12 +7,11 @@ use Rattle.room.proofs.empty.open_room.Goals as goal
 pub loop-i-preserved : goal.loop-i-preserved
 loop-i-preserved c =
     let l = c.loop-i in (
-      omega arith,
       cc,
-      rw c.empty_at.ensures (empty-step c.args.kind l.words l.i (omega arith) ∙ l.invariant.2),
+      rw c.empty_at.ensures (empty-step c.args.kind l.words l.i (omega arith) ∙ l.invariant.1),
     )
 
 pub returns : goal.returns
 returns c =
     let l = c.loop-i in
-    empty-end c.args.kind l.words l.i (omega arith) ∙ l.invariant.2
+    empty-end c.args.kind l.words l.i (omega arith) ∙ l.invariant.1

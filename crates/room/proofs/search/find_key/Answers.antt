@@ -1,22 +1,15 @@
--- The invariant: the places before i are not asked for, and the first is counted from i on.
+-- What `find` has answered, by the law `first_found`.
 use Rattle.slots.specs.Slots.{table_of}
 use Rattle.adjacency.specs.Place.{has_key}
 use Rattle.slots.proofs.SlotLaws.{length-table}
-use Rattle.room.proofs.SearchLaws.{first-skip, first-none}
-use mathlib.Core.Path.{sym, ◌∙◌}
-use native.Mathlib.Omega.{arith}
+use Rattle.room.proofs.SearchLaws.{Found, Passed, first_found}
+use Rattle.std.proofs.Common.{rules}
+use Rattle.std.proofs.lemmas.Iterator.{first_from_Range}
 use Rattle.room.proofs.search.find_key.Goals as goal
-
-pub loop-i-preserved : goal.loop-i-preserved
-loop-i-preserved c =
-    let l = c.loop-i in
-    let a = c.args in (
-      omega arith,
-      omega (arith, l.invariant.1, first-skip (has_key (record { level = a.level; system = a.system; mac = a.mac })) (table_of a.words.now) l.i (rw length-table (omega arith)) (sym c.is_key_at.ensures ∙ c.if-is_key_at.false)),
-    )
 
 pub returns : goal.returns
 returns c =
-    let l = c.loop-i in
     let a = c.args in
-    omega (arith, l.invariant.1, first-none (has_key (record { level = a.level; system = a.system; mac = a.mac })) (table_of a.words.now) l.i (rw length-table (omega arith)))
+    let t = table_of a.words.now in
+    let p : _ → _ = has_key (record { level = a.level; system = a.system; mac = a.mac }) in
+    rw c.unwrap_or.ensures (first_found p t (length-table _) _ (first_from_Range _ _ _ _ (Found p t) (Passed p t) c.find.ensures.ran (λ x q k. search rules) (λ x q k. (search rules, search rules))))

@@ -1,24 +1,12 @@
--- The invariant: a record has expired just where one from place i on has.
-use Rattle.slots.specs.Slots.{table_of}
-use Rattle.adjacency.specs.Place.{meets, expired_by}
-use Rattle.slots.proofs.SlotLaws.{length-table}
-use Rattle.slots.proofs.ProbeLaws.{not-due}
-use Rattle.room.proofs.SearchLaws.{any-skip, any_none}
-use mathlib.Core.Path.{sym, ◌∙◌}
-use native.Mathlib.Omega.{arith}
+-- Where `any` has answered false, the law `none_found`: at a place that is not due no record has expired.
+use Rattle.slots.specs.Slots.{places, due_at}
+use Rattle.room.proofs.SweepLaws.{none_due}
+use Rattle.std.proofs.Common.{◌≡◌, refl, rules, true, false}
+use Rattle.std.proofs.lemmas.Iterator.{cases_from_any, YieldsList-from_range}
 use Rattle.room.proofs.sweep.is_due.Goals as goal
-
-pub loop-i-preserved : goal.loop-i-preserved
-loop-i-preserved c =
-    let l = c.loop-i in
-    let a = c.args in
-    let kept = not-due a.clock a.words.now l.i (omega arith) (sym c.is_due_at.ensures ∙ c.if-is_due_at.false) in (
-      omega arith,
-      l.invariant.1 ∙ any-skip (meets (expired_by a.clock)) (table_of a.words.now) l.i (rw length-table (omega arith)) (sym kept),
-    )
 
 pub returns : goal.returns
 returns c =
-    let l = c.loop-i in
-    let a = c.args in
-    λ _. l.invariant.1 ∙ any_none (meets (expired_by a.clock)) (table_of a.words.now) l.i (rw length-table (omega arith))
+    let clock = c.args.clock in
+    let ws = c.args.words.now in
+    none_due clock ws _ (cases_from_any _ _ _ (λ i. due_at clock ws i ≡ true) (λ i. due_at clock ws i ≡ false) c.any.ensures.ran (YieldsList-from_range 0 places places refl refl) (λ x q k. search rules) (λ x q k. (search rules, search rules)))

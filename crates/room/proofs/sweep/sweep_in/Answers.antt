@@ -1,30 +1,33 @@
--- The invariant: what is swept_place, joined with the sweep of what is left, is the sweep of the whole.
-use Rattle.room.specs.Sweep.{test_of}
-use Rattle.slots.specs.Slots.{table_of}
+-- The laws of one place and of the end.
 use Rattle.slots.proofs.SlotLaws.{length-table}
-use Rattle.room.proofs.SweepLaws.{sweep-step, any_step, sweep-end, any-end}
+use Rattle.slots.specs.Slots.{table_of}
+use Rattle.room.proofs.SweepLaws.{swept-gone, swept-stays, swept-end}
 use lib.ListN.{length}
-use Prim.Native.Nat.{◌≤◌, ◌<◌}
-use mathlib.Core.Path.{◌∙◌}
+use Prim.Native.Nat.{◌<◌}
 use native.Mathlib.Omega.{arith}
+use mathlib.Core.Path.{sym, ◌∙◌}
 use Rattle.room.proofs.sweep.sweep_in.Goals as goal
+use Rattle.room.proofs.sweep.sweep_in.Goals.{then-goes_at, else-goes_at}
 
 pub loop-i-preserved : goal.loop-i-preserved
-loop-i-preserved c =
+loop-i-preserved g c =
     let l = c.loop-i in
-    let p = test_of c.args.which in
     let t = table_of l.words in
-    let lt : l.i < length t = rw length-table (omega arith) in (
-      omega arith,
-      cc,
-      rw (c.sweep_at-any.ensures.value, c.sweep_at-any.ensures.words_after) (any_step p t l.i lt l.any ∙ l.invariant.2),
-      rw c.sweep_at-any.ensures.words_after (sweep-step p t l.i lt ∙ l.invariant.3),
-    )
+    let lt : l.i < length t = rw length-table (omega arith) in
+    elim c.if-goes_at.branch [
+      | then-goes_at w ↦ (
+        cc,
+        λ test tells.
+            rw (w.words-is, w.any-is, w.clear.ensures)
+            (swept-gone test _ t l.i l.any (l.invariant.1 test tells) lt (sym (tells _ _ _ l.invariant.0 (omega arith) c.goes_at.ensures) ∙ w.if-goes_at.true)),
+      )
+      | else-goes_at w ↦ (
+        cc,
+        λ test tells.
+            rw (w.words-is, w.any-is)
+            (swept-stays test _ t l.i l.any (l.invariant.1 test tells) lt (sym (tells _ _ _ l.invariant.0 (omega arith) c.goes_at.ensures) ∙ w.if-goes_at.false)),
+      )
+    ]
 
 pub returns : goal.returns
-returns c =
-    let l = c.loop-i in
-    let p = test_of c.args.which in
-    let t = table_of l.words in
-    let e : length t ≤ l.i = rw length-table (omega arith) in
-    record { any = any-end p t l.i e l.any ∙ l.invariant.2; left = sweep-end p t l.i e ∙ l.invariant.3 }
+returns g c = λ test tells. swept-end test _ (table_of c.loop-i.words) c.loop-i.i _ (c.loop-i.invariant.1 test tells) (rw length-table (omega arith))
