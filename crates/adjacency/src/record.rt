@@ -34,7 +34,8 @@ pub enum State {
     Up(Data, Mark),
 }
 
-// A LAN record is known by level, System ID and source MAC. A P2P record is known by its System ID; its level and MAC are 0.
+// A LAN record is known by level, System ID and source MAC. A P2P record is known by its System ID; its level and MAC are 0. A level is a number everywhere: C
+// may ask for any.
 #[derive(Clone, Copy)]
 pub struct Key {
     pub level: u8,

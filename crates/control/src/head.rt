@@ -30,7 +30,7 @@ fn mode_in(d: u64) -> Mode
 fn timer_in(d: u64, deadline: u64) -> Option<u64>
     ensures { result ≡ timer_in d deadline }
 {
-    (d == 1).then_some(deadline)
+    if d == 1 { Some(deadline) } else { None }
 }
 
 fn t2_in(d: u64, n: u64, deadline: u64) -> T2
@@ -104,13 +104,19 @@ fn mode_digit(m: Mode) -> u64
 fn timer_digit(t: Option<u64>) -> u64
     ensures { (timer_in result (timer_deadline t) ≡ t) × (result < 2) }
 {
-    digit(t.is_some())
+    match t {
+        None => 0,
+        Some(_) => 1,
+    }
 }
 
 fn timer_deadline(t: Option<u64>) -> u64
     ensures { result ≡ timer_deadline t }
 {
-    t.unwrap_or(0)
+    match t {
+        None => 0,
+        Some(deadline) => deadline,
+    }
 }
 
 fn t3_digit(t: T3) -> u64

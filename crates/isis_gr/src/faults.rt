@@ -1,4 +1,4 @@
-// Which setting setup refuses; specs/Faults.antt has the numbers.
+// Which setting setup refuses; specs/Faults.antt has the numbers. Numbers here too, and no enum: C reads them as they are.
 ghost use Rattle.std.specs.Prelude.{◌≡◌, ◌+◌, ◌<◌, ◌≤◌, length, take};
 ghost use Rattle.basics.specs.Mask.{circuits};
 ghost use Rattle.isis_gr.specs.Settings.{settings_octets, circuit_places};

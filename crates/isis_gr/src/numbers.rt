@@ -1,4 +1,5 @@
-// The parts of an answer as numbers: model's table of them, case by case, and what specs/Words.antt packs.
+// The parts of an answer as numbers: model's table of them, case by case, and what specs/Words.antt packs. Functions, no `From`: the types are of other
+// crates.
 ghost use Rattle.std.specs.Prelude.{◌≡◌, ◌+◌, ◌^◌, ◌≤◌, ◌<◌};
 ghost use Rattle.restart_tlv.specs.Restart.{ack_flag};
 ghost use Rattle.model.specs.Numbers.{reply_flags, reply_time, lowest_no, levels_no, csnps_no, freed_no, hello_no, overload_no, mark_no, phase_no, state_no};

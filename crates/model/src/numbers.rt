@@ -1,4 +1,5 @@
-// The numbers that answers have in document 01 ("Refusals by number") and document 02; specs/Numbers.antt is the table.
+// The numbers that answers have in document 01 ("Refusals by number") and document 02; specs/Numbers.antt is the table. Functions, no `From`: the type is of
+// another crate.
 ghost use Rattle.std.specs.Prelude.{◌≡◌};
 ghost use Rattle.model.specs.Numbers.{refusal_no, position_no};
 
@@ -13,8 +14,8 @@ pub fn number_of(why: Refusal) -> u8
         Refusal::ReplyRoom => 2,
         Refusal::NotHello => 3,
         Refusal::BadLength => 4,
-        Refusal::TlvPastEnd { position: _ } => 5,
-        Refusal::BadTlv { position: _ } => 6,
+        Refusal::TlvPastEnd { .. } => 5,
+        Refusal::BadTlv { .. } => 6,
         Refusal::WrongSource => 7,
         Refusal::WrongNeighbor => 8,
         Refusal::NoRoom => 9,
@@ -26,24 +27,23 @@ pub fn number_of(why: Refusal) -> u8
     }
 }
 
-// The position that it brings, in octets from 1; 0 where it brings none.
+// The position that it brings, in octets from 1; 0, and no `Option`, where it brings none, as the word for C has it.
 pub fn position_of(why: Refusal) -> u16
     ensures { result ≡ position_no why }
 {
     match why {
-        Refusal::NoCircuit => 0,
-        Refusal::ReplyRoom => 0,
-        Refusal::NotHello => 0,
-        Refusal::BadLength => 0,
-        Refusal::TlvPastEnd { position } => position,
-        Refusal::BadTlv { position } => position,
-        Refusal::WrongSource => 0,
-        Refusal::WrongNeighbor => 0,
-        Refusal::NoRoom => 0,
-        Refusal::ClockBack => 0,
-        Refusal::NotRestarting => 0,
-        Refusal::BadSetting => 0,
-        Refusal::NotBegun => 0,
-        Refusal::TooLong => 0,
+        Refusal::TlvPastEnd { position } | Refusal::BadTlv { position } => position,
+        Refusal::NoCircuit
+        | Refusal::ReplyRoom
+        | Refusal::NotHello
+        | Refusal::BadLength
+        | Refusal::WrongSource
+        | Refusal::WrongNeighbor
+        | Refusal::NoRoom
+        | Refusal::ClockBack
+        | Refusal::NotRestarting
+        | Refusal::BadSetting
+        | Refusal::NotBegun
+        | Refusal::TooLong => 0,
     }
 }

@@ -22,7 +22,7 @@ pub struct T2s {
 fn start_timer(on: bool, at: u64) -> Option<u64>
     ensures { result ≡ start_timer on at }
 {
-    on.then_some(at)
+    if on { Some(at) } else { None }
 }
 
 // The T2 of each of the levels `l` runs, with the deadline `at`.
@@ -45,19 +45,28 @@ pub fn start_t2s(l: Levels, at: u64) -> T2s
 fn t2_runs(t: T2) -> bool
     ensures { result ≡ t2_runs t }
 {
-    t.timer.is_some()
+    match t.timer {
+        None => false,
+        Some(_) => true,
+    }
 }
 
 fn t2_after(at: u64, t: T2) -> bool
     ensures { result ≡ t2_after at t }
 {
-    t.timer.is_some_and(|deadline| at < deadline)
+    match t.timer {
+        None => false,
+        Some(deadline) => at < deadline,
+    }
 }
 
 fn expire_timer(clock: u32, k: Option<u64>) -> Option<u64>
     ensures { result ≡ expire_timer clock k }
 {
-    k.filter(|deadline| u64::from(clock) < *deadline)
+    let Some(deadline) = k else {
+        return k;
+    };
+    if deadline <= clock as u64 { None } else { k }
 }
 
 #[tactic(auto, unfolding(crate::specs::T2::expire_t2))]
@@ -70,15 +79,20 @@ fn expire_t2(clock: u32, t: T2) -> T2
     }
 }
 
+// As `T2 { timer: None, ..t }` a CSNP notice takes 48 octets of stack more.
 #[tactic(auto, unfolding(crate::specs::T2::cancel_t2))]
 fn cancel_t2(wait: bool, t: T2) -> T2
     ensures { result ≡ cancel_t2 wait t }
 {
+    let noticed = t.noticed;
     if wait {
         return t;
     }
-    if t.noticed {
-        return T2 { timer: None, ..t };
+    if noticed {
+        return T2 {
+            timer: None,
+            noticed,
+        };
     }
     t
 }
