@@ -129,16 +129,8 @@ module _ {s : List ℕ} {from k p : ℕ} {v : List ℕ} (f : FoundAt s from k p)
   pub value-ends : p + 2 + length v ≡ next_at s p
   value-ends = rw (e, value-length s p f.within)
 
-  pub turn-within : p + 2 + length v ≤ length s
-  turn-within = rw value-ends f.within
-
   pub turn-list : of_type k (tlvs s from) ≡ record { at = p; value = v } ∷ of_type k (tlvs s (p + 2 + length v))
   turn-list = rw (f.same, f.here, value-ends, e)
-
--- what a search found is the first
-pub is-first : (s : List ℕ) (from k : ℕ) (r : Option ℕ) → Finds s from k r → r ≡ first_at (of_type k (tlvs s from))
-is-first s from k None f = rw f
-is-first s from k (Some p) f = rw (f.same, f.here)
 
 -- what one search, and the next one after it, tell
 several-by : (t : Tlv) (ts : List Tlv) → several (t ∷ ts) ≡ is_found (first_at ts)
