@@ -7,10 +7,10 @@ use native.Mathlib.Omega.{arith}
 use lib.ListN.{length, drop, length-drop}
 use lib.Seq.{length-take-le}
 use lib.Dec.{leb, ltb, eqb}
-use borrow.Author.Tests.{le-leb, lt-leb, lt-ltb, le-ltb, ltb-true, eq-eqb, ne_eqb}
+use borrow.Author.Tests.{le-leb, lt-leb, lt-ltb, le-ltb, ltb-true, leb-true, leb-false, eq-eqb, ne_eqb}
 use Rattle.basics.specs.Octets.{octet}
 use Rattle.basics.proofs.BoolLaws.{by-test}
-use Rattle.tlv.specs.Tlv.{Tlvs, done, cut, one, tlvs_up, tlvs, next_at, value_at, cut_at, counts_of, walk_as, walk_of, of_type, Tlv, first_at, first_value, several, FoundAt, Finds, lone_fault, is_found, unless, broken_rule}
+use Rattle.tlv.specs.Tlv.{Tlvs, done, cut, one, tlvs_up, tlvs, next_at, value_at, cut_at, counts_of, walk_as, walk_of, of_type, Tlv, first_at, first_value, several, FoundAt, lone_fault, is_found, unless, broken_rule}
 use Rattle.tlv.specs.declared.tlvs.Counts.{Counts}
 use Rattle.std.specs.Prelude.{Option, Some, None, Ok, Err}
 
@@ -95,6 +95,18 @@ module _ (s : List ℕ) (at : ℕ) (l : at < length s) where
     pub passed : (k : ℕ) → (octet s at ≡ k → ⊥) → of_type k (tlvs s at) ≡ of_type k (tlvs s (next_at s at))
     unfolding of_type
     passed k q = ap (of_type k) at_one ∙ simp (ne_eqb _ _ q)
+
+-- what is told of a TLV's end
+module _ (s : List ℕ) (at : ℕ) where
+  pub next-none : None ≡ cond (leb (next_at s at) (length s)) (Some (next_at s at)) None → length s < next_at s at
+  next-none e =
+      by-test (leb (next_at s at) (length s)) (λ t. let z : None ≡ Some (next_at s at) = rw t at e in cc)
+      (λ t. leb-false (next_at s at) (length s) t)
+
+  pub next-some : (n : ℕ) → Some n ≡ cond (leb (next_at s at) (length s)) (Some (next_at s at)) None → (n ≡ next_at s at) × (next_at s at ≤ length s)
+  next-some n e =
+      by-test (leb (next_at s at) (length s)) (λ t. let z : Some n ≡ Some (next_at s at) = rw t at e in (cc, leb-true (next_at s at) (length s) t))
+      (λ t. let z : Some n ≡ None = rw t at e in cc)
 
 -- there are no more than octets
 one_more : (b : Bool) (t : Tlv) (ts : List Tlv) (n : ℕ) → length ts ≤ n → length (cond b (t ∷ ts) ts) ≤ suc n
