@@ -5,19 +5,8 @@ use mathlib.Core.List.{List, [], ◌∷◌, ◌++◌, append_assoc}
 use lib.ListN.{length, length-append}
 use lib.Seq.{get_or-append-add, get_or_at}
 use native.Mathlib.Omega.{arith}
-use native.Mathlib.Nat.{add-zero, add_assoc, mul_assoc, mul-one, pow-zero, pow-suc, add-suc}
+use native.Mathlib.Nat.{add-zero, pow-zero, pow-suc}
 use Rattle.basics.specs.Octets.{octet, big, little, octets_of}
-
--- a number of m + n octets is the first m of them, and then n
-pub big-add : (m n : ℕ) (s : List ℕ) (at : ℕ) → big (m + n) s at ≡ big m s at * 256 ^ n + big n s (at + m)
-unfolding big
-big-add m zero s at = rw (add-zero, pow-zero, mul-one, add-zero)
-big-add m (suc n) s at = rw (add-suc, big-add m n s at, pow-suc, ← mul_assoc, ← add_assoc) (omega arith)
-
--- the number of one octet
-pub big-one : (s : List ℕ) (at : ℕ) → big 1 s at ≡ octet s at
-unfolding big
-big-one s at = rw add-zero (omega arith)
 
 module _ (s : List ℕ) (at : ℕ) (h : (k : ℕ) → octet s k < 256) where
   -- the last octet of a number, and the others
@@ -48,38 +37,11 @@ little-add s (suc m) n at =
     let q : at + suc m ≡ at + 1 + m = omega arith in
     rw (p, little-add s m n (at + 1), q, pow-suc) (omega arith)
 
--- the lowest octet, and the others
-lowest : (a y x : ℕ) → a < 256 → x ≡ a + 256 * y → (x % 256 ≡ a) × (x / 256 ≡ y)
-lowest a y x la e = (omega arith, omega arith)
-
-two-places : (x : ℕ) → x / 65536 ≡ x / 256 / 256
-two-places x = omega arith
-
-three-places : (x : ℕ) → x / 16777216 ≡ x / 256 / 256 / 256
-three-places x = omega arith
-
 module _ (s : List ℕ) (h : (k : ℕ) → octet s k < 256) where
   pub little-lt : (n at : ℕ) → little n s at < 256 ^ n
   unfolding little
   little-lt zero at = rw pow-zero (omega arith)
   little-lt (suc n) at = rw pow-suc (omega (arith, h at, little-lt n (at + 1)))
-
-  -- octets read lowest first, turned
-  pub turned_two : (at x : ℕ) → x ≡ little 2 s at → x % 256 * 256 + x / 256 ≡ big 2 s at
-  unfolding big little
-  turned_two at x e =
-      let p = lowest (octet s at) _ x (h at) e in
-      rw (add-zero at, p.0, p.1) (omega arith)
-
-  pub turned-four : (at x : ℕ) → x ≡ little 4 s at → x % 256 * 16777216 + x / 256 % 256 * 65536 + x / 65536 % 256 * 256 + x / 16777216 ≡ big 4 s at
-  unfolding big little
-  turned-four at x e =
-      let i : at + 1 + 1 ≡ at + 2 = omega arith in
-      let j : at + 2 + 1 ≡ at + 3 = omega arith in
-      let p = lowest (octet s at) _ x (h at) e in
-      let q = lowest (octet s (at + 1)) _ (x / 256) (h (at + 1)) p.1 in
-      let r = lowest (octet s (at + 1 + 1)) _ (x / 256 / 256) (h (at + 1 + 1)) q.1 in
-      rw (two-places x, three-places x, p.0, q.0, r.0, r.1, add-zero at, ← j, ← i) (omega arith)
 
 pub length-octets_of : (n x : ℕ) → length (octets_of n x) ≡ n
 unfolding octets_of

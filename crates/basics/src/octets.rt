@@ -13,6 +13,7 @@ pub fn wide(x: u8) -> usize
 }
 
 // Whether each bit of a mask is set.
+#[tactic(auto, unfolding(crate::specs::Octets::has_bits))]
 pub fn has_bits(x: u8, mask: u8) -> bool
     ensures { result ≡ has_bits x mask }
 {
@@ -20,72 +21,75 @@ pub fn has_bits(x: u8, mask: u8) -> bool
 }
 
 // Two octets as a number, the first lowest.
+#[tactic(auto, unfolding(crate::specs::Octets::little))]
 pub fn half(s: &[u8], at: usize) -> usize
     requires { at + 1 < length s.now }
     ensures value { result ≡ little 2 s.now at }
     ensures upper_bound { result < 65536 }
 {
-    wide(s[at]) + wide(s[at + 1]) * 256
+    usize::from(u16::from_le_bytes([s[at], s[at + 1]]))
 }
 
 // Four octets so.
+#[tactic(auto, unfolding(crate::specs::Octets::little))]
 pub fn word(s: &[u8], at: usize) -> usize
     requires { at + 3 < length s.now }
     ensures value { result ≡ little 4 s.now at }
     ensures upper_bound { result < 4294967296 }
 {
-    wide(s[at]) + wide(s[at + 1]) * 256 + wide(s[at + 2]) * 65536 + wide(s[at + 3]) * 16777216
+    u32::from_le_bytes([s[at], s[at + 1], s[at + 2], s[at + 3]]) as usize
 }
 
 // Two octets as a number, the first highest.
+#[tactic(auto, unfolding(crate::specs::Octets::big))]
 pub fn two(s: &[u8], at: usize) -> u16
     requires { at + 1 < length s.now }
     ensures { result ≡ big 2 s.now at }
 {
-    let x = half(s, at);
-    (x % 256 * 256 + x / 256) as u16
+    u16::from_be_bytes([s[at], s[at + 1]])
 }
 
 // Three octets so.
+#[tactic(auto, unfolding(crate::specs::Octets::big))]
 pub fn three(s: &[u8], at: usize) -> u32
     requires { at + 2 < length s.now }
     ensures { result ≡ big 3 s.now at }
 {
-    (two(s, at) as u32) * 256 + wide(s[at + 2]) as u32
+    u32::from_be_bytes([0, s[at], s[at + 1], s[at + 2]])
 }
 
 // Four octets so.
+#[tactic(auto, unfolding(crate::specs::Octets::big))]
 pub fn four(s: &[u8], at: usize) -> u32
     requires { at + 3 < length s.now }
     ensures { result ≡ big 4 s.now at }
 {
-    let x = word(s, at);
-    (x % 256 * 16777216 + x / 256 % 256 * 65536 + x / 65536 % 256 * 256 + x / 16777216) as u32
+    u32::from_be_bytes([s[at], s[at + 1], s[at + 2], s[at + 3]])
 }
 
 // A System ID or a MAC.
+#[tactic(auto, unfolding(crate::specs::Octets::big))]
 pub fn six(s: &[u8], at: usize) -> u64
     requires { at + 5 < length s.now }
     ensures { result ≡ big 6 s.now at }
 {
-    (four(s, at) as u64) * 65536 + two(s, at + 4) as u64
+    u64::from_be_bytes([
+        0,
+        0,
+        s[at],
+        s[at + 1],
+        s[at + 2],
+        s[at + 3],
+        s[at + 4],
+        s[at + 5],
+    ])
 }
 
 // The six octets of such a number; what does not fit is lost.
+#[tactic(auto, unfolding(crate::specs::Octets::octets_of))]
 pub fn six_octets(x: u64) -> [u8; 6]
     ensures { result ≡ octets_of 6 x }
 {
-    let b = x / 256;
-    let c = b / 256;
-    let d = c / 256;
-    let e = d / 256;
-    let f = e / 256;
-    [
-        (f % 256) as u8,
-        (e % 256) as u8,
-        (d % 256) as u8,
-        (c % 256) as u8,
-        (b % 256) as u8,
-        (x % 256) as u8,
-    ]
+    let [_, _, a, b, c, d, e, f] = x.to_be_bytes();
+    [a, b, c, d, e, f]
 }

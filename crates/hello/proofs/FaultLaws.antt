@@ -26,34 +26,6 @@ use Rattle.hello.specs.declared.read.Hello.{Hello}
 
 -- ---- what is found
 
-pub reverse-none : (ts : List Tlv) → ts ≡ [] → reverse_fault ts ≡ None
-reverse-none ts e = ap reverse_fault e
-
-reverse-two : (t : Tlv) (ts : List Tlv) (q : ℕ) → first_at ts ≡ Some q → reverse_fault (t ∷ ts) ≡ None
-reverse-two t [] q e = absurd (let z : ◌≡◌ {A = ℕ} 0 1 = cc in omega arith)
-reverse-two t (u ∷ ts) q e = refl
-
-reverse-one : (t : Tlv) (ts : List Tlv) → first_at ts ≡ None → reverse_fault (t ∷ ts) ≡ cond (reverse_bad t.value) (Some t.at) None
-reverse-one t [] e = refl
-reverse-one t (u ∷ ts) e = absurd (let z : ◌≡◌ {A = ℕ} 0 1 = cc in omega arith)
-
-module _ (s : List ℕ) (from p : ℕ) (f : FoundAt s from 16 p) where
-  pub reverse-more : (q : ℕ) → first_at (of_type 16 (tlvs s (next_at s p))) ≡ Some q → reverse_fault (of_type 16 (tlvs s from)) ≡ None
-  reverse-more q e = ap reverse_fault (found-list s from 16 p f) ∙ reverse-two _ (of_type 16 (tlvs s (next_at s p))) q e
-
-  module _ (lone : first_at (of_type 16 (tlvs s (next_at s p))) ≡ None) where
-    reverse-lone : reverse_fault (of_type 16 (tlvs s from)) ≡ cond (reverse_bad (value_at s p)) (Some p) None
-    reverse-lone = ap reverse_fault (found-list s from 16 p f) ∙ reverse-one (record { at = p; value = value_at s p }) (of_type 16 (tlvs s (next_at s p))) lone
-
-    pub reverse-here : reverse_bad (value_at s p) ≡ true → reverse_fault (of_type 16 (tlvs s from)) ≡ Some p
-    reverse-here e = reverse-lone ∙ rw e
-
-    pub reverse-fine : reverse_bad (value_at s p) ≡ false → reverse_fault (of_type 16 (tlvs s from)) ≡ None
-    reverse-fine e = reverse-lone ∙ rw e
-
-pub three-way-none : (end : ℕ) (ts : List Tlv) → ts ≡ [] → three_way_fault end ts ≡ Some end
-three-way-none end ts e = ap (three_way_fault end) e
-
 -- where one came, it goes by the rule of a TLV that may come at most once
 pub three-way-some : (end : ℕ) (s : List ℕ) (from p : ℕ) → FoundAt s from 240 p
     → three_way_fault end (of_type 240 (tlvs s from)) ≡ lone_fault three_way_bad (of_type 240 (tlvs s from))
@@ -122,6 +94,3 @@ module _ (l : Layout) (p : List ℕ) (e : layout_of (octet p 4) ≡ Some l) wher
 
 pub fit-in : (x : Option Layout) (l : Layout) (p : List ℕ) → x ≡ layout_of (octet p 4) → x ≡ Some l → fault_in p ≡ tlv_fault l p
 fit-in x l p e f = fault-in l p (sym e ∙ f)
-
-pub unfit-in : (x : Option Layout) (p : List ℕ) → x ≡ layout_of (octet p 4) → x ≡ None → fault_in p ≡ None
-unfit-in x p e f = ap (λ (y : Option Layout). fault_by y p) (sym e ∙ f)

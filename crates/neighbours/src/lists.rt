@@ -20,8 +20,7 @@ fn read_lone(pdu: &[u8], from: usize, mac: u64) -> Result<bool, BrokenRule>
     requires { 1 ≡ length (of_type 6 (tlvs pdu.now from)) }
     ensures { result ≡ list_read mac (of_type 6 (tlvs pdu.now from)) }
 {
-    let found = find(pdu, from, IS_NEIGHBOURS);
-    let Some(p) = found else {
+    let Some(p) = find(pdu, from, IS_NEIGHBOURS) else {
         return Ok(false);
     };
     let v = value_at(pdu, p);
@@ -38,10 +37,8 @@ fn read_each(pdu: &[u8], from: usize, count: usize, mac: u64) -> Result<bool, Br
 {
     let mut listed = false;
     let mut at = from;
-    let mut left = count;
-    while 0 < left {
-        let found = find(pdu, at, IS_NEIGHBOURS);
-        let Some(p) = found else {
+    for _ in 0..count {
+        let Some(p) = find(pdu, at, IS_NEIGHBOURS) else {
             return Ok(listed);
         };
         let v = value_at(pdu, p);
@@ -50,7 +47,6 @@ fn read_each(pdu: &[u8], from: usize, count: usize, mac: u64) -> Result<bool, Br
         }
         at = p + 2 + v.len();
         listed = is_listed_here(listed, pdu, p, at, mac);
-        left -= 1;
     }
     Ok(listed)
 }
@@ -72,10 +68,7 @@ pub fn lists_fault(pdu: &[u8], from: usize) -> Option<usize>
 {
     let mut at = from;
     while at < pdu.len() {
-        let found = find(pdu, at, IS_NEIGHBOURS);
-        let Some(p) = found else {
-            return None;
-        };
+        let p = find(pdu, at, IS_NEIGHBOURS)?;
         let v = value_at(pdu, p);
         if v.len() % 6 != 0 {
             return Some(p);

@@ -12,73 +12,69 @@ ghost use Rattle.neighbours.specs.Neighbours.{listed_in};
 ghost use Rattle.tlv.specs.Tlv.{value_at, next_at};
 ghost use Rattle.neighbours.specs.Search.{turned, SoughtAs, four_at, eight_at};
 
-use basics::octets::word;
-use std::num::wrapping_sub_usize;
-
 // Numbers from here on are longer than six octets.
 const PAST_MAC: u64 = 281474976710656;
 
 // Eight octets as a number, the first lowest: one load on the machine.
-fn eight(s: &[u8], at: usize) -> usize
+#[tactic(auto, unfolding(basics::specs::Octets::little))]
+fn eight(s: &[u8], at: usize) -> u64
     requires { at + 7 < length s.now }
     ensures { result ≡ little 8 s.now at }
 {
-    word(s, at) + word(s, at + 4) * 4294967296
+    u64::from_le_bytes([
+        s[at],
+        s[at + 1],
+        s[at + 2],
+        s[at + 3],
+        s[at + 4],
+        s[at + 5],
+        s[at + 6],
+        s[at + 7],
+    ])
 }
 
 // The octets of a MAC as a number, the first lowest.
-fn turn(mac: u64) -> usize
+#[tactic(auto, unfolding(crate::specs::Search::turned, crate::specs::Search::digit))]
+fn turn(mac: u64) -> u64
     ensures value { result ≡ turned 6 mac }
     ensures upper_bound { result < 281474976710656 }
 {
-    let a = mac / 256;
-    let b = a / 256;
-    let c = b / 256;
-    let d = c / 256;
-    let e = d / 256;
-    let last = a % 256 + 256 * (mac % 256);
-    let middle = c % 256 + 256 * (b % 256 + 256 * last);
-    (e % 256 + 256 * (d % 256 + 256 * middle)) as usize
+    let [a, b, c, d, e, f, _, _] = mac.to_le_bytes();
+    u64::from_be_bytes([0, 0, a, b, c, d, e, f])
 }
 
 // Whether the MAC stands two octets past a position; `start` is 65536 times its octets.
-fn is_at(v: &[u8], at: usize, mac: u64, start: usize) -> bool
+fn is_at(v: &[u8], at: usize, mac: u64, start: u64) -> bool
     requires { (at + 7 < length v.now) × SoughtAs mac start }
     ensures { result ≡ (big 6 v.now (at + 2) == mac) }
 {
-    wrapping_sub_usize(eight(v, at), start) < 65536
+    eight(v, at).wrapping_sub(start) < 65536
 }
 
 // Whether it is one of the four MACs there.
-fn one_of_four(v: &[u8], at: usize, mac: u64, start: usize) -> bool
+#[tactic(auto, unfolding(crate::specs::Search::four_at))]
+fn one_of_four(v: &[u8], at: usize, mac: u64, start: u64) -> bool
     requires { (at + 25 < length v.now) × SoughtAs mac start }
     ensures { result ≡ four_at v.now at mac }
 {
-    if is_at(v, at, mac, start) {
-        return true;
-    }
-    if is_at(v, at + 6, mac, start) {
-        return true;
-    }
-    if is_at(v, at + 12, mac, start) {
-        return true;
-    }
-    is_at(v, at + 18, mac, start)
+    is_at(v, at, mac, start)
+        || is_at(v, at + 6, mac, start)
+        || is_at(v, at + 12, mac, start)
+        || is_at(v, at + 18, mac, start)
 }
 
 // Whether it is one of the eight MACs there.
-fn one_of_eight(v: &[u8], at: usize, mac: u64, start: usize) -> bool
+#[tactic(auto, unfolding(crate::specs::Search::eight_at))]
+fn one_of_eight(v: &[u8], at: usize, mac: u64, start: u64) -> bool
     requires { (at + 49 < length v.now) × SoughtAs mac start }
     ensures { result ≡ eight_at v.now at mac }
 {
-    if one_of_four(v, at, mac, start) {
-        return true;
-    }
-    one_of_four(v, at + 24, mac, start)
+    one_of_four(v, at, mac, start) || one_of_four(v, at + 24, mac, start)
 }
 
-// Whether it is one of the MACs of the TLV from `at` to `next`, by eights and then by ones.
-fn is_among(pdu: &[u8], at: usize, next: usize, mac: u64, start: usize) -> bool
+// Whether it is one of the MACs of the TLV from `at` to `next`, by eights and then by ones. It goes by an index, since each load takes the
+// two octets before a MAC too, and chunks of six octets would leave them out.
+fn is_among(pdu: &[u8], at: usize, next: usize, mac: u64, start: u64) -> bool
     requires { (next ≡ next_at pdu.now at) × (next ≤ length pdu.now) × SoughtAs mac start }
     ensures { result ≡ listed_in mac (value_at pdu.now at) }
 {
@@ -103,8 +99,5 @@ pub fn is_listed_in(pdu: &[u8], at: usize, next: usize, mac: u64) -> bool
     requires { (next ≡ next_at pdu.now at) × (next ≤ length pdu.now) }
     ensures { result ≡ listed_in mac (value_at pdu.now at) }
 {
-    if PAST_MAC <= mac {
-        return false;
-    }
-    is_among(pdu, at, next, mac, 65536 * turn(mac))
+    mac < PAST_MAC && is_among(pdu, at, next, mac, 65536 * turn(mac))
 }

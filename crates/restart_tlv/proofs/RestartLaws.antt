@@ -22,29 +22,29 @@ use Rattle.tlv.specs.Tlv.{broken_rule}
 
 -- a value that breaks no rule has its flags, and the length that they ask for
 module _ (v : List ℕ) (e : restart_bad v ≡ false) where
-  pub has-flags : 1 ≤ length v
+  pub has_flags : 1 ≤ length v
   unfolding restart_bad
-  has-flags = ltb-false (length v) 1 (neither (ltb (length v) 1) _ e).0
+  has_flags = ltb-false (length v) 1 (neither (ltb (length v) 1) _ e).0
 
-  pub least-le : least_length (octet v 0) ≤ length v
+  pub least_le : least_length (octet v 0) ≤ length v
   unfolding restart_bad
-  least-le =
+  least_le =
       let e₁ = (neither (ltb (length v) 1) _ e).1 in
       ltb-false (length v) (least_length (octet v 0)) (neither (ltb 9 (length v)) _ e₁).1
 
 -- flags that are dropped ask for no more: a test of every octet
-pub least-counted : (f : ℕ) → f < 256 → least_length (counted f) ≤ least_length f
+pub least_counted : (f : ℕ) → f < 256 → least_length (counted f) ≤ least_length f
 unfolding counted without least_length needs_neighbor has_bits
-least-counted f l = leb-true _ _ (all-below 256 (λ k. leb (least_length (counted k)) (least_length k)) refl f l)
+least_counted f l = leb-true _ _ (all-below 256 (λ k. leb (least_length (counted k)) (least_length k)) refl f l)
 
 module _ (f : ℕ) where
-  pub neighbor-length : needs_neighbor f ≡ true → 9 ≤ least_length f
+  pub neighbor_length : needs_neighbor f ≡ true → 9 ≤ least_length f
   unfolding least_length
-  neighbor-length h = rw h (omega arith)
+  neighbor_length h = rw h (omega arith)
 
-  pub time-length : needs_time f ≡ true → 3 ≤ least_length f
+  pub time_length : needs_time f ≡ true → 3 ≤ least_length f
   unfolding least_length needs_time
-  time-length h =
+  time_length h =
       by-test (needs_neighbor f) (λ n. rw n (omega arith))
       (λ n. let p : has_bits f PR ≡ true = rw n at h in rw (n, p) (omega arith))
 

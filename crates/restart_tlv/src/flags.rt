@@ -46,6 +46,7 @@ impl Flags {
     }
 
     // The flags but for those of `other`.
+    #[tactic(auto, unfolding(crate::specs::Flags::without))]
     pub fn minus(self, other: Flags) -> Flags
         ensures { result.bits ≡ without self.bits other.bits }
     {
@@ -55,6 +56,7 @@ impl Flags {
     }
 
     // The flags that count, of an octet as it came.
+    #[tactic(auto, unfolding(crate::specs::Flags::counted))]
     pub fn counted_of(octet: u8) -> Flags
         ensures { result.bits ≡ counted octet }
     {
@@ -66,33 +68,26 @@ impl Flags {
     }
 
     // Whether the flags may not stand together.
+    #[tactic(auto, unfolding(crate::specs::Flags::invalid))]
     pub fn is_invalid(self) -> bool
         ensures { result ≡ invalid self.bits }
     {
-        let bits = self.bits;
-        if u8::count_ones(bits) < 2 {
-            return false;
-        }
-        bits != Flags::RR.with(Flags::SA).bits
+        1 < self.bits.count_ones() && self.bits != Flags::RR.with(Flags::SA).bits
     }
 
     // Whether they ask for the Restarting Neighbor System ID.
+    #[tactic(auto, unfolding(crate::specs::Flags::needs_neighbor))]
     pub fn needs_neighbor(self) -> bool
         ensures { result ≡ needs_neighbor self.bits }
     {
-        if self.has(Flags::RA) {
-            return true;
-        }
-        self.has(Flags::PA)
+        self.has(Flags::RA) || self.has(Flags::PA)
     }
 
     // Whether they ask for the Remaining Time.
+    #[tactic(auto, unfolding(crate::specs::Flags::needs_time))]
     pub fn needs_time(self) -> bool
         ensures { result ≡ needs_time self.bits }
     {
-        if self.needs_neighbor() {
-            return true;
-        }
-        self.has(Flags::PR)
+        self.needs_neighbor() || self.has(Flags::PR)
     }
 }

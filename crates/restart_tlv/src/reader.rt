@@ -22,6 +22,7 @@ pub enum RestartTlv {
     },
 }
 
+#[tactic(auto, unfolding(crate::specs::Restart::least_length))]
 fn least_length(flags: Flags) -> usize
     ensures { result ≡ least_length flags.bits }
 {
@@ -34,18 +35,14 @@ fn least_length(flags: Flags) -> usize
     1
 }
 
+#[tactic(auto, unfolding(crate::specs::Restart::restart_bad))]
 fn is_bad_restart(v: &[u8]) -> bool
     ensures { result ≡ restart_bad v.now }
 {
-    if v.len() < 1 {
-        return true;
-    }
-    if 9 < v.len() {
-        return true;
-    }
-    v.len() < least_length(Flags { bits: v[0] })
+    v.len() < 1 || 9 < v.len() || v.len() < least_length(Flags { bits: v[0] })
 }
 
+#[tactic(auto, using(crate::proofs::RestartLaws::time_length), unfolding(crate::specs::Restart::time_of))]
 fn decode_time(flags: Flags, v: &[u8]) -> u16
     requires { least_length flags.bits ≤ length v.now }
     ensures { result ≡ time_of flags.bits v.now }
@@ -56,6 +53,7 @@ fn decode_time(flags: Flags, v: &[u8]) -> u16
     0
 }
 
+#[tactic(auto, using(crate::proofs::RestartLaws::neighbor_length), unfolding(crate::specs::Restart::neighbor_of))]
 fn decode_neighbor(flags: Flags, v: &[u8]) -> Option<u64>
     requires { least_length flags.bits ≤ length v.now }
     ensures { result ≡ neighbor_of flags.bits v.now }
@@ -67,6 +65,7 @@ fn decode_neighbor(flags: Flags, v: &[u8]) -> Option<u64>
 }
 
 // The fields of a value that breaks no rule.
+#[tactic(auto, using(crate::proofs::RestartLaws::has_flags, crate::proofs::RestartLaws::least_le, crate::proofs::RestartLaws::least_counted), unfolding(crate::specs::Restart::restart_with))]
 fn decode_restart(v: &[u8]) -> RestartTlv
     requires { restart_bad v.now ≡ false }
     ensures { result ≡ restart_of v.now }

@@ -3,6 +3,7 @@ ghost use Rattle.std.specs.Prelude.{◌≡◌, ◌++◌, ◌≤◌, length, drop
 ghost use Rattle.restart_tlv.specs.Restart.{ack_flag, restart_octets};
 
 use crate::flags::Flags;
+use basics::octets::six_octets;
 use tlv::tlvs::RESTART;
 
 // What a reply acknowledges: a restart (RA) or a planned restart (PA).
@@ -27,21 +28,7 @@ pub fn write_restart(out: &mut [u8], ack: Ack, time: u16, system: u64)
     requires { 11 ≤ length out.old }
     ensures { out.new ≡ restart_octets (ack_flag ack) time system ++ drop 11 out.old }
 {
-    let flags = flags_of(ack);
-    let b = system / 256;
-    let c = b / 256;
-    let d = c / 256;
-    let e = d / 256;
-    let f = e / 256;
-    out[0] = RESTART;
-    out[1] = 9;
-    out[2] = flags.bits;
-    out[3] = (time / 256 % 256) as u8;
-    out[4] = (time % 256) as u8;
-    out[5] = (f % 256) as u8;
-    out[6] = (e % 256) as u8;
-    out[7] = (d % 256) as u8;
-    out[8] = (c % 256) as u8;
-    out[9] = (b % 256) as u8;
-    out[10] = (system % 256) as u8;
+    out[..3].copy_from_slice(&[RESTART, 9, flags_of(ack).bits]);
+    out[3..5].copy_from_slice(&time.to_be_bytes());
+    out[5..11].copy_from_slice(&six_octets(system));
 }

@@ -7,10 +7,10 @@ use native.Mathlib.Omega.{arith}
 use lib.ListN.{length, drop, length-drop}
 use lib.Seq.{length-take-le}
 use lib.Dec.{leb, ltb, eqb}
-use borrow.Author.Tests.{le-leb, lt-leb, lt-ltb, le-ltb, ltb-true, eq-eqb, ne_eqb}
+use borrow.Author.Tests.{le-leb, lt-leb, lt-ltb, le-ltb, ltb-true, leb-true, leb-false, eq-eqb, ne_eqb}
 use Rattle.basics.specs.Octets.{octet}
 use Rattle.basics.proofs.BoolLaws.{by-test}
-use Rattle.tlv.specs.Tlv.{Tlvs, done, cut, one, tlvs_up, tlvs, next_at, value_at, cut_at, counts_of, walk_as, walk_of, of_type, Tlv, first_at, first_value, several, FoundAt, Finds, lone_fault, is_found, unless, broken_rule}
+use Rattle.tlv.specs.Tlv.{Tlvs, done, cut, one, tlvs_up, tlvs, next_at, value_at, cut_at, counts_of, walk_as, walk_of, of_type, Tlv, first_at, first_value, several, FoundAt, lone_fault, is_found, unless, broken_rule}
 use Rattle.tlv.specs.declared.tlvs.Counts.{Counts}
 use Rattle.std.specs.Prelude.{Option, Some, None, Ok, Err}
 
@@ -96,6 +96,18 @@ module _ (s : List ℕ) (at : ℕ) (l : at < length s) where
     unfolding of_type
     passed k q = ap (of_type k) at_one ∙ simp (ne_eqb _ _ q)
 
+-- what is told of a TLV's end
+module _ (s : List ℕ) (at : ℕ) where
+  pub next-none : None ≡ cond (leb (next_at s at) (length s)) (Some (next_at s at)) None → length s < next_at s at
+  next-none e =
+      by-test (leb (next_at s at) (length s)) (λ t. let z : None ≡ Some (next_at s at) = rw t at e in cc)
+      (λ t. leb-false (next_at s at) (length s) t)
+
+  pub next-some : (n : ℕ) → Some n ≡ cond (leb (next_at s at) (length s)) (Some (next_at s at)) None → (n ≡ next_at s at) × (next_at s at ≤ length s)
+  next-some n e =
+      by-test (leb (next_at s at) (length s)) (λ t. let z : Some n ≡ Some (next_at s at) = rw t at e in (cc, leb-true (next_at s at) (length s) t))
+      (λ t. let z : Some n ≡ None = rw t at e in cc)
+
 -- there are no more than octets
 one_more : (b : Bool) (t : Tlv) (ts : List Tlv) (n : ℕ) → length ts ≤ n → length (cond b (t ∷ ts) ts) ≤ suc n
 one_more true t ts n h = omega arith
@@ -129,16 +141,8 @@ module _ {s : List ℕ} {from k p : ℕ} {v : List ℕ} (f : FoundAt s from k p)
   pub value-ends : p + 2 + length v ≡ next_at s p
   value-ends = rw (e, value-length s p f.within)
 
-  pub turn-within : p + 2 + length v ≤ length s
-  turn-within = rw value-ends f.within
-
   pub turn-list : of_type k (tlvs s from) ≡ record { at = p; value = v } ∷ of_type k (tlvs s (p + 2 + length v))
   turn-list = rw (f.same, f.here, value-ends, e)
-
--- what a search found is the first
-pub is-first : (s : List ℕ) (from k : ℕ) (r : Option ℕ) → Finds s from k r → r ≡ first_at (of_type k (tlvs s from))
-is-first s from k None f = rw f
-is-first s from k (Some p) f = rw (f.same, f.here)
 
 -- what one search, and the next one after it, tell
 several-by : (t : Tlv) (ts : List Tlv) → several (t ∷ ts) ≡ is_found (first_at ts)

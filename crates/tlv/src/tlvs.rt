@@ -1,6 +1,6 @@
 // The TLVs of a PDU (document 01, "TLVs read"): type octet, length octet, value. The PDU is lent as a part of its own,
 // the frame's first PDU Length octets, so nothing past it is in reach.
-ghost use Rattle.std.specs.Prelude.{◌≡◌, ◌≤◌, length};
+ghost use Rattle.std.specs.Prelude.{◌≡◌, ◌<◌, ◌≤◌, length, cond, leb};
 ghost use Rattle.tlv.specs.Tlv.{tlvs, walk_of, of_type, first_at, first_value, value_at, next_at, several, Finds};
 
 use basics::octets::wide;
@@ -27,48 +27,47 @@ pub struct Counts {
 #[derive(Clone, Copy)]
 pub struct BrokenRule;
 
+// Where the TLV at a position ends and the next one starts; none where it passes the end.
+fn next_of(pdu: &[u8], at: usize) -> Option<usize>
+    requires { at < length pdu.now }
+    ensures { result ≡ cond (leb (next_at pdu.now at) (length pdu.now)) (Some (next_at pdu.now at)) None }
+{
+    let left = pdu.len() - at;
+    if left < 2 {
+        return None;
+    }
+    let value = wide(pdu[at + 1]);
+    if left - 2 < value {
+        return None;
+    }
+    Some(at + 2 + value)
+}
+
 // The walk that decides refusal 5. It keeps no place of a TLV: each is looked for afresh.
 pub fn walked(pdu: &[u8], from: usize) -> Result<Counts, usize>
     ensures { result ≡ walk_of (tlvs pdu.now from) }
 {
-    let mut neighbours = 0;
-    let mut reverse = 0;
-    let mut restart = 0;
-    let mut threeway = 0;
+    let mut counts = Counts {
+        neighbours: 0,
+        reverse: 0,
+        restart: 0,
+        threeway: 0,
+    };
     let mut at = from;
     while at < pdu.len() {
-        let left = pdu.len() - at;
-        if left < 2 {
+        let Some(next) = next_of(pdu, at) else {
             return Err(at);
+        };
+        match pdu[at] {
+            IS_NEIGHBOURS => counts.neighbours += 1,
+            REVERSE_METRIC => counts.reverse += 1,
+            RESTART => counts.restart += 1,
+            THREE_WAY => counts.threeway += 1,
+            _ => {}
         }
-        let value = wide(pdu[at + 1]);
-        if left - 2 < value {
-            return Err(at);
-        }
-        let kind = pdu[at];
-        at = at + 2 + value;
-        if kind == IS_NEIGHBOURS {
-            neighbours += 1;
-            continue;
-        }
-        if kind == REVERSE_METRIC {
-            reverse += 1;
-            continue;
-        }
-        if kind == RESTART {
-            restart += 1;
-            continue;
-        }
-        if kind == THREE_WAY {
-            threeway += 1;
-        }
+        at = next;
     }
-    Ok(Counts {
-        neighbours,
-        reverse,
-        restart,
-        threeway,
-    })
+    Ok(counts)
 }
 
 // The first TLV of a type from a position on. The search ends at a TLV that passes the end.
@@ -77,18 +76,11 @@ pub fn find(pdu: &[u8], from: usize, kind: u8) -> Option<usize>
 {
     let mut at = from;
     while at < pdu.len() {
-        let left = pdu.len() - at;
-        if left < 2 {
-            return None;
-        }
-        let len = wide(pdu[at + 1]);
-        if left - 2 < len {
-            return None;
-        }
+        let next = next_of(pdu, at)?;
         if pdu[at] == kind {
             return Some(at);
         }
-        at = at + 2 + len;
+        at = next;
     }
     None
 }

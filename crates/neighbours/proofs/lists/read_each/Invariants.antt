@@ -1,13 +1,10 @@
--- The invariant: as many lists are left as `left` says, and they and what was listed before give the reading of the whole.
+-- The invariant: the lists that are left, as many as turns, and what was listed before give the reading of the whole.
 use Rattle.neighbours.proofs.ListsLaws.{list_on}
 use Rattle.neighbours.specs.Lists.{list_read}
 use Rattle.tlv.specs.Tlv.{tlvs, of_type}
-use Rattle.std.proofs.Common.{◌≡◌, length}
+use Rattle.std.proofs.Common.{◌≡◌, ◌+◌, length}
 use Rattle.neighbours.proofs.lists.read_each.Given as goal
 
-abbrev pub invariant-loop-left : goal.invariant-loop-left
-invariant-loop-left l =
-    (l.left ≡ length (of_type 6 (tlvs l.pdu l.at))) × (list_read l.mac (of_type 6 (tlvs l.pdu l.from)) ≡ list_on l.mac l.listed (of_type 6 (tlvs l.pdu l.at)))
-
-abbrev pub decreases-loop-left : goal.decreases-loop-left
-decreases-loop-left l = l.left
+abbrev pub invariant-loop : goal.invariant-loop
+invariant-loop l =
+    (l.count ≡ l.counter + length (of_type 6 (tlvs l.pdu l.at))) × (list_read l.mac (of_type 6 (tlvs l.pdu l.from)) ≡ list_on l.mac l.listed (of_type 6 (tlvs l.pdu l.at)))

@@ -11,7 +11,7 @@ returns c =
     let v = c.args.v.now in
     let at = c.args.at in
     let h : (k : ℕ) → octet v k < 256 = λ k. omega (arith, c.type_inv.v k) in
-    told-above c.eight.result c.wrapping_sub_usize.result (little 2 v at) (little 6 v (at + 2)) (turned 6 c.args.mac)
+    told-above c.eight.result _ (little 2 v at) (little 6 v (at + 2)) (turned 6 c.args.mac)
     (omega (arith, little-add v 2 6 at)) (little-lt v h 2 at) (turned_lt 6 c.args.mac) (omega arith)
-    (rw (← c.requires.1.1) c.wrapping_sub_usize.ensures.value)
+    (rw (← c.requires.1.1) (omega arith))
     ∙ told-turned v h (at + 2) c.args.mac c.requires.1.0

@@ -12,7 +12,7 @@ Counted s from at k n = length (of_type k (tlvs s from)) ≡ n + length (of_type
 
 abbrev pub invariant-loop-at : goal.invariant-loop-at
 invariant-loop-at l =
-    (cut_at (tlvs l.pdu l.from) ≡ cut_at (tlvs l.pdu l.at)) × Counted l.pdu l.from l.at 6 l.neighbours × Counted l.pdu l.from l.at 16 l.reverse × Counted l.pdu l.from l.at 211 l.restart × Counted l.pdu l.from l.at 240 l.threeway
+    (cut_at (tlvs l.pdu l.from) ≡ cut_at (tlvs l.pdu l.at)) × Counted l.pdu l.from l.at 6 l.counts.neighbours × Counted l.pdu l.from l.at 16 l.counts.reverse × Counted l.pdu l.from l.at 211 l.counts.restart × Counted l.pdu l.from l.at 240 l.counts.threeway
 
 abbrev pub decreases-loop-at : goal.decreases-loop-at
 decreases-loop-at l = length l.pdu - l.at
