@@ -1,6 +1,6 @@
 // C10 and C11: the link metric of a P2P circuit.
 use crate::frames::{SOURCE, reverse, reverse_twice, start};
-use crate::show::{cell, metric, text};
+use crate::show::Metric;
 use basics::kind::CircuitKind;
 use gateway::calls::{link_metric, receive};
 use gateway::whole::GATEWAY_WORDS;
@@ -12,10 +12,7 @@ fn row(rt: &impl Print, name: &str, what: &str, configured: u32, frame: &[u8]) -
     let mut reply = [0u8; 11];
     start(&mut gateway, CircuitKind::P2p, Mode::Running, 0, configured);
     let _ = receive(&mut gateway, 1, &SOURCE, frame, &mut reply);
-    cell(rt, name, 5)?;
-    cell(rt, what, 43)?;
-    metric(rt, link_metric(&gateway, 1))?;
-    text(rt, "\n")
+    println!(rt; "{name:<5}{what:<43}{}", Metric(link_metric(&gateway, 1)))
 }
 
 // C10: the link metric.

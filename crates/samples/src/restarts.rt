@@ -1,6 +1,6 @@
 // C1 to C7: a neighbour restarts, then plans to, then restarts.
 use crate::frames::{NEIGHBOUR, SOURCE, restart, start};
-use crate::show::{cell, looked, number_cell, received, text};
+use crate::show::{Looked, Received};
 use basics::kind::CircuitKind;
 use gateway::calls::{look_up, receive, tick};
 use gateway::whole::GATEWAY_WORDS;
@@ -21,23 +21,21 @@ fn row(
     let mut reply = [0u8; 11];
     let frame = restart(state, 3, flags, time);
     let _ = tick(gateway, clock);
-    let r = receive(gateway, 1, &SOURCE, &frame, &mut reply);
-    let l = look_up(gateway, 1, 0, &NEIGHBOUR, &SOURCE);
-    cell(rt, name, 5)?;
-    number_cell(rt, clock as u64, 7)?;
-    cell(rt, what, 36)?;
-    looked(rt, l)?;
-    received(rt, r, &reply)?;
-    text(rt, "\n")
+    let answer = receive(gateway, 1, &SOURCE, &frame, &mut reply);
+    let looked = Looked(look_up(gateway, 1, 0, &NEIGHBOUR, &SOURCE));
+    let received = Received {
+        answer,
+        reply: &reply,
+    };
+    println!(rt; "{name:<5}{clock:<7}{what:<36}{looked}{received}")
 }
 
 // C1 to C6, one after another.
 pub fn c1_to_c6(rt: &impl Print) -> io::Result<()> {
     let mut gateway = [0u64; GATEWAY_WORDS];
     start(&mut gateway, CircuitKind::P2p, Mode::Running, 80, 10);
-    text(
-        rt,
-        "row  clock  frame                               state expiry  mark     CSNPs reply\n",
+    println!(rt;
+        "row  clock  frame                               state expiry  mark     CSNPs reply"
     )?;
     row(
         rt,
