@@ -1,4 +1,5 @@
 // The hello frames of the sample runs, and a gateway to take them: one circuit, own System ID 1921.6800.1001, neighbour 1921.6800.1002.
+// Frames are octets made by hand from document 01's rows, so states and flags go in as their numbers, and not as the library's types.
 use basics::kind::CircuitKind;
 use basics::levels::Levels;
 use basics::mask::CIRCUITS;
@@ -30,7 +31,7 @@ fn circuit(kind: CircuitKind, metric: u32) -> CircuitSettings {
     }
 }
 
-// Configured time 30; T1 and T2 60.
+// Configured time 30; T1 and T2 60. No row prints what setup answers: it takes these settings, and the hellos that it orders play no part.
 pub fn start(
     gateway: &mut [u64; GATEWAY_WORDS],
     kind: CircuitKind,

@@ -1,13 +1,13 @@
 // C1 to C7: a neighbour restarts, then plans to, then restarts.
 use crate::frames::{NEIGHBOUR, SOURCE, restart, start};
-use crate::show::{Looked, Received};
+use crate::show::{Answer, Looked, Received};
 use basics::kind::CircuitKind;
 use gateway::calls::{look_up, receive, tick};
 use gateway::whole::GATEWAY_WORDS;
 use settings::mode::Mode;
 use std::io;
 
-// A tick to the clock, then the frame; the record afterwards, and the answer.
+// A tick to the clock, whose answer no row prints, then the frame; the record afterwards, and the answer.
 fn row(
     rt: &impl Print,
     gateway: &mut [u64; GATEWAY_WORDS],
@@ -22,11 +22,11 @@ fn row(
     let frame = restart(state, 3, flags, time);
     let _ = tick(gateway, clock);
     let answer = receive(gateway, 1, &SOURCE, &frame, &mut reply);
-    let looked = Looked(look_up(gateway, 1, 0, &NEIGHBOUR, &SOURCE));
-    let received = Received {
-        answer,
+    let looked = Answer(look_up(gateway, 1, 0, &NEIGHBOUR, &SOURCE).map(Looked));
+    let received = Answer(answer.map(|orders| Received {
+        orders,
         reply: &reply,
-    };
+    }));
     println!(rt; "{name:<5}{clock:<7}{what:<36}{looked}{received}")
 }
 

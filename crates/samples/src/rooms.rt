@@ -1,6 +1,6 @@
 // C12: a LAN circuit has room for 16 records, and room freed is used again.
 use crate::frames::{lan, start};
-use crate::show::Verdict;
+use crate::show::verdict;
 use basics::kind::CircuitKind;
 use basics::refusal::Refusal;
 use gateway::calls::{receive, tick};
@@ -16,10 +16,10 @@ fn send(gateway: &mut [u64; GATEWAY_WORDS], router: u8, hold: u8) -> Result<Orde
 }
 
 fn row(rt: &impl Print, what: &str, answer: Result<Orders, Refusal>) -> io::Result<()> {
-    println!(rt; "C12  {what:<43}{}", Verdict(answer))
+    println!(rt; "C12  {what:<43}{}", verdict(answer))
 }
 
-// Router 1 has a Holding Time of 10, the others of 30.
+// Router 1 has a Holding Time of 10, the others of 30. The two answers to the 17th key are what C12 prints.
 pub fn c12(rt: &impl Print) -> io::Result<()> {
     let mut gateway = [0u64; GATEWAY_WORDS];
     start(&mut gateway, CircuitKind::Lan, Mode::Running, 0, 10);

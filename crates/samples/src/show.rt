@@ -7,18 +7,27 @@ use model::numbers::{number_of, position_of};
 use restart_tlv::writer::Ack;
 use std::fmt;
 
-// A refusal's number, and the position that it brings, where it brings one.
+// What a call answered: a refusal's number, and the position that it brings, where it brings one; or what was accepted.
 #[derive(Clone, Copy)]
-struct Refused(Refusal);
+pub struct Answer<T>(pub Result<T, Refusal>);
 
-impl fmt::Display for Refused {
+impl<T: fmt::Display> fmt::Display for Answer<T> {
     fn fmt<W: fmt::Write>(&self, f: &mut fmt::Formatter<W>) -> fmt::Result {
-        write!(f, "refused {}", number_of(self.0))?;
-        match position_of(self.0) {
+        let why = match &self.0 {
+            Ok(accepted) => return write!(f, "{accepted}"),
+            Err(why) => *why,
+        };
+        write!(f, "refused {}", number_of(why))?;
+        match position_of(why) {
             0 => Ok(()),
             position => write!(f, " at {position}"),
         }
     }
+}
+
+// Only whether it was accepted.
+pub fn verdict(answer: Result<Orders, Refusal>) -> Answer<&'static str> {
+    Answer(answer.map(|_| "accepted"))
 }
 
 fn mark_name(mark: Mark) -> &'static str {
@@ -31,17 +40,16 @@ fn mark_name(mark: Mark) -> &'static str {
 
 // State, expiry and mark of a record.
 #[derive(Clone, Copy)]
-pub struct Looked(pub Result<Option<Found>, Refusal>);
+pub struct Looked(pub Option<Found>);
 
 impl fmt::Display for Looked {
     fn fmt<W: fmt::Write>(&self, f: &mut fmt::Formatter<W>) -> fmt::Result {
-        let (state, expiry, mark) = match self.0 {
-            Err(why) => return write!(f, "{}", Refused(why)),
-            Ok(None) => return write!(f, "{:<23}", "none"),
-            Ok(Some(found)) => match found.state {
-                State::Init(kept) => ("INIT", kept.expiry, "-"),
-                State::Up(kept, mark) => ("UP", kept.expiry, mark_name(mark)),
-            },
+        let Some(found) = self.0 else {
+            return write!(f, "{:<23}", "none");
+        };
+        let (state, expiry, mark) = match found.state {
+            State::Init(kept) => ("INIT", kept.expiry, "-"),
+            State::Up(kept, mark) => ("UP", kept.expiry, mark_name(mark)),
         };
         write!(f, "{state:<6}{expiry:<8}{mark:<9}")
     }
@@ -50,8 +58,19 @@ impl fmt::Display for Looked {
 fn level_names(levels: Option<Levels>) -> &'static str {
     match levels {
         None => "-",
-        Some(Levels { one: true, two }) => if two { "1+2" } else { "1" },
-        Some(_) => "2",
+        Some(
+            Levels {
+                one: true,
+                two: true,
+            },
+        ) => "1+2",
+        Some(
+            Levels {
+                one: true,
+                two: false,
+            },
+        ) => "1",
+        Some(Levels { one: false, .. }) => "2",
     }
 }
 
@@ -65,18 +84,14 @@ fn ack_name(ack: Ack) -> &'static str {
 // Line 1's levels, the reply's kind and Remaining Time, and its octets.
 #[derive(Clone, Copy)]
 pub struct Received<'a> {
-    pub answer: Result<Orders, Refusal>,
+    pub orders: Orders,
     pub reply: &'a [u8],
 }
 
 impl fmt::Display for Received<'_> {
     fn fmt<W: fmt::Write>(&self, f: &mut fmt::Formatter<W>) -> fmt::Result {
-        let orders = match self.answer {
-            Err(why) => return write!(f, "{}", Refused(why)),
-            Ok(orders) => orders,
-        };
-        write!(f, "{:<6}", level_names(orders.csnps))?;
-        let Some((ack, time)) = orders.reply else {
+        write!(f, "{:<6}", level_names(self.orders.csnps))?;
+        let Some((ack, time)) = self.orders.reply else {
             return f.write_str("none");
         };
         write!(f, "{:<6}{time}:", ack_name(ack))?;
@@ -84,31 +99,5 @@ impl fmt::Display for Received<'_> {
             write!(f, " {octet:02x}")?;
         }
         Ok(())
-    }
-}
-
-// Only whether it was accepted.
-#[derive(Clone, Copy)]
-pub struct Verdict(pub Result<Orders, Refusal>);
-
-impl fmt::Display for Verdict {
-    fn fmt<W: fmt::Write>(&self, f: &mut fmt::Formatter<W>) -> fmt::Result {
-        match self.0 {
-            Err(why) => write!(f, "{}", Refused(why)),
-            Ok(_) => f.write_str("accepted"),
-        }
-    }
-}
-
-// A link metric.
-#[derive(Clone, Copy)]
-pub struct Metric(pub Result<u32, Refusal>);
-
-impl fmt::Display for Metric {
-    fn fmt<W: fmt::Write>(&self, f: &mut fmt::Formatter<W>) -> fmt::Result {
-        match self.0 {
-            Err(why) => write!(f, "{}", Refused(why)),
-            Ok(metric) => write!(f, "{metric}"),
-        }
     }
 }

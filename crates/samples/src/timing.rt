@@ -29,7 +29,7 @@ fn deadline(gateway: &mut [u64; GATEWAY_WORDS], from: u32) -> u32 {
         .unwrap_or(60)
 }
 
-// An acknowledgement at a clock: RA, a Remaining Time, and a three-way state.
+// An acknowledgement at a clock: RA, a Remaining Time, and a three-way state. What it did is seen by `deadline`, so its answer is not printed.
 fn acknowledge(gateway: &mut [u64; GATEWAY_WORDS], clock: u32, state: u8, time: u16) {
     let mut reply = [0u8; 11];
     let frame = restart(state, 9, 2, time);
@@ -38,15 +38,12 @@ fn acknowledge(gateway: &mut [u64; GATEWAY_WORDS], clock: u32, state: u8, time: 
 }
 
 // The first acknowledgements of the three.
-fn row(rt: &impl Print, what: &str, count: u8) -> io::Result<()> {
+fn row(rt: &impl Print, what: &str, count: usize) -> io::Result<()> {
     let mut gateway = [0u64; GATEWAY_WORDS];
     start(&mut gateway, CircuitKind::P2p, Mode::Restarting, 0, 10);
-    acknowledge(&mut gateway, 5, 0, 40);
-    if 1 < count {
-        acknowledge(&mut gateway, 10, 0, 50);
-    }
-    if 2 < count {
-        acknowledge(&mut gateway, 12, 1, 20);
+    let all = [(5, 0, 40), (10, 0, 50), (12, 1, 20)];
+    for (clock, state, time) in all.into_iter().take(count) {
+        acknowledge(&mut gateway, clock, state, time);
     }
     println!(rt; "C9   {what:<43}T3 at {}", deadline(&mut gateway, 13))
 }
