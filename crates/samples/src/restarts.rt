@@ -7,7 +7,8 @@ use gateway::whole::GATEWAY_WORDS;
 use settings::mode::Mode;
 use std::io;
 
-// A tick to the clock, whose answer no row prints, then the frame; the record afterwards, and the answer.
+// A tick to the clock, whose answer no row prints, then the frame; the record afterwards, and the answer. The state and the flags are
+// octets of a frame that is made by hand (state: 0 Up, 1 Initializing, 2 Down; flags: 1 RR, 8 PR).
 fn row(
     rt: &impl Print,
     gateway: &mut [u64; GATEWAY_WORDS],

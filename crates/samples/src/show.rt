@@ -56,21 +56,13 @@ impl fmt::Display for Looked {
 }
 
 fn level_names(levels: Option<Levels>) -> &'static str {
-    match levels {
-        None => "-",
-        Some(
-            Levels {
-                one: true,
-                two: true,
-            },
-        ) => "1+2",
-        Some(
-            Levels {
-                one: true,
-                two: false,
-            },
-        ) => "1",
-        Some(Levels { one: false, .. }) => "2",
+    let Some(Levels { one, two }) = levels else {
+        return "-";
+    };
+    match (one, two) {
+        (true, true) => "1+2",
+        (true, false) => "1",
+        (false, _) => "2",
     }
 }
 
