@@ -1,4 +1,5 @@
 // The hello frames of the sample runs, and a gateway to take them: one circuit, own System ID 1921.6800.1001, neighbour 1921.6800.1002.
+// Frames are octets made by hand from document 01's rows, so states and flags go in as their numbers, and not as the library's types.
 use basics::kind::CircuitKind;
 use basics::levels::Levels;
 use basics::mask::CIRCUITS;
@@ -30,7 +31,7 @@ fn circuit(kind: CircuitKind, metric: u32) -> CircuitSettings {
     }
 }
 
-// Configured time 30; T1 and T2 60.
+// Configured time 30; T1 and T2 60. No row prints what setup answers: it takes these settings, and the hellos that it orders play no part.
 pub fn start(
     gateway: &mut [u64; GATEWAY_WORDS],
     kind: CircuitKind,
@@ -59,17 +60,18 @@ pub fn start(
 // P2P of the neighbour, Holding Time 27: a PDU Length, a three-way TLV with this state (0 Up, 1 Initializing, 2 Down), and what follows it.
 // The octets lent past the PDU Length are never read.
 fn p2p(length: u8, state: u8, rest: [u8; 17]) -> [u8; 40] {
-    [
+    let mut frame = [0; 40];
+    frame[..23].copy_from_slice(&[
         0x83, 20, 1, 0, 17, 1, 0, 0, 3, 0x19, 0x21, 0x68, 0x00, 0x10, 0x02, 0, 27, 0, length, 1,
-        240, 1, state, rest[0], rest[1], rest[2], rest[3], rest[4], rest[5], rest[6], rest[7],
-        rest[8], rest[9], rest[10], rest[11], rest[12], rest[13], rest[14], rest[15], rest[16],
-    ]
+        240, 1, state,
+    ]);
+    frame[23..].copy_from_slice(&rest);
+    frame
 }
 
 // With a Restart TLV of a length, its flags and its Remaining Time.
 pub fn restart(state: u8, len: u8, flags: u8, time: u16) -> [u8; 40] {
-    let high = (time / 256) as u8;
-    let low = (time % 256) as u8;
+    let [high, low] = time.to_be_bytes();
     p2p(
         25 + len % 16,
         state,

@@ -1,21 +1,19 @@
 // C10 and C11: the link metric of a P2P circuit.
 use crate::frames::{SOURCE, reverse, reverse_twice, start};
-use crate::show::{cell, metric, text};
+use crate::show::Answer;
 use basics::kind::CircuitKind;
 use gateway::calls::{link_metric, receive};
 use gateway::whole::GATEWAY_WORDS;
 use settings::mode::Mode;
 use std::io;
 
+// The metric after a frame, whose answer C10 and C11 do not print.
 fn row(rt: &impl Print, name: &str, what: &str, configured: u32, frame: &[u8]) -> io::Result<()> {
     let mut gateway = [0u64; GATEWAY_WORDS];
     let mut reply = [0u8; 11];
     start(&mut gateway, CircuitKind::P2p, Mode::Running, 0, configured);
     let _ = receive(&mut gateway, 1, &SOURCE, frame, &mut reply);
-    cell(rt, name, 5)?;
-    cell(rt, what, 43)?;
-    metric(rt, link_metric(&gateway, 1))?;
-    text(rt, "\n")
+    println!(rt; "{name:<5}{what:<43}{}", Answer(link_metric(&gateway, 1)))
 }
 
 // C10: the link metric.

@@ -1,13 +1,14 @@
 // C1 to C7: a neighbour restarts, then plans to, then restarts.
 use crate::frames::{NEIGHBOUR, SOURCE, restart, start};
-use crate::show::{cell, looked, number_cell, received, text};
+use crate::show::{Answer, Looked, Received};
 use basics::kind::CircuitKind;
 use gateway::calls::{look_up, receive, tick};
 use gateway::whole::GATEWAY_WORDS;
 use settings::mode::Mode;
 use std::io;
 
-// A tick to the clock, then the frame; the record afterwards, and the answer.
+// A tick to the clock, whose answer no row prints, then the frame; the record afterwards, and the answer. The state and the flags are
+// octets of a frame that is made by hand (state: 0 Up, 1 Initializing, 2 Down; flags: 1 RR, 8 PR).
 fn row(
     rt: &impl Print,
     gateway: &mut [u64; GATEWAY_WORDS],
@@ -21,23 +22,21 @@ fn row(
     let mut reply = [0u8; 11];
     let frame = restart(state, 3, flags, time);
     let _ = tick(gateway, clock);
-    let r = receive(gateway, 1, &SOURCE, &frame, &mut reply);
-    let l = look_up(gateway, 1, 0, &NEIGHBOUR, &SOURCE);
-    cell(rt, name, 5)?;
-    number_cell(rt, clock as u64, 7)?;
-    cell(rt, what, 36)?;
-    looked(rt, l)?;
-    received(rt, r, &reply)?;
-    text(rt, "\n")
+    let answer = receive(gateway, 1, &SOURCE, &frame, &mut reply);
+    let looked = Answer(look_up(gateway, 1, 0, &NEIGHBOUR, &SOURCE).map(Looked));
+    let received = Answer(answer.map(|orders| Received {
+        orders,
+        reply: &reply,
+    }));
+    println!(rt; "{name:<5}{clock:<7}{what:<36}{looked}{received}")
 }
 
 // C1 to C6, one after another.
 pub fn c1_to_c6(rt: &impl Print) -> io::Result<()> {
     let mut gateway = [0u64; GATEWAY_WORDS];
     start(&mut gateway, CircuitKind::P2p, Mode::Running, 80, 10);
-    text(
-        rt,
-        "row  clock  frame                               state expiry  mark     CSNPs reply\n",
+    println!(rt;
+        "row  clock  frame                               state expiry  mark     CSNPs reply"
     )?;
     row(
         rt,

@@ -1,6 +1,6 @@
 // C8: the Restart TLV's lengths. C13: the PDU Length and the lent octets.
 use crate::frames::{SOURCE, filled, restart, start};
-use crate::show::{cell, text, verdict};
+use crate::show::verdict;
 use basics::kind::CircuitKind;
 use gateway::calls::receive;
 use gateway::whole::GATEWAY_WORDS;
@@ -15,11 +15,8 @@ fn row(
     frame: &[u8],
 ) -> io::Result<()> {
     let mut reply = [0u8; 11];
-    cell(rt, name, 5)?;
-    cell(rt, what, 43)?;
-    let r = receive(gateway, 1, &SOURCE, frame, &mut reply);
-    verdict(rt, r)?;
-    text(rt, "\n")
+    let verdict = verdict(receive(gateway, 1, &SOURCE, frame, &mut reply));
+    println!(rt; "{name:<5}{what:<43}{verdict}")
 }
 
 // A Restart TLV of a length, with flags.

@@ -1,7 +1,6 @@
 // C9: T3 is lowered only by an acknowledgement that shows us Up, and only to an earlier time. Its deadline is seen by the tick that orders
 // overload.
 use crate::frames::{SOURCE, restart, start};
-use crate::show::{cell, number, text};
 use basics::kind::CircuitKind;
 use basics::refusal::Refusal;
 use gateway::calls::{receive, tick};
@@ -11,44 +10,26 @@ use settings::mode::Mode;
 use std::io;
 use timers::outcome::{Overload, TimerOutcome};
 
-fn is_set(overload: Overload) -> bool {
-    match overload {
-        Overload::Quiet => false,
-        Overload::Set => true,
-        Overload::Clear => false,
-        Overload::Both => true,
-    }
-}
-
-fn orders_overload(outcome: TimerOutcome) -> bool {
-    match outcome {
+fn orders_overload(answer: Result<Ticked, Refusal>) -> bool {
+    let Ok(ticked) = answer else {
+        return false;
+    };
+    match ticked.outcome {
         TimerOutcome::Idle => false,
-        TimerOutcome::Goes { spf: _, overload } => is_set(overload),
-        TimerOutcome::Ended { spf: _, overload } => is_set(overload),
-    }
-}
-
-fn is_overload(t: Result<Ticked, Refusal>) -> bool {
-    match t {
-        Err(_) => false,
-        Ok(done) => orders_overload(done.outcome),
+        TimerOutcome::Goes { overload, .. } | TimerOutcome::Ended { overload, .. } => {
+            matches!(overload, Overload::Set | Overload::Both)
+        }
     }
 }
 
 // Ticks from a clock on, until one orders overload: its clock, or 60, where T2 ends.
 fn deadline(gateway: &mut [u64; GATEWAY_WORDS], from: u32) -> u32 {
-    let mut clock = from;
-    while clock < 60 {
-        let t = tick(gateway, clock);
-        if is_overload(t) {
-            return clock;
-        }
-        clock += 1;
-    }
-    clock
+    (from..60)
+        .find(|clock| orders_overload(tick(gateway, *clock)))
+        .unwrap_or(60)
 }
 
-// An acknowledgement at a clock: RA, a Remaining Time, and a three-way state.
+// An acknowledgement at a clock: RA, a Remaining Time, and a three-way state. What it did is seen by `deadline`, so its answer is not printed.
 fn acknowledge(gateway: &mut [u64; GATEWAY_WORDS], clock: u32, state: u8, time: u16) {
     let mut reply = [0u8; 11];
     let frame = restart(state, 9, 2, time);
@@ -57,21 +38,14 @@ fn acknowledge(gateway: &mut [u64; GATEWAY_WORDS], clock: u32, state: u8, time: 
 }
 
 // The first acknowledgements of the three.
-fn row(rt: &impl Print, what: &str, count: u8) -> io::Result<()> {
+fn row(rt: &impl Print, what: &str, count: usize) -> io::Result<()> {
     let mut gateway = [0u64; GATEWAY_WORDS];
     start(&mut gateway, CircuitKind::P2p, Mode::Restarting, 0, 10);
-    acknowledge(&mut gateway, 5, 0, 40);
-    if 1 < count {
-        acknowledge(&mut gateway, 10, 0, 50);
+    let all = [(5, 0, 40), (10, 0, 50), (12, 1, 20)];
+    for (clock, state, time) in all.into_iter().take(count) {
+        acknowledge(&mut gateway, clock, state, time);
     }
-    if 2 < count {
-        acknowledge(&mut gateway, 12, 1, 20);
-    }
-    cell(rt, "C9", 5)?;
-    cell(rt, what, 43)?;
-    text(rt, "T3 at ")?;
-    number(rt, deadline(&mut gateway, 13) as u64)?;
-    text(rt, "\n")
+    println!(rt; "C9   {what:<43}T3 at {}", deadline(&mut gateway, 13))
 }
 
 // C9: T3 while Restarting.

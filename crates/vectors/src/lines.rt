@@ -1,5 +1,5 @@
 // The frames of a file: a line is `NAME KIND HEX`, and one that begins with `#` is a remark.
-ghost use Rattle.std.specs.Prelude.{◌≡◌, ◌≤◌, ◌<◌, length, take};
+ghost use Rattle.std.specs.Prelude.{◌≤◌, ◌<◌, length};
 
 use crate::show::show_frame;
 use basics::kind::CircuitKind;
@@ -7,109 +7,64 @@ use std::io::Read;
 use std::rt::Files;
 use std::{fs, io};
 
-const HASH: u8 = 35;
-
-const NEWLINE: u8 = 10;
-
-const SPACE: u8 = 32;
-
-// Where an octet stands at or after a position, or the end.
-fn index_of(s: &[u8], from: usize, x: u8) -> usize
-    requires { from ≤ length s.now }
-    ensures { (from ≤ result) × (result ≤ length s.now) }
-{
-    let mut at = from;
-    while at < s.len() {
-        if s[at] == x {
-            return at;
-        }
-        at += 1;
-    }
-    at
-}
-
-// The number of a hexadecimal digit, 0 to 9 or a to f.
-fn digit(c: u8) -> u8
+// The number of a hexadecimal digit, 0 to 9 or a to f; of another octet 0.
+fn digit(octet: u8) -> u8
     ensures { result < 16 }
 {
-    if c < 48 {
-        return 0;
+    match octet {
+        b'0'..=b'9' => octet - b'0',
+        b'a'..=b'f' => octet - b'a' + 10,
+        _ => 0,
     }
-    if c < 58 {
-        return c - 48;
-    }
-    if c < 97 {
-        return 0;
-    }
-    if c < 103 {
-        return c - 87;
-    }
-    0
 }
 
-// The octets that pairs of digits stand for, and how many they are.
+// The octets that pairs of digits stand for, as many as there is room for, and how many they are.
 fn octets_of(digits: &[u8], out: &mut [u8]) -> usize
-    ensures { (result ≤ length out.new) × (result ≡ length (take result out.new)) }
+    ensures { result ≤ length out.new }
 {
-    let mut n = 0;
-    let mut i = 0;
-    while i + 1 < digits.len() {
-        if out.len() <= n {
-            return n;
-        }
-        out[n] = digit(digits[i]) * 16 + digit(digits[i + 1]);
-        n += 1;
-        i += 2;
+    for (octet, pair) in out.iter_mut().zip(digits.chunks_exact(2)) {
+        *octet = digit(pair[0]) * 16 + digit(pair[1]);
     }
-    n
+    out.len().min(digits.len() / 2)
 }
 
-fn kind_of(letter: u8) -> CircuitKind {
-    if letter == b'P' {
-        return CircuitKind::P2p;
+fn kind_of(name: &[u8]) -> CircuitKind {
+    match name {
+        b"P2P" => CircuitKind::P2p,
+        _ => CircuitKind::Lan,
     }
-    CircuitKind::Lan
 }
 
 fn show_line(rt: &impl Print, line: &[u8]) -> io::Result<()> {
-    let a = index_of(line, 0, SPACE);
-    if line.len() <= a + 1 {
+    let mut words = line.splitn(3, |octet| *octet == b' ');
+    let (Some(name), Some(kind), Some(digits)) = (words.next(), words.next(), words.next()) else {
         return Ok(());
-    }
-    let b = index_of(line, a + 1, SPACE);
-    if line.len() <= b {
-        return Ok(());
-    }
+    };
     let mut frame = [0u8; 2048];
-    let n = octets_of(&line[b + 1..], &mut frame);
-    show_frame(rt, &line[..a], kind_of(line[a + 1]), &frame[..n])
+    let n = octets_of(digits, &mut frame);
+    show_frame(rt, name, kind_of(kind), &frame[..n])
 }
 
 fn show_lines(rt: &impl Print, text: &[u8]) -> io::Result<()> {
-    let mut at = 0;
-    while at < text.len() {
-        let end = index_of(text, at, NEWLINE);
-        if text[at] != HASH {
-            show_line(rt, &text[at..end])?;
+    for line in text.split(|octet| *octet == b'\n') {
+        if !line.starts_with(b"#") {
+            show_line(rt, line)?;
         }
-        at = end + 1;
     }
     Ok(())
 }
 
-// Reads until the buffer is full, the file ends or a read fails; how many octets it read.
+// Reads until the buffer is full, the file ends or a read fails; how many octets it read. std's `read_to_end` wants a heap, and its
+// `read_exact` does not tell how many octets of a shorter file it read.
 fn read_full(file: &mut impl Read, buffer: &mut [u8]) -> usize
     ensures { result ≤ length buffer.new }
 {
     let mut n = 0;
     while n < buffer.len() {
-        let Ok(more) = file.read(&mut buffer[n..]) else {
-            return n;
-        };
-        if more == 0 {
-            return n;
+        match file.read(&mut buffer[n..]) {
+            Ok(0) | Err(_) => break,
+            Ok(more) => n += more,
         }
-        n += more;
     }
     n
 }

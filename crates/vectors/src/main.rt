@@ -8,12 +8,17 @@ mod show; // show.rt: what is printed of a frame
 use std::io;
 
 fn main(rt: HostRuntime) -> io::Result<()> {
-    lines::show_file(&rt, "header.txt")?;
-    lines::show_file(&rt, "tlv211.txt")?;
-    lines::show_file(&rt, "tlv240.txt")?;
-    lines::show_file(&rt, "tlv6.txt")?;
-    lines::show_file(&rt, "tlv16.txt")?;
-    lines::show_file(&rt, "replies.txt")?;
-    lines::show_file(&rt, "frr.txt")?;
-    lines::show_file(&rt, "own.txt")
+    for name in [
+        "header.txt",
+        "tlv211.txt",
+        "tlv240.txt",
+        "tlv6.txt",
+        "tlv16.txt",
+        "replies.txt",
+        "frr.txt",
+        "own.txt",
+    ] {
+        lines::show_file(&rt, name)?;
+    }
+    Ok(())
 }

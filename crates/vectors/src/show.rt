@@ -1,214 +1,185 @@
 // What is printed of a frame: `NAME refused N`, for 5 and 6 with ` at` and the position, or `NAME LAYOUT SYSTEM hold TIME ..; restart ..; metric ..`.
 use basics::kind::CircuitKind;
+use basics::refusal::Refusal;
 use hello::read::{Hello, Link, read_hello};
 use hello::reverse::ReverseMetric;
-use hello::three_way::{Identifiers, ThreeWay, ThreeWayState};
+use hello::three_way::{Identifiers, ThreeWayState};
 use model::numbers::{number_of, position_of};
 use restart_tlv::flags::Flags;
 use restart_tlv::reader::RestartTlv;
-use std::io;
 use std::io::Write;
+use std::{fmt, io};
 
 // Our own MAC, 02:00:00:00:00:01.
 const OWN_MAC: u64 = 0x020000000001;
 
-fn text(rt: &impl Print, s: &str) -> io::Result<()> {
-    print!(rt; "{s}")
-}
-
-fn number(rt: &impl Print, n: u64) -> io::Result<()> {
-    print!(rt; "{n}")
-}
-
-fn hex(rt: &impl Print, n: u64, width: usize) -> io::Result<()> {
-    print!(rt; "{n:0>width$x}")
-}
-
 // A System ID as 1921.6800.1002.
-fn system_id(rt: &impl Print, n: u64) -> io::Result<()> {
-    hex(rt, n / 4294967296 % 65536, 4)?;
-    text(rt, ".")?;
-    hex(rt, n / 65536 % 65536, 4)?;
-    text(rt, ".")?;
-    hex(rt, n % 65536, 4)
-}
+#[derive(Clone, Copy)]
+struct SystemId(u64);
 
-fn circuit_id(rt: &impl Print, n: u32) -> io::Result<()> {
-    text(rt, " circuit ")?;
-    hex(rt, n as u64, 8)
-}
-
-fn neighbor_id(rt: &impl Print, n: u64) -> io::Result<()> {
-    text(rt, " names ")?;
-    system_id(rt, n)
-}
-
-fn state(rt: &impl Print, s: ThreeWayState) -> io::Result<()> {
-    match s {
-        ThreeWayState::Up => text(rt, "up"),
-        ThreeWayState::Initializing => text(rt, "initializing"),
-        ThreeWayState::Down => text(rt, "down"),
+impl fmt::Display for SystemId {
+    fn fmt<W: fmt::Write>(&self, f: &mut fmt::Formatter<W>) -> fmt::Result {
+        let high = self.0 >> 32 & 0xffff;
+        let middle = self.0 >> 16 & 0xffff;
+        let low = self.0 & 0xffff;
+        write!(f, "{high:04x}.{middle:04x}.{low:04x}")
     }
 }
 
-fn identifiers(rt: &impl Print, ids: Identifiers) -> io::Result<()> {
-    match ids {
-        Identifiers::Absent => Ok(()),
-        Identifiers::Own(own) => circuit_id(rt, own),
-        Identifiers::Neighbor(own, system) => {
-            circuit_id(rt, own)?;
-            neighbor_id(rt, system)
-        }
-        Identifiers::Whole(own, system, circuit) => {
-            circuit_id(rt, own)?;
-            neighbor_id(rt, system)?;
-            circuit_id(rt, circuit)
+// A refusal's number, and the position that it brings, where it brings one.
+#[derive(Clone, Copy)]
+struct Refused(Refusal);
+
+impl fmt::Display for Refused {
+    fn fmt<W: fmt::Write>(&self, f: &mut fmt::Formatter<W>) -> fmt::Result {
+        write!(f, "refused {}", number_of(self.0))?;
+        match position_of(self.0) {
+            0 => Ok(()),
+            position => write!(f, " at {position}"),
         }
     }
 }
 
-// A flag's name where it is set, after a `+` where another came before; whether one has come.
-fn flag(rt: &impl Print, flags: Flags, one: Flags, name: &str, before: bool) -> io::Result<bool> {
-    if !flags.has(one) {
-        return Ok(before);
+fn state_name(state: ThreeWayState) -> &'static str {
+    match state {
+        ThreeWayState::Up => "up",
+        ThreeWayState::Initializing => "initializing",
+        ThreeWayState::Down => "down",
     }
-    if before {
-        text(rt, "+")?;
-    }
-    text(rt, name)?;
-    Ok(true)
 }
 
-fn flag_names(rt: &impl Print, flags: Flags) -> io::Result<()> {
-    let a = flag(rt, flags, Flags::RR, "RR", false)?;
-    let b = flag(rt, flags, Flags::RA, "RA", a)?;
-    let c = flag(rt, flags, Flags::SA, "SA", b)?;
-    let d = flag(rt, flags, Flags::PR, "PR", c)?;
-    let e = flag(rt, flags, Flags::PA, "PA", d)?;
-    if !e {
-        text(rt, "-")?;
-    }
-    Ok(())
-}
+// What a three-way TLV has after its state.
+#[derive(Clone, Copy)]
+struct Circuits(Identifiers);
 
-fn named(rt: &impl Print, neighbor: Option<u64>) -> io::Result<()> {
-    let Some(system) = neighbor else {
-        return Ok(());
-    };
-    text(rt, " ")?;
-    system_id(rt, system)
-}
-
-fn restart(rt: &impl Print, tlv: RestartTlv) -> io::Result<()> {
-    text(rt, "; restart ")?;
-    match tlv {
-        RestartTlv::Absent => text(rt, "none"),
-        RestartTlv::Ignored => text(rt, "ignored"),
-        RestartTlv::Present {
-            flags,
-            time,
-            neighbor,
-        } => {
-            flag_names(rt, flags)?;
-            if flags.needs_time() {
-                text(rt, " ")?;
-                number(rt, time as u64)?;
+impl fmt::Display for Circuits {
+    fn fmt<W: fmt::Write>(&self, f: &mut fmt::Formatter<W>) -> fmt::Result {
+        match self.0 {
+            Identifiers::Absent => Ok(()),
+            Identifiers::Own(own) => write!(f, " circuit {own:08x}"),
+            Identifiers::Neighbor(own, system) => {
+                write!(f, " circuit {own:08x} names {}", SystemId(system))
             }
-            named(rt, neighbor)
-        }
-    }
-}
-
-fn metric(rt: &impl Print, reverse: Option<ReverseMetric>) -> io::Result<()> {
-    text(rt, "; metric ")?;
-    let Some(asked) = reverse else {
-        return text(rt, "none");
-    };
-    number(rt, asked.offset as u64)?;
-    if asked.whole {
-        text(rt, " W")?;
-    }
-    if asked.unreachable {
-        text(rt, " U")?;
-    }
-    Ok(())
-}
-
-fn layout(rt: &impl Print, link: Link) -> io::Result<()> {
-    match link {
-        Link::Lan {
-            level,
-            priority: _,
-            listed: _,
-        } => {
-            text(rt, " LAN")?;
-            number(rt, level as u64)
-        }
-        Link::P2p(_) => text(rt, " P2P"),
-    }
-}
-
-fn three_way(rt: &impl Print, tlv: ThreeWay) -> io::Result<()> {
-    let s = tlv.state;
-    let ids = tlv.ids;
-    state(rt, s)?;
-    identifiers(rt, ids)
-}
-
-fn link_fields(rt: &impl Print, link: Link) -> io::Result<()> {
-    match link {
-        Link::Lan {
-            level: _,
-            priority,
-            listed,
-        } => {
-            text(rt, "priority ")?;
-            number(rt, priority as u64)?;
-            if listed {
-                text(rt, " listed")
-            } else {
-                text(rt, " unlisted")
+            Identifiers::Whole(own, system, circuit) => {
+                write!(
+                    f,
+                    " circuit {own:08x} names {} circuit {circuit:08x}",
+                    SystemId(system)
+                )
             }
         }
-        Link::P2p(tlv) => three_way(rt, tlv),
     }
 }
 
-fn accepted(rt: &impl Print, hello: Hello) -> io::Result<()> {
-    let link = hello.link;
-    let tlv = hello.restart;
-    let reverse = hello.reverse;
-    layout(rt, link)?;
-    text(rt, " ")?;
-    system_id(rt, hello.system)?;
-    text(rt, " hold ")?;
-    number(rt, hello.hold as u64)?;
-    text(rt, " ")?;
-    link_fields(rt, link)?;
-    restart(rt, tlv)?;
-    metric(rt, reverse)
+// The names of the flags that are set, with `+` between them; `-` where none is.
+#[derive(Clone, Copy)]
+struct FlagNames(Flags);
+
+impl fmt::Display for FlagNames {
+    fn fmt<W: fmt::Write>(&self, f: &mut fmt::Formatter<W>) -> fmt::Result {
+        let mut named = false;
+        for (flag, name) in [
+            (Flags::RR, "RR"),
+            (Flags::RA, "RA"),
+            (Flags::SA, "SA"),
+            (Flags::PR, "PR"),
+            (Flags::PA, "PA"),
+        ] {
+            if self.0.has(flag) {
+                if named {
+                    f.write_str("+")?;
+                }
+                f.write_str(name)?;
+                named = true;
+            }
+        }
+        if named { Ok(()) } else { f.write_str("-") }
+    }
 }
 
-// The position that a refusal brings, where it brings one.
-fn place(rt: &impl Print, position: u16) -> io::Result<()> {
-    if position == 0 {
-        return Ok(());
+// The Restart TLV: its flags, its Remaining Time where they ask for it, and its System ID where it has one.
+#[derive(Clone, Copy)]
+struct Restart(RestartTlv);
+
+impl fmt::Display for Restart {
+    fn fmt<W: fmt::Write>(&self, f: &mut fmt::Formatter<W>) -> fmt::Result {
+        let (flags, time, neighbor) = match self.0 {
+            RestartTlv::Absent => return f.write_str("none"),
+            RestartTlv::Ignored => return f.write_str("ignored"),
+            RestartTlv::Present {
+                flags,
+                time,
+                neighbor,
+            } => (flags, time, neighbor),
+        };
+        write!(f, "{}", FlagNames(flags))?;
+        if flags.needs_time() {
+            write!(f, " {time}")?;
+        }
+        match neighbor {
+            None => Ok(()),
+            Some(system) => write!(f, " {}", SystemId(system)),
+        }
     }
-    text(rt, " at ")?;
-    number(rt, position as u64)
+}
+
+// The reverse metric: its offset and its flags.
+#[derive(Clone, Copy)]
+struct Metric(Option<ReverseMetric>);
+
+impl fmt::Display for Metric {
+    fn fmt<W: fmt::Write>(&self, f: &mut fmt::Formatter<W>) -> fmt::Result {
+        let Some(asked) = self.0 else {
+            return f.write_str("none");
+        };
+        write!(f, "{}", asked.offset)?;
+        if asked.whole {
+            f.write_str(" W")?;
+        }
+        if asked.unreachable {
+            f.write_str(" U")?;
+        }
+        Ok(())
+    }
+}
+
+// The fields of a hello.
+#[derive(Clone, Copy)]
+struct Fields(Hello);
+
+impl fmt::Display for Fields {
+    fn fmt<W: fmt::Write>(&self, f: &mut fmt::Formatter<W>) -> fmt::Result {
+        let system = SystemId(self.0.system);
+        let hold = self.0.hold;
+        match self.0.link {
+            Link::Lan {
+                level,
+                priority,
+                listed,
+            } => {
+                let listed = if listed { "listed" } else { "unlisted" };
+                write!(
+                    f,
+                    "LAN{level} {system} hold {hold} priority {priority} {listed}"
+                )?;
+            }
+            Link::P2p(tlv) => {
+                let state = state_name(tlv.state);
+                let circuits = Circuits(tlv.ids);
+                write!(f, "P2P {system} hold {hold} {state}{circuits}")?;
+            }
+        }
+        let restart = Restart(self.0.restart);
+        let metric = Metric(self.0.reverse);
+        write!(f, "; restart {restart}; metric {metric}")
+    }
 }
 
 // One frame, and what became of it.
 pub fn show_frame(rt: &impl Print, name: &[u8], kind: CircuitKind, frame: &[u8]) -> io::Result<()> {
     io::writer(rt).write_all(name)?;
-    let r = read_hello(frame, kind, OWN_MAC);
-    match r {
-        Err(why) => {
-            text(rt, " refused ")?;
-            number(rt, number_of(why) as u64)?;
-            place(rt, position_of(why))?;
-        }
-        Ok(hello) => accepted(rt, hello)?,
+    match read_hello(frame, kind, OWN_MAC) {
+        Err(why) => println!(rt; " {}", Refused(why)),
+        Ok(hello) => println!(rt; " {}", Fields(hello)),
     }
-    text(rt, "\n")
 }
