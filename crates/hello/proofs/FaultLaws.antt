@@ -2,12 +2,12 @@
 use Prim.Native.Nat.{ℕ, min, ◌+◌}
 use mathlib.Core.Path.{◌≡◌, refl, ap, sym, ◌∙◌}
 use mathlib.Core.List.{List, [], ◌∷◌}
-use mathlib.Core.Bool.{true, false, cond}
+use mathlib.Core.Bool.{true}
 use Rattle.std.specs.Option.{IsSome}
 use native.Mathlib.Omega.{arith}
 use lib.ListN.{length}
 use Rattle.basics.proofs.BoolLaws.{by-test}
-use Rattle.tlv.specs.Tlv.{Tlv, tlvs, of_type, next_at, value_at, first_at, lone_fault, FoundAt, is_found}
+use Rattle.tlv.specs.Tlv.{Tlv, tlvs, of_type, lone_fault, FoundAt, is_found}
 use Rattle.tlv.proofs.TlvLaws.{found-list, Within, nowhere, place, Standing, no_more, stands, standing, lone-within}
 use Rattle.neighbours.proofs.ListsLaws.{fault-within}
 use Rattle.restart_tlv.specs.Restart.{restart_bad}
