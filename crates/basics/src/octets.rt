@@ -1,7 +1,6 @@
 // Big-endian numbers of 1, 2, 3, 4 and 6 octets at a position of a slice (document 01, "Hello frames").
 //
-// Octets are first read lowest first, since that becomes one load, and then turned, which becomes one instruction; summed in
-// their own order they would be loaded one by one.
+// An array of octets that stand in a row becomes one load, and its turning one instruction.
 ghost use Rattle.std.specs.Prelude.{◌≡◌, ◌+◌, ◌<◌, length};
 ghost use Rattle.basics.specs.Octets.{big, little, octets_of, has_bits, Octet};
 

@@ -14,7 +14,7 @@ fn place_bit(i: usize) -> u16
     1u16 << i
 }
 
-// The mask with the digit of place i set or cleared.
+// The mask with the digit of place i set or cleared. mask::put_bit is its twin on u8: by this one it would owe that the upper eight digits stay 0.
 pub fn put_place(m: u16, i: usize, on: bool) -> u16
     requires { i < t1_places }
     ensures { place_bits result ≡ set (place_bits m) i on }

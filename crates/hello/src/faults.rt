@@ -33,6 +33,7 @@ fn earlier_of(a: Option<usize>, b: Option<usize>) -> Option<usize>
     }
 }
 
+#[tactic(auto, unfolding(crate::specs::Hello::fault_on))]
 fn link_fault(pdu: &[u8], layout: Layout) -> Option<usize>
     ensures { result ≡ link_fault layout pdu.now }
 {
@@ -43,6 +44,7 @@ fn link_fault(pdu: &[u8], layout: Layout) -> Option<usize>
 }
 
 // The first TLV that breaks a rule.
+#[tactic(auto, unfolding(crate::specs::Hello::tlv_fault))]
 fn tlv_fault(pdu: &[u8], layout: Layout) -> Option<usize>
     ensures { result ≡ tlv_fault layout pdu.now }
 {

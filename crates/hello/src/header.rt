@@ -33,6 +33,7 @@ pub struct Layout {
 }
 
 // The layout that a PDU type chooses.
+#[tactic(auto, unfolding(crate::specs::Header::layout_of))]
 pub fn select_layout(octet: u8) -> Option<Layout>
     ensures { result ≡ layout_of octet }
 {
@@ -63,41 +64,22 @@ fn is_id_length(n: u8) -> bool
 }
 
 // Refusal 3, but for the PDU type.
+#[tactic(auto, unfolding(crate::specs::Header::not_hello))]
 pub fn is_not_hello(s: &[u8]) -> bool
     ensures { result ≡ not_hello s.now }
 {
-    if s.len() < 8 {
-        return true;
-    }
-    if s[0] != 0x83 {
-        return true;
-    }
-    if s[2] != 1 {
-        return true;
-    }
-    if s[5] != 1 {
-        return true;
-    }
-    !is_id_length(s[3])
+    s.len() < 8 || s[0] != 0x83 || s[2] != 1 || s[5] != 1 || !is_id_length(s[3])
 }
 
 // Refusal 4.
+#[tactic(auto, unfolding(crate::specs::Header::bad_length))]
 pub fn is_bad_length(s: &[u8], header: usize) -> bool
     requires { 20 ≤ header }
     ensures { result ≡ bad_length s.now header }
 {
-    if s.len() < header {
-        return true;
-    }
-    if wide(s[1]) != header {
+    if s.len() < header || wide(s[1]) != header {
         return true;
     }
     let n = two(s, PDU_LENGTH) as usize;
-    if n < header {
-        return true;
-    }
-    if s.len() < n {
-        return true;
-    }
-    MAX_PDU < n
+    n < header || s.len() < n || MAX_PDU < n
 }

@@ -104,8 +104,7 @@ fn read_pdu(pdu: &[u8], layout: Layout, mac: u64) -> Result<Hello, Refusal>
     requires { Sized pdu.now × (layout_of (octet pdu.now 4) ≡ Some layout) }
     ensures { result ≡ pdu_read layout mac pdu.now }
 {
-    let walk = walked(pdu, layout.header);
-    match walk {
+    match walked(pdu, layout.header) {
         Err(at) => Err(Refusal::TlvPastEnd {
             position: position_of(at),
         }),

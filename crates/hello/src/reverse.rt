@@ -24,15 +24,14 @@ pub struct ReverseMetric {
     pub unreachable: bool,
 }
 
+#[tactic(auto, unfolding(crate::specs::Reverse::reverse_bad))]
 fn is_bad_reverse(v: &[u8]) -> bool
     ensures { result ≡ reverse_bad v.now }
 {
-    if v.len() < 5 {
-        return true;
-    }
-    wide(v[4]) != v.len() - 5
+    v.len() < 5 || wide(v[4]) != v.len() - 5
 }
 
+#[tactic(auto, unfolding(crate::specs::Reverse::reverse_of))]
 fn decode_reverse(v: &[u8]) -> Option<ReverseMetric>
     requires { 5 ≤ length v.now }
     ensures { result ≡ reverse_of v.now }

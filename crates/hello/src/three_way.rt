@@ -33,33 +33,21 @@ pub struct ThreeWay {
     pub ids: Identifiers,
 }
 
+#[tactic(auto, unfolding(crate::specs::ThreeWay::three_way_length))]
 fn is_length(n: usize) -> bool
     ensures { result ≡ three_way_length n }
 {
-    if n == 1 {
-        return true;
-    }
-    if n == 5 {
-        return true;
-    }
-    if n == 11 {
-        return true;
-    }
-    n == 15
+    matches!(n, 1 | 5 | 11 | 15)
 }
 
+#[tactic(auto, unfolding(crate::specs::ThreeWay::three_way_bad, crate::specs::ThreeWay::three_way_length))]
 fn is_bad_three_way(v: &[u8]) -> bool
     ensures { result ≡ three_way_bad v.now }
 {
-    if v.len() < 1 {
-        return true;
-    }
-    if !is_length(v.len()) {
-        return true;
-    }
-    2 < v[0]
+    v.len() < 1 || !is_length(v.len()) || 2 < v[0]
 }
 
+#[tactic(auto, unfolding(crate::specs::ThreeWay::state_of))]
 fn decode_state(octet: u8) -> ThreeWayState
     ensures { result ≡ state_of octet }
 {
@@ -70,6 +58,7 @@ fn decode_state(octet: u8) -> ThreeWayState
     }
 }
 
+#[tactic(auto, unfolding(crate::specs::ThreeWay::identifiers_of))]
 fn decode_identifiers(v: &[u8]) -> Identifiers
     ensures { result ≡ identifiers_of v.now }
 {

@@ -1,2 +1,1 @@
-pub mod MetricLaws
 pub mod SampleRuns

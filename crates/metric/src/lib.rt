@@ -15,11 +15,12 @@ const MAX_LINK_METRIC: u32 = 16777214;
 const MAX_UNREACHABLE: u32 = 16777215;
 
 // A sum, held to a limit.
+#[tactic(auto, unfolding(crate::specs::Metric::held_to))]
 pub fn held_sum(limit: u32, configured: u32, offset: u32) -> u32
     ensures { result ≡ held_to limit (configured + offset) }
 {
-    let sum = configured as u64 + offset as u64;
-    if sum <= limit as u64 {
+    let sum = u64::from(configured) + u64::from(offset);
+    if sum <= u64::from(limit) {
         return sum as u32;
     }
     limit
@@ -49,9 +50,7 @@ fn metric_of(configured: u32, state: State) -> u32
     let State::Up(data, _) = state else {
         return configured;
     };
-    let last = data.last;
-    let reverse = last.reverse;
-    raise(configured, reverse)
+    raise(configured, data.last.reverse)
 }
 
 // The metric of a circuit with this record, if one stands.

@@ -9,13 +9,13 @@ use Rattle.hello.proofs.read.read_pdu.Goals as goal
 use Rattle.std.specs.Prelude.{Err}
 
 pub position_of-requires : goal.position_of-requires
-position_of-requires c = omega (arith, c.requires.0.1, is_within _ _ _ (cut-within _ _) (walk-is-cut _ _ (sym c.walked-walk.ensures ∙ c.in-Err.is)))
+position_of-requires c = omega (arith, c.requires.0.1, is_within _ _ _ (cut-within _ _) (walk-is-cut _ _ (sym c.walked.ensures ∙ c.in-Err.is)))
 
 pub read_tlvs-requires : goal.read_tlvs-requires
-read_tlvs-requires c = (c.requires.0, (walk-is-whole _ _ (sym c.walked-walk.ensures ∙ c.in-Ok.is)).1, c.requires.1)
+read_tlvs-requires c = (c.requires.0, (walk-is-whole _ _ (sym c.walked.ensures ∙ c.in-Ok.is)).1, c.requires.1)
 
 pub returns-in-Err : goal.returns-in-Err
-returns-in-Err c = ap (λ (n : ℕ). Err (TlvPastEnd n)) c.position_of.ensures ∙ sym (at_cut _ _ _ _ (sym c.walked-walk.ensures ∙ c.in-Err.is))
+returns-in-Err c = ap (λ (n : ℕ). Err (TlvPastEnd n)) c.position_of.ensures ∙ sym (at_cut _ _ _ _ (sym c.walked.ensures ∙ c.in-Err.is))
 
 pub returns-in-Ok : goal.returns-in-Ok
-returns-in-Ok c = c.read_tlvs.ensures ∙ sym (at-whole _ _ _ _ (sym c.walked-walk.ensures ∙ c.in-Ok.is))
+returns-in-Ok c = c.read_tlvs.ensures ∙ sym (at-whole _ _ _ _ (sym c.walked.ensures ∙ c.in-Ok.is))
