@@ -2,7 +2,7 @@
 //
 // An array of octets that stand in a row becomes one load, and its turning one instruction.
 ghost use Rattle.std.specs.Prelude.{◌≡◌, ◌+◌, ◌<◌, length};
-ghost use Rattle.basics.specs.Octets.{big, little, octets_of, has_bits, Octet};
+ghost use Rattle.basics.specs.Octets.{big, octets_of, has_bits, Octet};
 
 // An octet as a length or an index.
 pub fn wide(x: u8) -> usize
@@ -17,26 +17,6 @@ pub fn has_bits(x: u8, mask: u8) -> bool
     ensures { result ≡ has_bits x mask }
 {
     x & mask == mask
-}
-
-// Two octets as a number, the first lowest.
-#[tactic(auto, unfolding(crate::specs::Octets::little))]
-pub fn half(s: &[u8], at: usize) -> usize
-    requires { at + 1 < length s.now }
-    ensures value { result ≡ little 2 s.now at }
-    ensures upper_bound { result < 65536 }
-{
-    usize::from(u16::from_le_bytes([s[at], s[at + 1]]))
-}
-
-// Four octets so.
-#[tactic(auto, unfolding(crate::specs::Octets::little))]
-pub fn word(s: &[u8], at: usize) -> usize
-    requires { at + 3 < length s.now }
-    ensures value { result ≡ little 4 s.now at }
-    ensures upper_bound { result < 4294967296 }
-{
-    u32::from_le_bytes([s[at], s[at + 1], s[at + 2], s[at + 3]]) as usize
 }
 
 // Two octets as a number, the first highest.

@@ -28,10 +28,12 @@ fn octets_of(digits: &[u8], out: &mut [u8]) -> usize
     out.len().min(digits.len() / 2)
 }
 
+// By its first letter.
 fn kind_of(name: &[u8]) -> CircuitKind {
-    match name {
-        b"P2P" => CircuitKind::P2p,
-        _ => CircuitKind::Lan,
+    if name.starts_with(b"P") {
+        CircuitKind::P2p
+    } else {
+        CircuitKind::Lan
     }
 }
 
