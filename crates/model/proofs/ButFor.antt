@@ -1,6 +1,6 @@
 -- The bad neighbour's own LAN in two runs: the records of every other MAC are the same by key. A shared call keeps it so until a run
 -- answers 9, and so does one of its own frames in one run alone; and in the mode Running a call on a circuit leaves the common part as
--- it was. Callers: Near. NoFrame opens the frame's decoding, the state step, the reply's octets, line 1's order or the timers.
+-- it was. Callers: Near. None opens the frame's decoding, the state step, the reply's octets, line 1's order or the timers.
 use Prim.Native.Nat.{ℕ}
 use mathlib.Core.Path.{◌≡◌, refl, sym, ap, ◌∙◌}
 use mathlib.Core.Logic.{◌≢◌}

@@ -41,7 +41,7 @@ Unshowns =
     ≡ NotSo ∷ Init ∷ Init ∷ Suppressed ∷ NotSo ∷ NoRecord ∷ [])
     × (unshown g 2 (receive_on 2 11 good ∷ receive bad ∷ []) ≡ Refused NoCircuit ∷ NoRecord ∷ []))
 
--- NoFrame stands: a hello refused 6, at octet 24; the same on circuit 2, refused 1 there; a tick refused 10; calls that leave all as it is
+-- None stands: a hello refused 6, at octet 24; the same on circuit 2, refused 1 there; a tick refused 10; calls that leave all as it is
 abbrev pub Unknowns : Type 0
 Unknowns =
     OnEmpty

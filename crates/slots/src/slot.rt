@@ -70,7 +70,7 @@ pub fn store(words: &mut [u64], i: usize, entry: Record)
 // The expiry word of a place without a record: past every clock, so that a tick passes the place by this word alone. It means nothing.
 const NEVER: u64 = u64::MAX;
 
-// A place without a record: what its tag means whatever the other words are.
+// A place without a record: its tag says which, whatever its other words are.
 fn leave_empty(words: &mut [u64], i: usize, tag: u64)
     requires { (length words.old ≡ room_words) × (i < places) }
     ensures { (s : Slot) → ((system mac expiry : ℕ) → slot_of system mac expiry tag ≡ s) → table_of words.new ≡ set (table_of words.old) i s }

@@ -107,8 +107,7 @@ fn notice_t2(on: bool, t: T2) -> T2
     }
 }
 
-// Each T2 at its deadline expires. The bodies of the three below name the two levels: one function over both, with a closure, would be longer than what it
-// replaces.
+// Each T2 at its deadline expires. This and the two below name both levels: one function over both, with a closure, would be longer than the three.
 #[tactic(auto, unfolding(crate::specs::T2::expire_both))]
 pub fn expire_both(clock: u32, t: T2s) -> T2s
     ensures { result ≡ expire_both clock t }

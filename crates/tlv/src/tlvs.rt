@@ -70,8 +70,8 @@ pub fn walked(pdu: &[u8], from: usize) -> Result<Counts, usize>
     Ok(counts)
 }
 
-// The first TLV of a type from a position on. The search ends at a TLV that passes the end. `next_of` in its loop was tried and is slower: the frame of 690
-// empty TLVs and three that are looked for took 7.5 us against 6.8.
+// The first TLV of a type from a position on. The search ends at a TLV that passes the end. With `next_of` in its loop the frame of 690
+// empty TLVs and three that are looked for takes 7.5 us, and so 6.8.
 pub fn find(pdu: &[u8], from: usize, kind: u8) -> Option<usize>
     ensures { Finds pdu.now from kind result }
 {

@@ -28,7 +28,7 @@ fn octets_of(digits: &[u8], out: &mut [u8]) -> usize
     out.len().min(digits.len() / 2)
 }
 
-// By its first letter.
+// The kind that a line names, by its first letter.
 fn kind_of(name: &[u8]) -> CircuitKind {
     if name.starts_with(b"P") {
         CircuitKind::P2p
