@@ -1,9 +1,29 @@
--- Laws of lists: the values of a function.
-use Prim.Native.Nat.{ℕ, zero, suc, ◌<◌}
+-- Laws of lists: a test of every element, as a loop goes through them, and the values of a function.
+use Prim.Native.Nat.{ℕ, zero, suc, ◌+◌, ◌<◌, ◌≤◌}
 use native.Mathlib.Omega.{arith}
+use native.Mathlib.Numerals.{add-one}
 use mathlib.Core.Path.{◌≡◌, refl, ap}
-use lib.ListN.{length, get_or, set}
-use Rattle.basics.specs.Lists.{tabulate}
+use mathlib.Core.Bool.{Bool, true, false}
+use mathlib.Core.List.{List}
+use lib.ListN.{length, get_or, set, take, drop, drop_of_length-le}
+use lib.Seq.{drop-cons, get_or-take, length-take-le}
+use Rattle.basics.specs.Lists.{every, tabulate}
+
+-- the first n of a list, from the i-th on
+module _ {A : Type 0} (p : A → Bool) (n : ℕ) (t : List A) (i : ℕ) (le : n ≤ length t) where
+  pub every_here : (d : A) → i < n → p (get_or t i d) ≡ false → every p (drop i (take n t)) ≡ false
+  unfolding every
+  every_here d lt e = rw (drop-cons (take n t) i d (rw (length-take-le n t le) lt)) (rw (get_or-take n t i d lt, e) refl)
+
+  pub every-skip : (d : A) → i < n → p (get_or t i d) ≡ true → every p (drop i (take n t)) ≡ every p (drop (i + 1) (take n t))
+  unfolding every
+  every-skip d lt e = rw (add-one i, drop-cons (take n t) i d (rw (length-take-le n t le) lt)) (rw (get_or-take n t i d lt, e) refl)
+
+  pub every-end : n ≤ i → every p (drop i (take n t)) ≡ true
+  unfolding every
+  every-end h =
+      let q : length (take n t) ≤ i = rw (length-take-le n t le) h in
+      rw (drop_of_length-le (take n t) q) refl
 
 module _ {A : Type 0} where
   pub tabulate-same : (f g : ℕ → A) (n : ℕ) → ((j : ℕ) → j < n → f j ≡ g j) → tabulate f n ≡ tabulate g n

@@ -5,8 +5,19 @@ use mathlib.Core.List.{List, [], ◌∷◌, ◌++◌, append_assoc}
 use lib.ListN.{length, length-append}
 use lib.Seq.{get_or-append-add, get_or_at}
 use native.Mathlib.Omega.{arith}
-use native.Mathlib.Nat.{add-zero, pow-zero, pow-suc}
+use native.Mathlib.Nat.{add-zero, add_assoc, mul_assoc, mul-one, pow-zero, pow-suc, add-suc}
 use Rattle.basics.specs.Octets.{octet, big, little, octets_of}
+
+-- a number of m + n octets is the first m of them, and then n
+pub big-add : (m n : ℕ) (s : List ℕ) (at : ℕ) → big (m + n) s at ≡ big m s at * 256 ^ n + big n s (at + m)
+unfolding big
+big-add m zero s at = rw (add-zero, pow-zero, mul-one, add-zero)
+big-add m (suc n) s at = rw (add-suc, big-add m n s at, pow-suc, ← mul_assoc, ← add_assoc) (omega arith)
+
+-- the number of one octet
+pub big-one : (s : List ℕ) (at : ℕ) → big 1 s at ≡ octet s at
+unfolding big
+big-one s at = rw add-zero (omega arith)
 
 module _ (s : List ℕ) (at : ℕ) (h : (k : ℕ) → octet s k < 256) where
   -- the last octet of a number, and the others
@@ -42,6 +53,14 @@ module _ (s : List ℕ) (h : (k : ℕ) → octet s k < 256) where
   unfolding little
   little-lt zero at = rw pow-zero (omega arith)
   little-lt (suc n) at = rw pow-suc (omega (arith, h at, little-lt n (at + 1)))
+
+  -- two octets read lowest first, turned
+  pub turned_two : (at x : ℕ) → x ≡ little 2 s at → x % 256 * 256 + x / 256 ≡ big 2 s at
+  unfolding big little
+  turned_two at x e =
+      let p : x % 256 ≡ octet s at = omega (arith, h at) in
+      let q : x / 256 ≡ octet s (at + 1) = omega (arith, h at) in
+      rw (add-zero at, p, q) (omega arith)
 
 pub length-octets_of : (n x : ℕ) → length (octets_of n x) ≡ n
 unfolding octets_of

@@ -20,6 +20,11 @@ pub mode-at : (ws : List ℕ) → mode_in (sealed ws head_place % 4) ≡ (common
 unfolding common_of head_of head_in timers_of
 mode-at ws = refl
 
+pub head_at : (ws : List ℕ) (w : ℕ) → w ≡ sealed ws head_place
+    → head_in w (get_or ws (head_place + 1) 0) (get_or ws (head_place + 2) 0) (get_or ws (head_place + 3) 0) ≡ head_of ws
+unfolding head_of
+head_at ws w e = rw e refl
+
 -- the digits of the head's word: the mode, whether each T2 runs and was noticed, T3, the mask
 fields : (m x n y p z k a b e : ℕ) → m < 4 → x < 2 → n < 2 → y < 2 → p < 2 → z < 4 → k < 65536
     → head_in (m + 4 * x + 8 * n + 16 * y + 32 * p + 64 * z + 256 * k) a b e

@@ -14,9 +14,10 @@ use Rattle.timer_parts.specs.declared.heard.Heard.{Heard}
 use Rattle.timer_parts.specs.declared.t1.Freed.TheVariants.{Kept}
 use Rattle.settings.specs.declared.lengths.Lengths.{Lengths}
 use Rattle.settings.specs.declared.serving.Serving.{Serving}
-use Rattle.timers.specs.Timers.{Timers, to_t3, heard_in}
+use Rattle.timers.specs.Timers.{Timers, settled, to_t3, heard_in}
 use Rattle.timers.specs.Memory.{word_count, timers_of, timers_at}
 use Rattle.settings.specs.Mode.{is_running}
+use Rattle.timers.specs.Outcome.{ordered, tick_hellos}
 use Rattle.timers.specs.Hellos.{Hellos, hello_bits}
 use Rattle.timers.specs.Events.{Closes, Ticks, Hears}
 use Rattle.timers.specs.declared.events.HeardOrders.{HeardOrders}
@@ -28,10 +29,10 @@ use Rattle.timers.specs.declared.outcome.TimerOutcome.TheVariants.{Idle}
 use Rattle.timers.proofs.T1sLaws.{bits_none}
 use Rattle.timers.proofs.TimersLaws.{settled_on, ordered-on, hellos-on, settled-off, ordered-off, hellos-off, heard-off}
 use Rattle.control.specs.Words.{control_words, seal_place, entries_place, circuits_place, head_place, seal, sealed, head_of, serving_of, entries_of, common_of, entries_end}
-use Rattle.control.specs.Common.{Common, with_timers}
+use Rattle.control.specs.Common.{Common, with_clock, with_timers}
 use Rattle.control.proofs.CommonLaws.{Keeps, serving-kept, timers-changed}
 use Rattle.control.proofs.HeadLaws.{mode-at}
-use Rattle.control.specs.Timing.{On, CommonSettles, CommonHears, CommonTicksOn}
+use Rattle.control.specs.Timing.{On, CommonSettles, CommonHears, CommonTicksOn, CommonTicks}
 use Rattle.basics.proofs.PartLaws.{length_back, part_same, outside}
 
 -- ---- the mode
@@ -144,3 +145,13 @@ module _ (ws : List ℕ) (m : is_running (common_of ws).timers.mode ≡ true) wh
         settles = settles-still (to_t3 (common_of ws).lengths clock);
         hellos = ap (λ (l : List Bool). record { t1s = l; flags = 0 }) bits_none ∙ hellos-off (common_of ws).timers m (common_of ws).lengths clock;
       }
+
+-- the clock is moved first
+pub ticks-moved : (ws mid u : List ℕ) (clock : ℕ) (o : TimerOutcome) (hs : Hellos) → common_of mid ≡ with_clock clock (common_of ws)
+    → CommonTicksOn clock mid u o hs → CommonTicks clock ws u o hs
+ticks-moved ws mid u clock o hs e x =
+    record {
+      common = x.settles.common ∙ ap (λ (c : Common). with_timers (settled (to_t3 c.lengths clock) c.timers) c) e;
+      outcome = x.settles.outcome ∙ ap (λ (c : Common). ordered (to_t3 c.lengths clock) c.timers) e;
+      hellos = x.hellos ∙ ap (λ (c : Common). tick_hellos c.lengths clock c.timers) e;
+    }

@@ -7,7 +7,7 @@ use Rattle.std.specs.Option.{IsSome}
 use native.Mathlib.Omega.{arith}
 use lib.ListN.{length}
 use Rattle.basics.proofs.BoolLaws.{by-test}
-use Rattle.tlv.specs.Tlv.{Tlv, tlvs, of_type, lone_fault, FoundAt, is_found}
+use Rattle.tlv.specs.Tlv.{Tlv, tlvs, of_type, first_at, lone_fault, FoundAt, is_found}
 use Rattle.tlv.proofs.TlvLaws.{found-list, Within, nowhere, place, Standing, no_more, stands, standing, lone-within}
 use Rattle.neighbours.proofs.ListsLaws.{fault-within}
 use Rattle.restart_tlv.specs.Restart.{restart_bad}
@@ -25,6 +25,11 @@ use Rattle.std.specs.Prelude.{Option, Some, None, Result, Err}
 use Rattle.hello.specs.declared.read.Hello.{Hello}
 
 -- ---- what is found
+
+-- of a reverse metric that came twice no rule is broken
+reverse-two : (t : Tlv) (ts : List Tlv) (q : ℕ) → first_at ts ≡ Some q → reverse_fault (t ∷ ts) ≡ None
+reverse-two t [] q e = absurd (let z : ◌≡◌ {A = ℕ} 0 1 = cc in omega arith)
+reverse-two t (u ∷ ts) q e = refl
 
 -- where one came, it goes by the rule of a TLV that may come at most once
 pub three-way-some : (end : ℕ) (s : List ℕ) (from p : ℕ) → FoundAt s from 240 p

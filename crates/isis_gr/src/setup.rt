@@ -17,11 +17,17 @@ use settings::circuit::{is_between, is_circuit_ok};
 use settings::setup::are_lengths_ok;
 use timers::hellos::HelloOrders;
 
+// By a `for`: with `all` a set-up that is refused for what comes later takes a quarter more.
 fn are_circuits_ok(s: &[u8], count: usize) -> bool
     requires { (length s.now ≡ settings_octets) × (count ≤ circuits) }
     ensures { result ≡ every circuit_ok (take count (settings_from s.now).circuits) }
 {
-    (0..count).all(|i| is_circuit_ok(circuit_at(s, FIRST_CIRCUIT + CIRCUIT_OCTETS * i)))
+    for i in 0..count {
+        if !is_circuit_ok(circuit_at(s, FIRST_CIRCUIT + CIRCUIT_OCTETS * i)) {
+            return false;
+        }
+    }
+    true
 }
 
 fn are_settings_ok(s: &[u8]) -> bool

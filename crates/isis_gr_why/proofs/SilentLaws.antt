@@ -2,7 +2,11 @@
 use Prim.Native.Nat.{ℕ, ◌+◌, ◌-◌, ◌<◌, ◌≤◌}
 use mathlib.Core.Path.{◌≡◌, refl, sym, ap, ◌∙◌}
 use mathlib.Core.Bool.{Bool, true, false, not, true≢false}
-use mathlib.Core.List.{List}
+use mathlib.Core.List.{List, [], ◌∷◌}
+use mathlib.Core.Logic.{⊎_elim}
+use types.Run.{OneOf}
+use denote.Enum.Declared.{tag_of}
+use Rattle.adjacency.specs.contracts.marks.Line.{the_type}
 use native.Mathlib.Omega.{arith}
 use Rattle.basics.proofs.BoolLaws.{neither}
 use Rattle.basics.specs.Lists.{part}
@@ -21,6 +25,7 @@ use Rattle.adjacency.specs.Keys.{key_on, level_in, key_in}
 use Rattle.adjacency.specs.React.{line_in, react_of}
 use Rattle.adjacency.specs.Step.{wrong_source, level_off}
 use Rattle.adjacency.specs.declared.marks.Line.{Line}
+use Rattle.adjacency.specs.declared.marks.Line.TheVariants.{One, Two, Three, Four, Five}
 use Rattle.adjacency.specs.declared.record.Key.{Key}
 use Rattle.adjacency.specs.declared.step.Here.{Here}
 use Rattle.slots.specs.Slots.{table_of, room_words}
@@ -37,7 +42,7 @@ use Rattle.own_words.specs.Words.{gateway_of, room_place}
 use Rattle.reasons.proofs.FrameLaws.{Took, took}
 use Rattle.reasons.proofs.LineLaws.{line-restart, line-planned, line-silent}
 use Rattle.reasons.specs.Duty.{duty_in}
-use Rattle.reasons.specs.Why.{Why, NotSo, by_duty, by_line, stands_on, standing, fits_read, fits_on, unordered, no_csnps}
+use Rattle.reasons.specs.Why.{Why, NotSo, Fits, line_no, by_duty, by_line, stands_on, standing, fits_read, fits_on, unordered, no_csnps}
 use Rattle.reasons.specs.declared.why.Router.{Router}
 use Rattle.isis_gr_why.proofs.StandingLaws.{standing_by}
 use Rattle.isis_gr_why.specs.Told.{line_told}
@@ -61,6 +66,14 @@ module _ (ws ws' : List ℕ) (n : ℕ) (s : Circuit) (known : circuit_of (gatewa
 
 pub not-unknown : (g : Gateway) (n : ℕ) (s : Circuit) → circuit_of g.common n ≡ None → circuit_of g.common n ≡ Some s → ⊥
 not-unknown g n s e k = let z : ◌≡◌ {A = ℕ} 0 1 = cc in omega arith
+
+-- every line but line 1 is named
+pub by-line-fits : (line : Line) → OneOf (1 ∷ 2 ∷ 3 ∷ 4 ∷ []) (tag_of the_type line) → (d : Option Router) → Fits (line_no line) ≡ by_line line d
+by-line-fits One h d = absurd (⊎_elim (λ e. omega arith) (⊎_elim (λ e. omega arith) (⊎_elim (λ e. omega arith) (λ e. omega arith))) h)
+by-line-fits Two h d = refl
+by-line-fits Three h d = refl
+by-line-fits Four h d = refl
+by-line-fits Five h d = refl
 
 -- ---- what the answer tells of the frame
 

@@ -1,1 +1,2 @@
+pub mod MetricLaws
 pub mod SampleRuns

@@ -6,7 +6,8 @@ use native.Mathlib.Omega.{arith}
 use mathlib.Core.Path.{◌≡◌, refl, ap, sym, ◌∙◌}
 use mathlib.Core.Bool.{Bool, true, false}
 use mathlib.Core.List.{List, [], ◌∷◌}
-use lib.ListN.{length, get_or}
+use lib.ListN.{length, get_or, drop, drop_of_length-le}
+use lib.Seq.{drop-cons}
 use Rattle.std.specs.Bool.{MatchBool}
 use Rattle.std.specs.List.{range_with_len, HoldsAt, AllWithin}
 use Rattle.std.proofs.Common.{subst, zero-add}
@@ -23,6 +24,16 @@ use Rattle.room.specs.Table.{find, first_state}
 use Rattle.basics.specs.Lists.{some}
 use Rattle.room.specs.Place.{first_of, state_in}
 use Rattle.std.specs.Prelude.{None}
+
+-- a test of some place, as a loop goes through them: it is met at place i, and past the end by none
+module _ (p : Slot → Bool) (t : List Slot) (i : ℕ) where
+  pub any_here : i < length t → p (get_or t i Free) ≡ true → some p (drop i t) ≡ true
+  unfolding some
+  any_here lt e = rw (drop-cons t i Free lt) (rw e refl)
+
+  pub any_none : length t ≤ i → some p (drop i t) ≡ false
+  unfolding some
+  any_none le = rw (drop_of_length-le t le) refl
 
 pub first-true : (p : Slot → Bool) (t : List Slot) → first_of p t < length t → p (get_or t (first_of p t) Free) ≡ true
 first-true p [] l = absurd (omega arith)

@@ -36,6 +36,14 @@ pub record Swept (p : State → Bool) (t : List Slot) (i : ℕ) (gone : Bool) (t
   pub any : gone || some (meets p) (drop i t') ≡ some (meets p) t
   pub left : take i t' ++ sweep p (drop i t') ≡ sweep p t
 
+-- whether a record went before place i, or at it, or goes after it
+pub any_step : (p : State → Bool) (t : List Slot) (i : ℕ) → i < length t → (a : Bool)
+    → (a || meets p (get_or t i Free)) || some (meets p) (drop (i + 1) (set t i (swept_place p (get_or t i Free)))) ≡ a || some (meets p) (drop i t)
+unfolding some
+any_step p t i lt true = refl
+any_step p t i lt false =
+    rw (add-one i, drop-set-lt (suc i) t i (swept_place p (get_or t i Free)) (omega arith), drop-cons t i Free lt) refl
+
 module _ (p : State → Bool) (t u : List Slot) (i : ℕ) (gone : Bool) (h : Swept p t i gone u) where
   pub swept-gone : i < length u → meets p (get_or u i Free) ≡ true → Swept p t (i + 1) true (set u i Free)
   unfolding sweep some
